@@ -22,91 +22,95 @@ enum Step {
     Ask(u32, &'static str),
 }
 
-/// How a call ended.
-fn ended(alloc: Global, end: Result<(), ChannelFault>) -> Result<String, AllocError> {
+/// Adds how a call ended.
+fn add_end(told: &mut String, end: Result<(), ChannelFault>) -> Result<(), AllocError> {
     match end {
-        Ok(()) => String::from_str(alloc, "ok"),
-        Err(fault) => format!(in alloc; "{fault:?}"),
+        Ok(()) => told.push_str("ok"),
+        Err(fault) => told.write_fmt(format_args!("{fault:?}")),
     }
 }
 
-fn listed(alloc: Global, messages: &[Message]) -> Result<String, AllocError> {
-    let mut all = String::new(alloc);
+fn add_messages(told: &mut String, messages: &[Message]) -> Result<(), AllocError> {
     for message in messages {
-        add_message(alloc, &mut all, message)?;
+        let (channel, text) = (message.channel.as_str(), message.text.as_str());
+        told.write_fmt(format_args!("{channel}={text} "))?;
     }
-    Ok(all)
+    Ok(())
 }
 
-fn add_message(alloc: Global, all: &mut String, message: &Message) -> Result<(), AllocError> {
-    let one = format!(in alloc; "{}={} ", message.channel.as_str(), message.text.as_str())?;
-    all.push_str(one.as_str())
+fn add_read(told: &mut String, channels: &mut Channels, client: u32) -> Result<(), AllocError> {
+    add_messages(told, &channels.read(client))
 }
 
-fn names(alloc: Global, channels: &Channels) -> Result<String, AllocError> {
-    let mut all = String::new(alloc);
-    for name in channels.channels(alloc)? {
-        all.push_str(name)?;
-        all.push(' ')?;
+fn add_texts(told: &mut String, texts: &[&str]) -> Result<(), AllocError> {
+    for text in texts {
+        told.write_fmt(format_args!("{text} "))?;
     }
-    Ok(all)
+    Ok(())
 }
 
-fn asked(
-    alloc: Global,
+fn add_names(told: &mut String, alloc: Global, channels: &Channels) -> Result<(), AllocError> {
+    add_texts(told, channels.channels(alloc)?.as_slice())
+}
+
+fn add_asked(
+    told: &mut String,
     channels: &Channels,
     client: u32,
     name: &str,
-) -> Result<String, AllocError> {
+) -> Result<(), AllocError> {
     let listens = channels.listens(client, name);
     let count = channels.count_of(client);
     let waits = channels.has_messages(client);
     let hears = channels.hears(name);
     let room = channels.has_room(name);
-    format!(in alloc; "listens {listens}, names {count}, waits {waits}, heard {hears}, room {room}")
+    told.write_fmt(format_args!(
+        "listens {listens}, names {count}, waits {waits}, heard {hears}, room {room}"
+    ))
 }
 
-fn left(alloc: Global, channels: &mut Channels, client: u32) -> Result<String, AllocError> {
+fn add_left(told: &mut String, channels: &mut Channels, client: u32) -> Result<(), AllocError> {
     channels.leave(client);
-    String::from_str(alloc, "gone")
+    told.push_str("gone")
 }
 
-fn read(alloc: Global, channels: &mut Channels, client: u32) -> Result<String, AllocError> {
-    let messages = channels.read(client);
-    listed(alloc, &messages)
-}
-
-/// What a call answers.
-fn answer(alloc: Global, channels: &mut Channels, step: &Step) -> Result<String, AllocError> {
-    match step {
-        Step::Subscribe(client, name) => ended(alloc, channels.subscribe(*client, name)),
-        Step::Unsubscribe(client, name) => ended(alloc, channels.unsubscribe(*client, name)),
-        Step::Send(name, text) => ended(alloc, channels.send(name, text)),
-        Step::Messages(client) => listed(alloc, channels.messages(*client)),
-        Step::Read(client) => read(alloc, channels, *client),
-        Step::Leave(client) => left(alloc, channels, *client),
-        Step::Channels => names(alloc, channels),
-        Step::Ask(client, name) => asked(alloc, channels, *client, name),
-    }
-}
-
+/// Adds what a call answers.
 fn add_answer(
+    told: &mut String,
     alloc: Global,
     channels: &mut Channels,
-    all: &mut String,
     step: &Step,
 ) -> Result<(), AllocError> {
-    all.push_str(answer(alloc, channels, step)?.as_str())?;
-    all.push('\n')
+    match step {
+        Step::Subscribe(client, name) => add_end(told, channels.subscribe(*client, name)),
+        Step::Unsubscribe(client, name) => add_end(told, channels.unsubscribe(*client, name)),
+        Step::Send(name, text) => add_end(told, channels.send(name, text)),
+        Step::Messages(client) => add_messages(told, channels.messages(*client)),
+        Step::Read(client) => add_read(told, channels, *client),
+        Step::Leave(client) => add_left(told, channels, *client),
+        Step::Channels => add_names(told, alloc, channels),
+        Step::Ask(client, name) => add_asked(told, channels, *client, name),
+    }
 }
 
-/// What these calls answer, a line for each.
-fn answers(alloc: Global, channels: &mut Channels, steps: &[Step]) -> Result<String, AllocError> {
-    let mut all = String::new(alloc);
+/// Adds what these calls answer, a line for each.
+fn add_answers(
+    told: &mut String,
+    alloc: Global,
+    channels: &mut Channels,
+    steps: &[Step],
+) -> Result<(), AllocError> {
     for step in steps {
-        add_answer(alloc, channels, &mut all, step)?;
+        add_answer(told, alloc, channels, step)?;
+        told.push_str("\n")?;
     }
-    Ok(all)
+    Ok(())
+}
+
+fn answers(alloc: Global, channels: &mut Channels, steps: &[Step]) -> Result<String, AllocError> {
+    let mut told = String::new(alloc);
+    add_answers(&mut told, alloc, channels, steps)?;
+    Ok(told)
 }
 
 fn answers_from_new(alloc: Global, steps: &[Step]) -> Result<String, AllocError> {
@@ -219,21 +223,15 @@ const SIXTEEN: [&str; 16] = [
     "a", "b", "c", "d", "e", "f", "g", "h", "i", "j", "k", "l", "m", "n", "o", "p",
 ];
 
-/// Whether a client listens to sixteen channels now.
-fn is_subscribed_to_all(channels: &mut Channels, client: u32) -> bool {
-    for name in SIXTEEN {
-        if channels.subscribe(client, name).is_err() {
-            return false;
-        }
+fn subscribe_to_all(channels: &mut Channels, client: u32) {
+    for name in SIXTEEN.iter() {
+        let _ = channels.subscribe(client, name);
     }
-    true
 }
 
 fn seventeen(alloc: Global) -> Result<String, AllocError> {
     let mut channels = Channels::new(alloc);
-    if !is_subscribed_to_all(&mut channels, 1) {
-        return String::from_str(alloc, "refused");
-    }
+    subscribe_to_all(&mut channels, 1);
     answers(
         alloc,
         &mut channels,
@@ -266,41 +264,41 @@ b c d e f g h i j k l m n o p q
     )
 }
 
-/// Whether so many messages to a channel are sent.
-fn are_sent(channels: &mut Channels, name: &str, count: u32) -> bool {
+/// Sends so many messages to a channel.
+fn send_often(channels: &mut Channels, name: &str, count: u32) {
     for _ in 0..count {
-        if channels.send(name, "again").is_err() {
-            return false;
-        }
+        let _ = channels.send(name, "again");
     }
-    true
 }
 
-/// How many messages wait for a client, and the last of them.
-fn last_message(alloc: Global, channels: &Channels, client: u32) -> Result<String, AllocError> {
+/// Adds how many messages wait for a client, and the last of them.
+fn add_last(told: &mut String, channels: &Channels, client: u32) -> Result<(), AllocError> {
     let messages = channels.messages(client);
+    let count = messages.len();
     match messages.last() {
-        Some(message) => format!(in alloc; "{}: {}", messages.len(), message.text.as_str()),
-        None => String::from_str(alloc, "none"),
+        Some(message) => {
+            let text = message.text.as_str();
+            told.write_fmt(format_args!("{count}: {text}\n"))
+        }
+        None => told.push_str("none\n"),
     }
-}
-
-/// What is answered where a client has 63 messages, and then more.
-fn after_sixty_three(alloc: Global, steps: &[Step]) -> Result<String, AllocError> {
-    let mut channels = Channels::new(alloc);
-    let _ = channels.subscribe(1, "news");
-    if !are_sent(&mut channels, "news", 63) {
-        return String::from_str(alloc, "refused");
-    }
-    then_last(alloc, &mut channels, steps)
 }
 
 /// What is answered to the steps, and then the last message of each of two clients.
 fn then_last(alloc: Global, channels: &mut Channels, steps: &[Step]) -> Result<String, AllocError> {
-    let answers = answers(alloc, channels, steps)?;
-    let first = last_message(alloc, channels, 1)?;
-    let second = last_message(alloc, channels, 2)?;
-    format!(in alloc; "{answers}{first}\n{second}\n")
+    let mut told = String::new(alloc);
+    add_answers(&mut told, alloc, channels, steps)?;
+    add_last(&mut told, channels, 1)?;
+    add_last(&mut told, channels, 2)?;
+    Ok(told)
+}
+
+/// The same where a client has 63 messages before.
+fn after_sixty_three(alloc: Global, steps: &[Step]) -> Result<String, AllocError> {
+    let mut channels = Channels::new(alloc);
+    let _ = channels.subscribe(1, "news");
+    send_often(&mut channels, "news", 63);
+    then_last(alloc, &mut channels, steps)
 }
 
 #[test]
@@ -349,8 +347,8 @@ news=for two
     )
 }
 
-/// What an image of channels answers to the last steps, where the first were done before it was taken, and
-/// the second to its source.
+/// What channels answer to the first steps; to the second when an image of them was taken; and the image to the
+/// last.
 fn answers_of_image(
     alloc: Global,
     before: &[Step],
@@ -358,10 +356,11 @@ fn answers_of_image(
     asked: &[Step],
 ) -> Result<String, AllocError> {
     let mut channels = Channels::new(alloc);
-    let _ = answers(alloc, &mut channels, before)?;
+    let mut told = answers(alloc, &mut channels, before)?;
     let mut image = channels.image()?;
-    let _ = answers(alloc, &mut channels, after)?;
-    answers(alloc, &mut image, asked)
+    add_answers(&mut told, alloc, &mut channels, after)?;
+    add_answers(&mut told, alloc, &mut image, asked)?;
+    Ok(told)
 }
 
 #[test]
@@ -392,7 +391,16 @@ fn an_image_of_channels_stays(rt: HostRuntime) -> Result<(), Fail> {
     );
     wants(
         told,
-        "Zebra news 
+        "ok
+ok
+ok
+ok
+ok
+ok
+ok
+news=one news=two 
+gone
+Zebra news 
 listens true, names 2, waits true, heard true, room true
 news=one 
 listens false, names 0, waits false, heard false, room false
@@ -402,51 +410,51 @@ news=one news=three
     )
 }
 
-/// What waits in an image for a client with as many channels and messages as it may have, when its source was
-/// left.
+/// What an image answers of a client with as many channels and messages as it may have, when its source was left.
 fn full_image(alloc: Global) -> Result<String, AllocError> {
     let mut channels = Channels::new(alloc);
-    if !is_subscribed_to_all(&mut channels, 1) || !are_sent(&mut channels, "p", 64) {
-        return String::from_str(alloc, "refused");
-    }
+    subscribe_to_all(&mut channels, 1);
+    send_often(&mut channels, "p", 64);
     let mut image = channels.image()?;
     channels.leave(1);
-    asked_of_image(alloc, &mut image)
-}
-
-fn asked_of_image(alloc: Global, image: &mut Channels) -> Result<String, AllocError> {
-    let last = last_message(alloc, image, 1)?;
-    let asked = [
-        Step::Subscribe(1, "q"),
-        Step::Send("a", "lost"),
-        Step::Channels,
-    ];
-    let answers = answers(alloc, image, &asked)?;
-    format!(in alloc; "{last}\n{answers}")
+    then_last(
+        alloc,
+        &mut image,
+        &[
+            Step::Subscribe(1, "q"),
+            Step::Send("a", "lost"),
+            Step::Channels,
+        ],
+    )
 }
 
 #[test]
 fn an_image_of_sixty_four_messages(rt: HostRuntime) -> Result<(), Fail> {
     wants(
         full_image(rt.alloc()),
-        "64: again
-TooMany
+        "TooMany
 NoRoom
 a b c d e f g h i j k l m n o p 
+64: again
+none
 ",
     )
 }
 
-/// Those of these texts that are names of channels.
-fn proper(alloc: Global, texts: &[&str]) -> Result<String, AllocError> {
-    let mut all = String::new(alloc);
-    for text in texts {
-        if is_channel_name(text) {
-            all.push_str(text)?;
-            all.push(' ')?;
-        }
+fn add_if_proper(told: &mut String, text: &str) -> Result<(), AllocError> {
+    if is_channel_name(text) {
+        told.push_str(text)?;
     }
-    Ok(all)
+    told.push_str("|")
+}
+
+/// Those of these texts that are names of channels, with a bar after each text.
+fn proper(alloc: Global, texts: &[&str]) -> Result<String, AllocError> {
+    let mut told = String::new(alloc);
+    for text in texts {
+        add_if_proper(&mut told, text)?;
+    }
+    Ok(told)
 }
 
 #[test]
@@ -481,7 +489,7 @@ fn names_of_channels(rt: HostRuntime) -> Result<(), Fail> {
             "^",
         ],
     );
-    wants(told, "a z A Z 0 9 _ - . : a.b-c_d:9 ")
+    wants(told, "a||z|A|Z|0|9|_|-|.|:|a.b-c_d:9||||||||||||||")
 }
 
 #[test]

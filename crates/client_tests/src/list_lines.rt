@@ -7,13 +7,6 @@ use std::alloc::{AllocError, Global};
 use std::test::Fail;
 use wanted::wants;
 
-fn form_text(form: ListForm) -> &'static str {
-    match form {
-        ListForm::Plain => "plain",
-        ListForm::ListOk => "ok",
-    }
-}
-
 fn line_text(line: &ListLine) -> &str {
     match line {
         ListLine::Text(text) => text.as_str(),
@@ -21,28 +14,31 @@ fn line_text(line: &ListLine) -> &str {
     }
 }
 
-/// The form of a list, and each line after a bar.
-fn list_text(alloc: Global, list: &CommandList) -> Result<String, AllocError> {
-    let mut all = String::from_str(alloc, form_text(list.form))?;
+/// Adds the form of a list, and each line after a bar.
+fn add_list(told: &mut String, list: &CommandList) -> Result<(), AllocError> {
+    told.push_str(match list.form {
+        ListForm::Plain => "plain",
+        ListForm::ListOk => "ok",
+    })?;
     for line in list.lines.items() {
-        all.push('|')?;
-        all.push_str(line_text(line))?;
+        told.write_fmt(format_args!("|{}", line_text(line)))?;
     }
-    Ok(all)
+    Ok(())
 }
 
-/// What a line is taken as.
-fn taken(
+/// Adds what a line is taken as.
+fn add_taken(
+    told: &mut String,
     alloc: Global,
     collector: &mut ListCollector,
     line: Option<&str>,
-) -> Result<String, AllocError> {
+) -> Result<(), AllocError> {
     match collector.take(alloc, line)? {
-        Taken::Alone => String::from_str(alloc, "alone"),
-        Taken::Begun => String::from_str(alloc, "begun"),
-        Taken::Collected => String::from_str(alloc, "collected"),
-        Taken::Ended(list) => list_text(alloc, &list),
-        Taken::TooLarge => String::from_str(alloc, "too large"),
+        Taken::Alone => told.push_str("alone"),
+        Taken::Begun => told.push_str("begun"),
+        Taken::Collected => told.push_str("collected"),
+        Taken::Ended(list) => add_list(told, &list),
+        Taken::TooLarge => told.push_str("too large"),
     }
 }
 
@@ -50,21 +46,29 @@ fn is_open(collector: &ListCollector) -> &'static str {
     if collector.is_open() { " open\n" } else { "\n" }
 }
 
-/// What lines are taken as, and whether a list is open after each. `?` stands for a line that is no text, and
+/// Adds what a line is taken as, and whether a list is open after it. `?` stands for a line that is no text, and
 /// at `!` the open list is dropped.
+fn add_line(
+    told: &mut String,
+    alloc: Global,
+    collector: &mut ListCollector,
+    line: &str,
+) -> Result<(), AllocError> {
+    if line == "!" {
+        collector.drop_list();
+    }
+    let line = if line == "?" { None } else { Some(line) };
+    add_taken(told, alloc, collector, line)?;
+    told.push_str(is_open(collector))
+}
+
 fn session(alloc: Global, lines: &str) -> Result<String, AllocError> {
     let mut collector = ListCollector::new();
-    let mut all = String::new(alloc);
+    let mut told = String::new(alloc);
     for line in lines.lines() {
-        if line == "!" {
-            collector.drop_list();
-        }
-        let line = if line == "?" { None } else { Some(line) };
-        let taken = taken(alloc, &mut collector, line)?;
-        all.push_str(taken.as_str())?;
-        all.push_str(is_open(&collector))?;
+        add_line(&mut told, alloc, &mut collector, line)?;
     }
-    Ok(all)
+    Ok(told)
 }
 
 #[test]
@@ -89,80 +93,59 @@ fn other_lines_begin_and_end_no_list(rt: HostRuntime) -> Result<(), Fail> {
     )
 }
 
-/// Begins a list and gives it so many lines of a length. What is said of the last of these.
 fn fill(
     alloc: Global,
     collector: &mut ListCollector,
     count: u32,
-    length: usize,
-) -> Result<String, AllocError> {
-    let mut all = taken(alloc, collector, Some("command_list_begin"))?;
-    let line = "x".repeat(alloc, length)?;
+    line: &str,
+) -> Result<(), AllocError> {
     for _ in 0..count {
-        all = taken(alloc, collector, Some(line.as_str()))?;
+        let _taken = collector.take(alloc, Some(line))?;
     }
-    Ok(all)
+    Ok(())
 }
 
-/// What the collector says of one more line of a length: before it, of it, and whether a list is open.
-fn more_told(
-    alloc: Global,
-    collector: &mut ListCollector,
-    length: usize,
-) -> Result<String, AllocError> {
-    let last = "x".repeat(alloc, length)?;
-    let before = collector.is_too_large_with(Some(last.as_str()));
-    let end = collector.is_too_large_with(Some("command_list_end"));
-    let taken = taken(alloc, collector, Some(last.as_str()))?;
-    format!(in alloc; "{before} {end} {taken}{}", is_open(collector))
-}
-
-/// Both, with a space between them.
-fn fill_and_more(
-    alloc: Global,
-    collector: &mut ListCollector,
-    count: u32,
-    length: usize,
-    more: usize,
-) -> Result<String, AllocError> {
-    let filled = fill(alloc, collector, count, length)?;
-    let told = more_told(alloc, collector, more)?;
-    format!(in alloc; "{filled} {told}")
-}
-
-/// A list of lines of a length, and what the collector says of one more line.
-fn after_lines(
+/// Adds whether a list with so many lines is too large with one more, and with its end; and then what the one
+/// more is taken as.
+fn add_full(
+    told: &mut String,
     alloc: Global,
     count: u32,
-    length: usize,
-    more: usize,
-) -> Result<String, AllocError> {
+    line: &str,
+    more: &str,
+) -> Result<(), AllocError> {
     let mut collector = ListCollector::new();
-    fill_and_more(alloc, &mut collector, count, length, more)
+    add_line(told, alloc, &mut collector, "command_list_begin")?;
+    fill(alloc, &mut collector, count, line)?;
+    let before = collector.is_too_large_with(Some(more));
+    let end = collector.is_too_large_with(Some("command_list_end"));
+    told.write_fmt(format_args!("{before} {end} "))?;
+    add_line(told, alloc, &mut collector, more)
+}
+
+/// What is told of lists of 127 lines and one more, of a byte more, and of 128 and an empty line more.
+fn full_lists(alloc: Global) -> Result<String, AllocError> {
+    let mut told = String::new(alloc);
+    let longer = "x".repeat(alloc, 16_384)?;
+    let line = longer.as_str().get(..16_383).unwrap_or("");
+    add_full(&mut told, alloc, 127, line, line)?;
+    add_full(&mut told, alloc, 127, line, longer.as_str())?;
+    add_full(&mut told, alloc, 128, line, "")?;
+    Ok(told)
 }
 
 // 128 lines of 16,383 bytes have 2,097,152 bytes with their newlines.
 #[test]
 fn the_largest_list(rt: HostRuntime) -> Result<(), Fail> {
     wants(
-        after_lines(rt.alloc(), 127, 16_383, 16_383),
-        "collected false false collected open\n",
-    )
-}
-
-#[test]
-fn a_list_one_byte_too_large(rt: HostRuntime) -> Result<(), Fail> {
-    wants(
-        after_lines(rt.alloc(), 127, 16_383, 16_384),
-        "collected true false too large\n",
-    )
-}
-
-#[test]
-fn a_full_list_takes_no_empty_line(rt: HostRuntime) -> Result<(), Fail> {
-    wants(
-        after_lines(rt.alloc(), 128, 16_383, 0),
-        "collected true false too large\n",
+        full_lists(rt.alloc()),
+        "begun open
+false false collected open
+begun open
+true false too large
+begun open
+true false too large
+",
     )
 }
 

@@ -106,8 +106,8 @@ fn has_name(word: &str) -> bool {
 
 #[test]
 fn each_name_is_read_back(rt: HostRuntime) {
-    for subsystem in SUBSYSTEMS {
-        assert!(rt; is_read_back(subsystem), "{subsystem:?}");
+    for subsystem in SUBSYSTEMS.iter() {
+        assert!(rt; is_read_back(*subsystem), "{subsystem:?}");
     }
     assert!(rt; !has_name("PLAYER"));
 }

@@ -42,12 +42,8 @@ ping
     told_with_lines(alloc, &day, &mut rooms.wires, Tone::Saw)
 }
 
-// The song has fewer frames than a ring, so that the attic gets all of them though the hall takes none.
-#[test]
-fn a_write_without_the_lock(rt: HostRuntime) -> Result<(), Fail> {
-    wants(
-        write_told(rt, rt.alloc()),
-        "OK
+/// The song has fewer frames than a ring, so that the attic gets all of them though the hall takes none.
+const A_WRITE_WITHOUT_THE_LOCK: &str = "OK
 OK
 an output stands in its write: true
 OK
@@ -60,9 +56,7 @@ files opened: 1
 decoded 8000, written 8000, discarded 0, left 0, torn 0
 decoded 8000, written 8000, discarded 0, left 0, torn 0
 right frames in the hall 8000, in the attic 8000
-",
-    )
-}
+";
 
 fn pause_told<R: Threads + Wait + Clock + Copy + Drop + Send + Sync + 'static>(
     rt: R,
@@ -79,13 +73,9 @@ pause 1
     day.told(alloc)
 }
 
-// The hall has 1,024 frames in its hand and 8,192 in its ring, and 1,024 are owed to it, so nothing more is
-// decoded. It writes its hand, and at the pause it keeps the rest.
-#[test]
-fn frames_are_left_at_the_end(rt: HostRuntime) -> Result<(), Fail> {
-    wants(
-        pause_told(rt, rt.alloc()),
-        "OK
+/// The hall has 1,024 frames in its hand and 8,192 in its ring, and 1,024 are owed to it, so nothing more is
+/// decoded. It writes its hand, and at the pause it keeps the rest.
+const FRAMES_ARE_LEFT_AT_THE_END: &str = "OK
 OK
 an output stands in its write: true
 attic 10240: true
@@ -95,9 +85,7 @@ the door opens: true
 files opened: 1
 decoded 10240, written 1024, discarded 0, left 9216, torn 0
 decoded 10240, written 10240, discarded 0, left 0, torn 0
-",
-    )
-}
+";
 
 /// What came of a day, with what its first output wrote and whether frames of its second are left.
 fn late_of(alloc: Global, day: &Day) -> Result<String, PartitionFault> {
@@ -118,20 +106,14 @@ play
     late_of(alloc, &day)
 }
 
-// The attic has its last turn long after the hall has ended.
-#[test]
-fn a_late_output_is_settled(rt: HostRuntime) -> Result<(), Fail> {
-    wants(
-        late_told(rt, rt.alloc()),
-        "OK
+/// The attic has its last turn long after the hall has ended.
+const A_LATE_OUTPUT_IS_SETTLED: &str = "OK
 OK
 hall 3000: true
 an output stands in its write: true
 written 3000 torn 0 balanced true
 left true balanced true
-",
-    )
-}
+";
 
 /// What came of a day, with what its first output wrote.
 fn stop_of(alloc: Global, day: &Day, rooms: &mut Rooms) -> Result<String, PartitionFault> {
@@ -160,13 +142,9 @@ play 1
     stop_of(alloc, &day, &mut rooms)
 }
 
-// The hall was in the write of its first hand of 1,024 frames. All else of the first song is of an old cut,
-// and is discarded.
-#[test]
-fn frames_of_an_old_cut(rt: HostRuntime) -> Result<(), Fail> {
-    wants(
-        stop_told(rt, rt.alloc()),
-        "OK
+/// The hall was in the write of its first hand of 1,024 frames. All else of the first song is of an old cut,
+/// and is discarded.
+const FRAMES_OF_AN_OLD_CUT: &str = "OK
 OK
 OK
 an output stands in its write: true
@@ -177,6 +155,12 @@ the door opens: true
 hall 4024: true
 written 4024 torn 0 balanced true
 right frames in the hall 4024
-",
-    )
+";
+
+#[test]
+fn outputs_that_stand_in_a_write(rt: HostRuntime) -> Result<(), Fail> {
+    wants(write_told(rt, rt.alloc()), A_WRITE_WITHOUT_THE_LOCK)?;
+    wants(pause_told(rt, rt.alloc()), FRAMES_ARE_LEFT_AT_THE_END)?;
+    wants(late_told(rt, rt.alloc()), A_LATE_OUTPUT_IS_SETTLED)?;
+    wants(stop_told(rt, rt.alloc()), FRAMES_OF_AN_OLD_CUT)
 }

@@ -38,11 +38,7 @@ play 1
     told(rt, alloc, lost, next, script, Tone::Steps)
 }
 
-#[test]
-fn a_missing_file(rt: HostRuntime) -> Result<(), Fail> {
-    wants(
-        after_a_lost_song(rt, rt.alloc()),
-        "OK
+const A_MISSING_FILE: &str = "OK
 OK
 OK
 error: Failed to decode a.wav: true
@@ -53,9 +49,7 @@ files opened: 1
 decoded 3000, written 3000, discarded 0, left 0, torn 0
 decoded 3000, written 3000, discarded 0, left 0, torn 0
 right frames in the hall 3000, in the attic 3000
-",
-    )
-}
+";
 
 fn into_a_short_partner<R: Threads + Wait + Clock + Copy + Send + Sync + 'static>(
     rt: R,
@@ -72,13 +66,9 @@ play
     told(rt, alloc, first, short, script, Tone::SawThenSteps)
 }
 
-// The partner has 100 frames of the 8,000 of its fade, so the first song is played to its end alone, and then
-// what there is of the second, whose file is opened once more.
-#[test]
-fn a_partner_that_fails(rt: HostRuntime) -> Result<(), Fail> {
-    wants(
-        into_a_short_partner(rt, rt.alloc()),
-        "OK
+/// The partner has 100 frames of the 8,000 of its fade, so the first song is played to its end alone, and then
+/// what there is of the second, whose file is opened once more.
+const A_PARTNER_THAT_FAILS: &str = "OK
 OK
 OK
 OK
@@ -88,6 +78,10 @@ files opened: 3
 decoded 12100, written 12100, discarded 0, left 0, torn 0
 decoded 12100, written 12100, discarded 0, left 0, torn 0
 right frames in the hall 12100, in the attic 12100
-",
-    )
+";
+
+#[test]
+fn songs_that_cannot_be_read(rt: HostRuntime) -> Result<(), Fail> {
+    wants(after_a_lost_song(rt, rt.alloc()), A_MISSING_FILE)?;
+    wants(into_a_short_partner(rt, rt.alloc()), A_PARTNER_THAT_FAILS)
 }

@@ -46,13 +46,9 @@ play
     told_apart(alloc, &day, &mut rooms.wires, Tone::Saw, Tone::Steps)
 }
 
-// Both entries have the id 1 in their own queues. Each file is opened once, though jobs of the partitions take
-// turns.
-#[test]
-fn partitions_play_apart(rt: HostRuntime) -> Result<(), Fail> {
-    wants(
-        apart(rt, rt.alloc()),
-        "OK
+/// Both entries have the id 1 in their own queues. Each file is opened once, though jobs of the partitions take
+/// turns.
+const PARTITIONS_PLAY_APART: &str = "OK
 OK
 OK
 OK
@@ -67,9 +63,7 @@ files opened: 2
 decoded 6000, written 6000, discarded 0, left 0, torn 0
 decoded 5000, written 5000, discarded 0, left 0, torn 0
 right frames in the hall 6000, in the attic 5000
-",
-    )
-}
+";
 
 fn moved<R: Threads + Wait + Clock + Copy + Drop + Send + Sync + 'static>(
     rt: R,
@@ -104,14 +98,10 @@ play
     )
 }
 
-// The attic has 1,024 frames in its hand, which it writes, and 8,192 in its ring, and 1,024 are owed to it. It is
-// moved with them, so that the hall gets all of its song though the attic takes nothing; and it discards all but
-// its hand, since they are of the partition that it left.
-#[test]
-fn a_moved_output(rt: HostRuntime) -> Result<(), Fail> {
-    wants(
-        moved(rt, rt.alloc()),
-        "OK
+/// The attic has 1,024 frames in its hand, which it writes, and 8,192 in its ring, and 1,024 are owed to it. It is
+/// moved with them, so that the hall gets all of its song though the attic takes nothing; and it discards all but
+/// its hand, since they are of the partition that it left.
+const A_MOVED_OUTPUT: &str = "OK
 OK
 an output stands in its write: true
 hall 10240: true
@@ -127,6 +117,10 @@ files opened: 2
 decoded 20000, written 20000, discarded 0, left 0, torn 0
 decoded 13240, written 4024, discarded 9216, left 0, torn 0
 right frames in the hall 20000, in the attic 4024
-",
-    )
+";
+
+#[test]
+fn partitions_and_their_outputs(rt: HostRuntime) -> Result<(), Fail> {
+    wants(apart(rt, rt.alloc()), PARTITIONS_PLAY_APART)?;
+    wants(moved(rt, rt.alloc()), A_MOVED_OUTPUT)
 }

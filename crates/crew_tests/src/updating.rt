@@ -149,24 +149,14 @@ fn late_told<R: Threads + Wait + Clock + Copy + Drop + Send + Sync + 'static>(
     Ok(format!(in alloc; "{}scans that have ended: {has_ended}\n", day.heard)?)
 }
 
-// The close waits for the scanner's thread, which is still in its scan.
-#[test]
-fn a_close_while_a_scan_is_made(rt: HostRuntime) -> Result<(), Fail> {
-    wants(
-        late_told(rt, rt.alloc()),
-        "updating_db: 1
+/// The close waits for the scanner's thread, which is still in its scan.
+const A_CLOSE_WHILE_A_SCAN_IS_MADE: &str = "updating_db: 1
 OK
 the scan has begun: true
 scans that have ended: 1
-",
-    )
-}
+";
 
-#[test]
-fn an_update_while_a_song_is_played(rt: HostRuntime) -> Result<(), Fail> {
-    wants(
-        told(rt, rt.alloc()),
-        "OK
+const AN_UPDATE_WHILE_A_SONG_IS_PLAYED: &str = "OK
 updating_db: 1
 OK
 ACK [54@0] {update} already updating
@@ -190,6 +180,10 @@ files opened: 1
 decoded 12000, written 12000, discarded 0, left 0, torn 0
 decoded 12000, written 12000, discarded 0, left 0, torn 0
 right frames in the hall 12000, in the attic 12000
-",
-    )
+";
+
+#[test]
+fn updates_beside_what_is_played(rt: HostRuntime) -> Result<(), Fail> {
+    wants(late_told(rt, rt.alloc()), A_CLOSE_WHILE_A_SCAN_IS_MADE)?;
+    wants(told(rt, rt.alloc()), AN_UPDATE_WHILE_A_SONG_IS_PLAYED)
 }

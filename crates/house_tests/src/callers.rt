@@ -1,18 +1,16 @@
 //! Two threads add songs to one queue.
 ghost use Rattle.std.specs.Prelude.{◌≡◌, ◌+◌, ◌<◌, IfOk};
 
-use crate::rooms::{Day, alone, seat_of, told};
+use crate::rooms::{alone, seat_of};
 use counted_player::{Ledgers, Seat};
 use house::House;
 use house_rooms::{adds_a_song, comes};
 use partition::PartitionFault;
 use std::alloc::{AllocError, Global};
 use std::sync::Wait;
-use std::test::Fail;
 use std::thread;
 use std::thread::Threads;
 use std::time::Clock;
-use wanted::wants;
 
 /// A client comes, and adds a song a hundred times.
 fn adds<L: Ledgers>(
@@ -105,7 +103,8 @@ pub(crate) fn race<L: Ledgers + Send + Sync, R: Threads + Wait + Clock + Sync>(
     Ok(add_seats(rt, house, told)?)
 }
 
-const WANTED: &str = "events made: 101 and 101
+/// What is told of them.
+pub(crate) const TELLS: &str = "events made: 101 and 101
 OK MPD 0.23.0
 heard
 volume: 100
@@ -120,13 +119,3 @@ state: stop
 OK
 a fourth seat: true, a fifth: false
 ";
-
-#[test]
-fn two_threads_add_songs(rt: HostRuntime) -> Result<(), Fail> {
-    wants(told(&rt, rt.alloc(), 4096, Day::Callers), WANTED)
-}
-
-#[test]
-fn a_window_of_three_is_folded(rt: HostRuntime) -> Result<(), Fail> {
-    wants(told(&rt, rt.alloc(), 3, Day::Callers), WANTED)
-}

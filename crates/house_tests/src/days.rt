@@ -1,7 +1,4 @@
 //! Clients come and go, a scan is asked for, and lists are run.
-use crate::rooms::{Day, told};
-use std::test::Fail;
-use wanted::wants;
 
 /// A client waits, another makes a change in a list, and the first goes before it is told. A scan is asked
 /// for and fails. Sixty-three more clients come and wait, which is as many as may, and one too many. Two songs
@@ -37,12 +34,9 @@ asks
 wants
 made";
 
-// Events: 5 until the first client goes, 4 about the scan, of the crowd 124, 3, 1 and 1, and 6 at the end.
-#[test]
-fn clients_come_and_go(rt: HostRuntime) -> Result<(), Fail> {
-    wants(
-        told(&rt, rt.alloc(), 4096, Day::Clients),
-        "OK MPD 0.23.0
+/// What is told of them. Events: 5 until the first client goes, 4 about the scan, of the crowd 124, 3, 1 and 1, and
+/// 6 at the end.
+pub(crate) const TELLS: &str = "OK MPD 0.23.0
 heard
 OK MPD 0.23.0
 heard
@@ -73,6 +67,4 @@ ended
 the end
 the end
 events made: 144
-",
-    )
-}
+";

@@ -3,7 +3,7 @@ ghost use Rattle.frame_ledger.specs.Shares.{HasAllParts, KeepsParts};
 ghost use Rattle.std.specs.Prelude.{◌≡◌, ◌<◌, ◌≤◌, [], IfOk, vec_len, vec_capacity};
 ghost use Rattle.output_ring.specs.Rings.{SameDrainer};
 
-use crate::rooms::{Day, seat_of, told};
+use crate::rooms::seat_of;
 use crate::session::{add_report, session};
 use counted_devices::{FailAt, FailurePoint};
 use counted_player::{Decoded, Discarded, Ledgers, Seat, Written};
@@ -15,9 +15,7 @@ use partition::PartitionFault;
 use std::alloc::{AllocError, Global};
 use std::sync::Wait;
 use std::sync::ledger::Share;
-use std::test::Fail;
 use std::time::Clock;
-use wanted::wants;
 
 /// A song plays, and the decoder wants a job.
 const STEPS: &str = "comes 1
@@ -28,7 +26,6 @@ wants";
 /// The decoder has the frames of the first job.
 fn has<L: Ledgers>(
     rt: &impl Wait,
-    alloc: Global,
     house: &House<L>,
     seat: &mut Seat<L>,
     share: &mut Share<Decoded<L>>,
@@ -38,13 +35,12 @@ fn has<L: Ledgers>(
     ensures { share.new.parts ≡ share.old.parts }
 {
     let reported = house.have(rt, seat, 0, 1, 1024, share)?;
-    Ok(add_report(alloc, &reported, told)?)
+    Ok(add_report(&reported, told)?)
 }
 
 /// An output has its turn.
 fn turns<L: Ledgers>(
     rt: &impl Wait,
-    alloc: Global,
     house: &House<L>,
     seat: &mut Seat<L>,
     shares: &mut OutputShares<Written<L>, Discarded<L>>,
@@ -56,7 +52,7 @@ fn turns<L: Ledgers>(
     ensures { KeepsParts shares.old shares.new }
 {
     let reported = house.turn(rt, seat, output, fates, false, shares)?;
-    Ok(add_report(alloc, &reported, told)?)
+    Ok(add_report(&reported, told)?)
 }
 
 /// Fills the hand and writes it out at a cut.
@@ -92,7 +88,7 @@ fn writes_twice<L: Ledgers>(
 {
     let mut out = FailAt::new(Vec::new(alloc), FailurePoint::Never);
     writes_out(drainer, &mut out, 1);
-    turns(rt, alloc, house, seat, shares, 0, drainer.fates(), told)?;
+    turns(rt, house, seat, shares, 0, drainer.fates(), told)?;
     drainer.reported();
     writes_out(drainer, &mut out, 2);
     Ok(())
@@ -146,28 +142,27 @@ fn two_rings<L: Ledgers>(
     Ok((rings, room))
 }
 
-/// What an output is settled with: its frames decoded, written, discarded and left.
-fn settled_told(
-    alloc: Global,
+/// Adds what an output is settled with: its frames decoded, written, discarded and left.
+fn add_settled(
     settled: &Result<Settled, SettleFault>,
-) -> Result<String, AllocError> {
+    told: &mut String,
+) -> Result<(), AllocError> {
     match settled {
-        Ok(s) => format!(in alloc;
+        Ok(s) => told.write_fmt(format_args!(
             "decoded {}, written {}, discarded {}, left {}\n",
             s.decoded, s.written, s.discarded, s.left
-        ),
-        Err(_) => String::from_str(alloc, "not settled\n"),
+        )),
+        Err(_) => told.push_str("not settled\n"),
     }
 }
 
 /// Adds what outputs are settled with.
-fn add_settled<L: Ledgers>(
-    alloc: Global,
+fn add_all_settled<L: Ledgers>(
     settlements: &[Settlement<L>],
     told: &mut String,
 ) -> Result<(), AllocError> {
     for settlement in settlements {
-        told.push_str(settled_told(alloc, &settlement.result)?.as_str())?;
+        add_settled(&settlement.result, told)?;
     }
     Ok(())
 }
@@ -185,7 +180,7 @@ fn settles<L: Ledgers>(
 {
     let (rings, room) = two_rings::<L>(alloc, first)?;
     let settlements = house.settle_all(rt, shares, rings, room);
-    Ok(add_settled(alloc, &settlements, told)?)
+    Ok(add_all_settled(&settlements, told)?)
 }
 
 /// A song plays, and its first frames are decoded once.
@@ -201,8 +196,8 @@ fn decoded<L: Ledgers, R: Wait + Clock>(
     ensures { share.new.parts ≡ share.old.parts }
 {
     session(rt, alloc, house, seat, STEPS, told)?;
-    has(rt, alloc, house, seat, share, told)?;
-    has(rt, alloc, house, seat, share, told)
+    has(rt, house, seat, share, told)?;
+    has(rt, house, seat, share, told)
 }
 
 const NOTHING: Fates = Fates {
@@ -222,8 +217,8 @@ fn written<L: Ledgers>(
     requires { (0 < shares.old.written.parts) × (0 < shares.old.discarded.parts) }
     ensures { KeepsParts shares.old shares.new }
 {
-    turns(rt, alloc, house, seat, shares, 5, NOTHING, told)?;
-    turns(rt, alloc, house, seat, shares, 0, NOTHING, told)?;
+    turns(rt, house, seat, shares, 5, NOTHING, told)?;
+    turns(rt, house, seat, shares, 0, NOTHING, told)?;
     ends_told(rt, alloc, house, seat, shares, told)
 }
 
@@ -260,12 +255,9 @@ pub(crate) fn frames<L: Ledgers, R: Wait + Clock>(
     }
 }
 
-// No step between the two turns of the first output changes how it plays, so both are told the same.
-#[test]
-fn frames_are_booked_and_settled(rt: HostRuntime) -> Result<(), Fail> {
-    wants(
-        told(&rt, rt.alloc(), 64, Day::Frames),
-        "OK MPD 0.23.0
+/// What is told of them. No step between the two turns of the first output changes how it plays, so both are told
+/// the same.
+pub(crate) const TELLS: &str = "OK MPD 0.23.0
 heard
 OK
 OK
@@ -277,6 +269,4 @@ live at cut 1, enabled true, paused false
 live at cut 1, enabled true, paused false
 decoded 1024, written 512, discarded 512, left 0
 decoded 0, written 0, discarded 0, left 0
-",
-    )
-}
+";

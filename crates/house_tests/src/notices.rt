@@ -1,5 +1,5 @@
 //! A client waits while another thread makes a hundred changes: each notice is handed out once.
-use crate::rooms::{Day, seat_of, told};
+use crate::rooms::seat_of;
 use counted_player::{Ledgers, Seat};
 use house::House;
 use house_rooms::{comes, hears, says};
@@ -7,10 +7,8 @@ use partition::PartitionFault;
 use std::alloc::{AllocError, Global};
 use std::sync::Wait;
 use std::sync::atomic::{AtomicU32, Ordering};
-use std::test::Fail;
 use std::thread;
 use std::thread::Threads;
-use wanted::wants;
 
 /// How many notices came from the outbox and how many in front of an answer, and how many more than one a
 /// change.
@@ -154,16 +152,13 @@ fn meet<L: Ledgers + Send + Sync, R: Threads + Wait + Sync>(
 }
 
 /// How many notices came by the outbox, in front of a reply, and twice.
-fn add_notices(alloc: Global, notices: &Notices, told: &mut String) -> Result<(), AllocError> {
+fn add_notices(notices: &Notices, told: &mut String) -> Result<(), AllocError> {
     let Notices {
         by_outbox,
         in_front,
         again,
     } = notices;
-    let line = format!(in alloc;
-        "by the outbox {by_outbox}, in front {in_front}, again {again}\n"
-    )?;
-    told.push_str(line.as_str())
+    told.write_fmt(format_args!("by the outbox {by_outbox}, in front {in_front}, again {again}\n"))
 }
 
 /// Adds how the notices of two clients came, which wait and change things side by side.
@@ -182,13 +177,8 @@ pub(crate) fn race<L: Ledgers + Send + Sync, R: Threads + Wait + Sync>(
     };
     let (notices, ended) = meet(rt, house, one, two, &counts);
     ended?;
-    Ok(add_notices(alloc, &notices?, told)?)
+    Ok(add_notices(&notices?, told)?)
 }
 
-#[test]
-fn every_notice_comes_once(rt: HostRuntime) -> Result<(), Fail> {
-    wants(
-        told(&rt, rt.alloc(), 64, Day::Notices),
-        "by the outbox 50, in front 50, again 0\n",
-    )
-}
+/// What is told of them.
+pub(crate) const TELLS: &str = "by the outbox 50, in front 50, again 0\n";

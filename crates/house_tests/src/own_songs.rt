@@ -1,5 +1,5 @@
 //! Two threads add songs by turns, and each looks up the id that it was given.
-use crate::rooms::{Day, seat_of, told};
+use crate::rooms::seat_of;
 use counted_player::{Ledgers, Seat};
 use house::House;
 use house_rooms::{comes, hears};
@@ -7,10 +7,8 @@ use mpd_text::number;
 use partition::PartitionFault;
 use std::alloc::{AllocError, Global};
 use std::sync::Wait;
-use std::test::Fail;
 use std::thread;
 use std::thread::Threads;
-use wanted::wants;
 
 /// How often a thread found its own song by the id that it was given, and these ids.
 #[derive(Drop)]
@@ -149,11 +147,10 @@ fn look_up_at_once<L: Ledgers + Send + Sync, R: Threads + Wait + Sync>(
 }
 
 /// Adds how often each of two callers found its own song, and how many ids were given once.
-fn add_found(alloc: Global, one: &Found, two: &Found, told: &mut String) -> Result<(), AllocError> {
+fn add_found(one: &Found, two: &Found, told: &mut String) -> Result<(), AllocError> {
     let once = given_once(&one.ids, &two.ids);
     let (ones, twos) = (one.times, two.times);
-    let line = format!(in alloc; "found {ones} and {twos}, given once {once}\n")?;
-    told.push_str(line.as_str())
+    told.write_fmt(format_args!("found {ones} and {twos}, given once {once}\n"))
 }
 
 /// Adds what two callers found that look up their songs side by side.
@@ -167,21 +164,8 @@ pub(crate) fn race<L: Ledgers + Send + Sync, R: Threads + Wait + Sync>(
     let one = seat_of(rt, house)?;
     let two = seat_of(rt, house)?;
     let (one, two) = look_up_at_once(rt, alloc, house, one, two, in_list);
-    Ok(add_found(alloc, &one?, &two?, told)?)
+    Ok(add_found(&one?, &two?, told)?)
 }
 
-#[test]
-fn each_finds_its_own_song(rt: HostRuntime) -> Result<(), Fail> {
-    wants(
-        told(&rt, rt.alloc(), 4096, Day::OwnSongs(false)),
-        "found 100 and 100, given once 200\n",
-    )
-}
-
-#[test]
-fn each_finds_its_own_song_by_lists(rt: HostRuntime) -> Result<(), Fail> {
-    wants(
-        told(&rt, rt.alloc(), 4096, Day::OwnSongs(true)),
-        "found 100 and 100, given once 200\n",
-    )
-}
+/// What is told of them.
+pub(crate) const TELLS: &str = "found 100 and 100, given once 200\n";

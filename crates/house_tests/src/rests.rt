@@ -1,6 +1,6 @@
 //! Threads at rest: which changes end a rest, and what wakes who rests or waits for a notice.
 use crate::notices::meets;
-use crate::rooms::{Day, seat_of, told};
+use crate::rooms::seat_of;
 use crate::session::{changes, session};
 use counted_player::{Ledgers, Seat};
 use house::House;
@@ -9,11 +9,9 @@ use partition::PartitionFault;
 use std::alloc::Global;
 use std::sync::Wait;
 use std::sync::atomic::{AtomicU32, Ordering};
-use std::test::Fail;
 use std::thread;
 use std::thread::Threads;
 use std::time::{Clock, Duration};
-use wanted::wants;
 
 /// Two clients come, of whom the first waits for another volume than the one that is set at once, and the
 /// second has two songs played.
@@ -168,12 +166,8 @@ pub(crate) fn rests<L: Ledgers + Send + Sync, R: Threads + Wait + Clock + Sync>(
     }
 }
 
-// A rest is ended by what is played, the outputs and the end, and by no other change.
-#[test]
-fn changes_end_rests(rt: HostRuntime) -> Result<(), Fail> {
-    wants(
-        told(&rt, rt.alloc(), 4096, Day::Rests(false)),
-        "OK MPD 0.23.0
+/// What is told of changes: what is played, the outputs and the end ends a rest, and no other change.
+pub(crate) const SEEN_TELLS: &str = "OK MPD 0.23.0
 heard
 OK MPD 0.23.0
 heard
@@ -196,15 +190,10 @@ pause 1: true
 pause 0: true
 stop: true
 play: true
-",
-    )
-}
+";
 
-#[test]
-fn who_waits_is_woken(rt: HostRuntime) -> Result<(), Fail> {
-    wants(
-        told(&rt, rt.alloc(), 4096, Day::Rests(true)),
-        "OK MPD 0.23.0
+/// What is told of who waits.
+pub(crate) const WAITS_TELL: &str = "OK MPD 0.23.0
 heard
 OK MPD 0.23.0
 heard
@@ -222,6 +211,4 @@ seekcur 0.25: true false
 setvol 41: true true
 end: false false
 end: true false
-",
-    )
-}
+";

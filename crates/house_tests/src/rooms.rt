@@ -13,8 +13,10 @@ use partition::PartitionFault;
 use std::alloc::Global;
 use std::marker::Brand;
 use std::sync::Wait;
+use std::test::Fail;
 use std::thread::Threads;
 use std::time::Clock;
+use wanted::wants;
 
 /// What is done in a house.
 #[derive(Clone, Copy)]
@@ -117,4 +119,27 @@ pub(crate) fn told<R: Threads + Wait + Clock + Sync>(
     let mut told = String::new(alloc);
     evening::<Brand, R>(rt, alloc, blanks(), history, which, &mut told)?;
     Ok(told)
+}
+
+/// The days, the most events of their windows, and what is told of each. A test costs a proof of all that it is
+/// linked with, so one runs all.
+const DAYS: &[(Day, u32, &str)] = &[
+    (Day::Clients, 4096, days::TELLS),
+    (Day::Callers, 4096, callers::TELLS),
+    // A window of three is folded.
+    (Day::Callers, 3, callers::TELLS),
+    (Day::Notices, 64, notices::TELLS),
+    (Day::OwnSongs(false), 4096, own_songs::TELLS),
+    (Day::OwnSongs(true), 4096, own_songs::TELLS),
+    (Day::Frames, 64, frames::TELLS),
+    (Day::Rests(false), 4096, rests::SEEN_TELLS),
+    (Day::Rests(true), 4096, rests::WAITS_TELL),
+];
+
+#[test]
+fn days_tell_what_is_wanted(rt: HostRuntime) -> Result<(), Fail> {
+    for (day, history, wanted) in DAYS {
+        wants(told(&rt, rt.alloc(), *history, *day), wanted)?;
+    }
+    Ok(())
 }

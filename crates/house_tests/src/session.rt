@@ -2,7 +2,7 @@
 //!
 //! A session is a text with a step in each line, and adds what is heard or seen at each. So few functions
 //! hold a house and a seat.
-use crate::reports::report_told;
+use crate::reports::add_told;
 use counted_player::{Ledgers, Seat};
 use held_player::{News, Reported};
 use house::House;
@@ -37,26 +37,21 @@ fn news_of(word: &str, client: u32) -> Option<News> {
 }
 
 /// Adds what a client is told that came or went, and what is told to a part of the daemon.
-pub(crate) fn add_report(
-    alloc: Global,
-    reported: &Reported,
-    told: &mut String,
-) -> Result<(), AllocError> {
+pub(crate) fn add_report(reported: &Reported, told: &mut String) -> Result<(), AllocError> {
     told.push_str(reported.reply().text())?;
-    told.push_str(report_told(alloc, reported.report())?.as_str())
+    add_told(reported.report(), told)
 }
 
 /// Adds what is told at a piece of news.
 fn hears_news<L: Ledgers>(
     rt: &impl Wait,
-    alloc: Global,
     house: &House<L>,
     seat: &mut Seat<L>,
     news: News,
     told: &mut String,
 ) -> Result<(), PartitionFault> {
     let reported = house.notice(rt, seat, news)?;
-    Ok(add_report(alloc, &reported, told)?)
+    Ok(add_report(&reported, told)?)
 }
 
 /// Adds what the client hears whose number stands in front of a line, alone or as a list of one line.
@@ -147,8 +142,7 @@ fn add_addressees<L: Ledgers>(
 ) -> Result<(), AllocError> {
     let clients = house.addressees(rt, alloc)?;
     let (count, first) = (clients.len(), clients.first().copied().unwrap_or(0));
-    let line = format!(in alloc; "notices for {count}, the first is {first}\n")?;
-    told.push_str(line.as_str())
+    told.write_fmt(format_args!("notices for {count}, the first is {first}\n"))
 }
 
 /// What waits in the outbox of a client.
@@ -251,7 +245,7 @@ fn step<L: Ledgers, R: Wait + Clock>(
 ) -> Result<(), PartitionFault> {
     let (word, rest) = first_word(line);
     match news_of(word, number_of(rest)) {
-        Some(news) => hears_news(rt, alloc, house, seat, news, told),
+        Some(news) => hears_news(rt, house, seat, news, told),
         None => acts(rt, alloc, house, seat, line, told),
     }
 }

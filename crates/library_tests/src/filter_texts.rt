@@ -1,121 +1,112 @@
 //! Filters: worked texts and pairs, faults, and the greatest depth and texts.
-use crate::tables::{Reads, compare, holds, owned, push, repeated, wants};
+use crate::songs::{Tags, song};
 use filters::{Case, Filter, FilterFault, Pair, Test, Vocabulary, one_answer};
-use mpd_text::{Song, Tag, TagName, Text};
-use std::alloc::Global;
-use std::process::Abort;
+use mpd_text::{TagName, Text};
+use std::alloc::{AllocError, Global};
+use std::test::Fail;
+use wanted::wants;
 
-fn tags<R: Abort>(rt: &R, alloc: Global, given: &[(TagName, &str)]) -> Vec<Tag> {
-    let mut all = Vec::new(alloc);
-    for (name, text) in given {
-        all.push(Tag::new(*name, owned(rt, alloc, text)))
-            .expect(rt, "no memory");
-    }
-    all
-}
-
-/// A song of a URI, which holds no newline, with these tags.
-fn song<R: Abort>(rt: &R, alloc: Global, uri: &str, given: &[(TagName, &str)]) -> Song {
-    Song::new(owned(rt, alloc, uri), tags(rt, alloc, given), 8_000).expect(
-        rt,
-        "a newline is in the URI",
-    )
-}
-
-fn add<R: Abort>(
-    rt: &R,
-    alloc: Global,
-    songs: &mut Vec<Song>,
-    uri: &str,
-    given: &[(TagName, &str)],
-) {
-    songs
-        .push(song(rt, alloc, uri, given))
-        .expect(rt, "no memory");
-}
+/// A song: its URI, its tags, and how often the URI and each text are repeated.
+type Given = (&'static str, Tags, usize);
 
 /// The songs of the worked sessions.
-fn songs<R: Abort>(rt: &R, alloc: Global) -> Vec<Song> {
-    let mut all = Vec::new(alloc);
-    add(
-        rt,
-        alloc,
-        &mut all,
-        "a.wav",
-        &[(TagName::Artist, "foo'bar\"")],
-    );
-    let tags = [(TagName::Title, "Bee"), (TagName::Artist, "Zo\u{eb}")];
-    add(rt, alloc, &mut all, "b.wav", &tags);
-    add(rt, alloc, &mut all, "d", &[(TagName::Genre, "Stra\u{df}e")]);
-    add(rt, alloc, &mut all, "d/c.wav", &[]);
-    add(rt, alloc, &mut all, "dd.wav", &[]);
-    all
-}
+const SONGS: &[Given] = &[
+    ("a.wav", &[(TagName::Artist, "foo'bar\"")], 1),
+    (
+        "b.wav",
+        &[(TagName::Title, "Bee"), (TagName::Artist, "Zo\u{eb}")],
+        1,
+    ),
+    ("d", &[(TagName::Genre, "Stra\u{df}e")], 1),
+    ("d/c.wav", &[], 1),
+    ("dd.wav", &[], 1),
+];
 
-fn matches<R: Abort>(rt: &R, filter: &Filter, song: &Song, case: Case) -> bool {
-    filter.matches(song, case).expect(rt, "no memory")
-}
+/// A song whose texts have 1,024 bytes each: the most that a tag's text and a URI have.
+const LONG_SONG: &[Given] = &[(
+    "dd",
+    &[(TagName::Title, "\u{390}"), (TagName::Artist, "AA")],
+    512,
+)];
 
-/// The URIs of the songs that meet the filter, with a space after each.
-fn met<R: Abort>(rt: &R, alloc: Global, filter: &Filter, case: Case) -> String {
-    let mut all = String::new(alloc);
-    for song in &songs(rt, alloc) {
-        if matches(rt, filter, song, case) {
-            push(rt, &mut all, song.uri());
-            push(rt, &mut all, " ");
-        }
-    }
-    all
-}
-
-/// What a fault is called.
-fn fault<R: Abort>(rt: &R, alloc: Global, fault: FilterFault) -> String {
-    let told = match fault {
-        FilterFault::Syntax(at) => format!(in alloc; "bad filter at byte {at}"),
-        FilterFault::UnknownTag(word) => format!(in alloc; "unknown tag {}", word.as_str()),
-        FilterFault::TooDeep => String::from_str(alloc, "filter too deep"),
-        FilterFault::NoMemory => String::from_str(alloc, "no memory"),
-    };
-    told.expect(rt, "no memory")
-}
-
-/// The songs that meet a filter, or its fault.
-fn found<R: Abort>(
-    rt: &R,
+/// Adds the URI of a song that meets a filter, and a space. What is repeated is added once.
+fn tell_song(
+    told: &mut String,
     alloc: Global,
+    given: &Given,
+    filter: &Filter,
+    case: Case,
+) -> Result<(), AllocError> {
+    let (uri, tags, times) = *given;
+    let song = song(alloc, uri, tags, times, 8_000)?;
+    if filter.matches(&song, case)? {
+        return told.write_fmt(format_args!("{uri} "));
+    }
+    Ok(())
+}
+
+fn tell_songs(
+    told: &mut String,
+    alloc: Global,
+    songs: &[Given],
+    filter: &Filter,
+    case: Case,
+) -> Result<(), AllocError> {
+    for given in songs {
+        tell_song(told, alloc, given, filter, case)?;
+    }
+    Ok(())
+}
+
+/// Adds the songs that meet a filter, or its fault.
+fn tell_found(
+    told: &mut String,
+    alloc: Global,
+    songs: &[Given],
     filter: Result<Filter, FilterFault>,
     case: Case,
-) -> String {
+) -> Result<(), AllocError> {
     match filter {
-        Ok(filter) => met(rt, alloc, &filter, case),
-        Err(cause) => fault(rt, alloc, cause),
+        Ok(filter) => tell_songs(told, alloc, songs, &filter, case),
+        Err(FilterFault::Syntax(at)) => told.write_fmt(format_args!("bad filter at byte {at}")),
+        Err(FilterFault::UnknownTag(word)) => {
+            told.write_fmt(format_args!("unknown tag {}", word.as_str()))
+        }
+        Err(FilterFault::TooDeep) => told.push_str("filter too deep"),
+        Err(FilterFault::NoMemory) => told.push_str("no memory"),
     }
 }
 
-fn parsed(alloc: Global, text: &str, vocabulary: Vocabulary) -> Result<Filter, FilterFault> {
-    Filter::parse(alloc, text, vocabulary)
+/// Adds a line of a table again, with what is found by the filter on its left side.
+fn tell_line(
+    told: &mut String,
+    alloc: Global,
+    line: &str,
+    vocabulary: Vocabulary,
+    case: Case,
+) -> Result<(), AllocError> {
+    let (text, _) = line.split_once(" => ").unwrap_or((line, ""));
+    told.write_fmt(format_args!("{text} => "))?;
+    let filter = Filter::parse(alloc, text, vocabulary);
+    tell_found(told, alloc, SONGS, filter, case)?;
+    told.push('\n')
 }
 
-/// The songs that meet the filter of a text, or its fault.
-pub fn read<R: Abort>(rt: &R, alloc: Global, text: &str) -> String {
-    let filter = parsed(alloc, text, Vocabulary::Base);
-    found(rt, alloc, filter, Case::Heeded)
+/// The lines of a table again, with what is found by the filters on their left sides.
+fn told_of(
+    alloc: Global,
+    table: &str,
+    vocabulary: Vocabulary,
+    case: Case,
+) -> Result<String, AllocError> {
+    let mut told = String::new(alloc);
+    for line in table.lines() {
+        tell_line(&mut told, alloc, line, vocabulary, case)?;
+    }
+    Ok(told)
 }
 
-/// The same where all tags that clients know are words.
-pub fn read_known<R: Abort>(rt: &R, alloc: Global, text: &str) -> String {
-    let filter = parsed(alloc, text, Vocabulary::Known);
-    found(rt, alloc, filter, Case::Heeded)
-}
-
-/// The same where case is ignored.
-pub fn read_any_case<R: Abort>(rt: &R, alloc: Global, text: &str) -> String {
-    let filter = parsed(alloc, text, Vocabulary::Base);
-    found(rt, alloc, filter, Case::Ignored)
-}
-
-const FAULTS: &str = "
- => bad filter at byte 0
+const FAULTS: &str = " => bad filter at byte 0
 ( => bad filter at byte 1
 () => bad filter at byte 1
 (Artist == 'x' => bad filter at byte 14
@@ -141,37 +132,14 @@ const FAULTS: &str = "
 (_ == 'x') => bad filter at byte 1
 ";
 
-#[test]
-fn faults(rt: HostRuntime) {
-    compare(&rt, rt.alloc(), Reads::Filter, FAULTS, 24);
-}
+// 32 and 33 parentheses.
+const DEPTHS: &str = "(((((((((((((((((((((((((((((((( => bad filter at byte 32
+((((((((((((((((((((((((((((((((( => filter too deep
+((((((((((((((((((((((((((((((((title == 'Bee')))))))))))))))))))))))))))))))) => b.wav\u{20}
+(((((((((((((((((((((((((((((((((title == 'Bee'))))))))))))))))))))))))))))))))) => filter too deep
+";
 
-/// What is read of a text between so many parentheses. Those that close are left out where the text is empty.
-fn read_nested<R: Abort>(rt: &R, alloc: Global, depth: usize, text: &str) -> String {
-    let mut all = repeated(rt, alloc, "(", depth);
-    push(rt, &mut all, text);
-    if !text.is_empty() {
-        push(rt, &mut all, repeated(rt, alloc, ")", depth).as_str());
-    }
-    read(rt, alloc, all.as_str())
-}
-
-#[test]
-fn depths(rt: HostRuntime) {
-    one_answer();
-    for (depth, text, want) in [
-        (32, "", "bad filter at byte 32"),
-        (33, "", "filter too deep"),
-        (32, "title == 'Bee'", "b.wav "),
-        (33, "title == 'Bee'", "filter too deep"),
-    ] {
-        let told = read_nested(&rt, rt.alloc(), depth, text);
-        wants(&rt, text, told.as_str(), want);
-    }
-}
-
-const FOUND: &str = "
-(Artist == \"foo\\'bar\\\"\") => a.wav\u{20}
+const FOUND: &str = "(Artist == \"foo\\'bar\\\"\") => a.wav\u{20}
 ( TITLE=='Bee' ) => b.wav\u{20}
 (title == 'bee') =>\u{20}
 (title == '\\B\\e\\e') => b.wav\u{20}
@@ -190,23 +158,14 @@ const FOUND: &str = "
 (file == 'dd.wav') => dd.wav\u{20}
 ";
 
-const FOUND_IN_ANY_CASE: &str = "
-(title == 'bee') => b.wav\u{20}
+const FOUND_IN_ANY_CASE: &str = "(title == 'bee') => b.wav\u{20}
 (artist contains 'O') => a.wav b.wav\u{20}
 (genre == 'STRASSE') => d\u{20}
 (genre contains 'asse') => d\u{20}
 (base 'D') =>\u{20}
 ";
 
-#[test]
-fn songs_that_meet_texts(rt: HostRuntime) {
-    compare(&rt, rt.alloc(), Reads::Filter, FOUND, 17);
-    let alloc = rt.alloc();
-    compare(&rt, alloc, Reads::FilterOfAnyCase, FOUND_IN_ANY_CASE, 5);
-}
-
-const KNOWN: &str = "
-(MUSICBRAINZ_ALBUMID == 'x') =>\u{20}
+const KNOWN: &str = "(MUSICBRAINZ_ALBUMID == 'x') =>\u{20}
 (MUSICBRAINZ_ALBUMID == '') => a.wav b.wav d d/c.wav dd.wav\u{20}
 (musicbrainz_workid != '') =>\u{20}
 (Performer contains '') => a.wav b.wav d d/c.wav dd.wav\u{20}
@@ -227,153 +186,198 @@ const KNOWN: &str = "
 ";
 
 #[test]
-fn songs_that_meet_known_tags(rt: HostRuntime) {
-    compare(&rt, rt.alloc(), Reads::FilterOfKnownTags, KNOWN, 18);
+fn songs_that_meet_texts(rt: HostRuntime) -> Result<(), Fail> {
+    one_answer();
+    let alloc = rt.alloc();
+    let base = Vocabulary::Base;
+    wants(told_of(alloc, FAULTS, base, Case::Heeded), FAULTS)?;
+    wants(told_of(alloc, DEPTHS, base, Case::Heeded), DEPTHS)?;
+    wants(told_of(alloc, FOUND, base, Case::Heeded), FOUND)?;
+    wants(
+        told_of(alloc, FOUND_IN_ANY_CASE, base, Case::Ignored),
+        FOUND_IN_ANY_CASE,
+    )?;
+    wants(
+        told_of(alloc, KNOWN, Vocabulary::Known, Case::Heeded),
+        KNOWN,
+    )
 }
 
-fn pairs<R: Abort>(rt: &R, alloc: Global, words: &[(&str, &str)]) -> Vec<Pair> {
+fn add_pair(
+    pairs: &mut Vec<Pair>,
+    alloc: Global,
+    name: &str,
+    text: &str,
+    times: usize,
+) -> Result<(), AllocError> {
+    let pair = Pair {
+        name: Text::new(alloc, name)?,
+        text: Text::of(text.repeat(alloc, times)?),
+    };
+    pairs.push(pair).map_err(AllocError::from)
+}
+
+/// Pairs, each text so many times, and how they are compared.
+type Compared = (
+    &'static [(&'static str, &'static str)],
+    usize,
+    Test,
+    Vocabulary,
+    Case,
+);
+
+fn pairs(alloc: Global, words: &[(&str, &str)], times: usize) -> Result<Vec<Pair>, AllocError> {
     let mut pairs = Vec::new(alloc);
     for (name, text) in words {
-        let pair = Pair {
-            name: Text::of(owned(rt, alloc, name)),
-            text: Text::of(owned(rt, alloc, text)),
-        };
-        pairs.push(pair).expect(rt, "no memory");
+        add_pair(&mut pairs, alloc, name, text, times)?;
     }
-    pairs
+    Ok(pairs)
 }
 
-fn of_pairs<R: Abort>(
-    rt: &R,
+/// Adds what is found by pairs, and a bar.
+fn tell_pairs(
+    told: &mut String,
     alloc: Global,
-    words: &[(&str, &str)],
-    test: Test,
-    vocabulary: Vocabulary,
-) -> Result<Filter, FilterFault> {
-    Filter::of_pairs(alloc, pairs(rt, alloc, words).as_slice(), test, vocabulary)
+    songs: &[Given],
+    compared: &Compared,
+) -> Result<(), AllocError> {
+    let (words, times, test, vocabulary, case) = *compared;
+    let pairs = pairs(alloc, words, times)?;
+    let filter = Filter::of_pairs(alloc, pairs.as_slice(), test, vocabulary);
+    tell_found(told, alloc, songs, filter, case)?;
+    told.push('|')
 }
 
-/// The songs that meet the filter of these pairs in any case, or its fault.
-fn contain<R: Abort>(rt: &R, alloc: Global, words: &[(&str, &str)], case: Case, wanted: &str) {
-    let filter = of_pairs(rt, alloc, words, Test::Contains, Vocabulary::Base);
-    let told = found(rt, alloc, filter, case);
-    wants(rt, "containing", told.as_str(), wanted);
-}
-
-fn equal_in<R: Abort>(
-    rt: &R,
-    alloc: Global,
-    vocabulary: Vocabulary,
-    words: &[(&str, &str)],
-    wanted: &str,
-) {
-    let filter = of_pairs(rt, alloc, words, Test::Equals, vocabulary);
-    let told = found(rt, alloc, filter, Case::Heeded);
-    wants(rt, "equal", told.as_str(), wanted);
-}
-
-fn equal<R: Abort>(rt: &R, alloc: Global, words: &[(&str, &str)], wanted: &str) {
-    equal_in(rt, alloc, Vocabulary::Base, words, wanted);
-}
-
-fn equal_known<R: Abort>(rt: &R, alloc: Global, words: &[(&str, &str)], wanted: &str) {
-    equal_in(rt, alloc, Vocabulary::Known, words, wanted);
-}
-
-#[test]
-fn songs_that_meet_pairs(rt: HostRuntime) {
-    let alloc = rt.alloc();
-    equal(&rt, alloc, &[], "a.wav b.wav d d/c.wav dd.wav ");
-    let both = [("TITLE", "Bee"), ("artist", "Zo\u{eb}")];
-    equal(&rt, alloc, &both, "b.wav ");
-    let artist = [("artist", "zO\u{cb}")];
-    contain(&rt, alloc, &artist, Case::Ignored, "b.wav ");
-    let folder = [("base", "d"), ("file", ".wav")];
-    contain(&rt, alloc, &folder, Case::Heeded, "d/c.wav ");
-    let unknown = [("title", "x"), ("foo", "x"), ("bar", "x")];
-    equal(&rt, alloc, &unknown, "unknown tag foo");
-    equal(&rt, alloc, &[("filename", "b.wav")], "unknown tag filename");
-}
-
-#[test]
-fn songs_that_meet_pairs_of_known_tags(rt: HostRuntime) {
-    let alloc = rt.alloc();
-    let named = [("FileName", "b.wav"), ("albumartist", "Zo\u{eb}")];
-    equal_known(&rt, alloc, &named, "b.wav ");
-    equal_known(&rt, alloc, &[("Composer", "x")], "");
-    let unknown = [("MUSICBRAINZ_TRACKID", ""), ("Art_ist", "x")];
-    equal_known(&rt, alloc, &unknown, "unknown tag Art_ist");
-}
-
-/// A song whose texts have 1,024 bytes each: the most that a tag's text and a URI have.
-fn long_song<R: Abort>(rt: &R, alloc: Global) -> Song {
-    let uri = repeated(rt, alloc, "d", 1_024);
-    let artist = repeated(rt, alloc, "A", 1_024);
-    let title = repeated(rt, alloc, "\u{390}", 512);
-    let tags = [
-        (TagName::Title, title.as_str()),
-        (TagName::Artist, artist.as_str()),
-    ];
-    song(rt, alloc, uri.as_str(), &tags)
-}
-
-/// A comparison with a text that is repeated so many times, and whether the song of long texts meets it.
-type Comparison = (&'static str, &'static str, usize, Case, bool);
-
-fn meets<R: Abort>(rt: &R, alloc: Global, song: &Song, comparison: &Comparison) -> bool {
-    let (with, text, count, case, _) = *comparison;
-    let wanted = repeated(rt, alloc, text, count);
-    let text = format!(in alloc; "({with} '{wanted}')").expect(rt, "no memory");
-    let filter = parsed(alloc, text.as_str(), Vocabulary::Base).expect(rt, "no filter");
-    matches(rt, &filter, song, case)
-}
-
-fn compare_all<R: Abort>(rt: &R, alloc: Global, comparisons: &[Comparison]) {
-    let song = long_song(rt, alloc);
-    for comparison in comparisons {
-        let is_met = meets(rt, alloc, &song, comparison);
-        let (with, text, count, _, want) = *comparison;
-        assert!(*rt; is_met == want, "{with} {count} of {text}");
+fn told_of_pairs(alloc: Global, songs: &[Given], all: &[Compared]) -> Result<String, AllocError> {
+    let mut told = String::new(alloc);
+    for compared in all {
+        tell_pairs(&mut told, alloc, songs, compared)?;
     }
+    Ok(told)
 }
 
-/// Whether the song of long texts meets the filter of one pair.
-fn meets_pair<R: Abort>(rt: &R, alloc: Global) -> bool {
-    let artist = repeated(rt, alloc, "a", 1_024);
-    let filter = of_pairs(
-        rt,
-        alloc,
-        &[("ARTIST", artist.as_str())],
+const PAIRS: &[Compared] = &[
+    (&[], 1, Test::Equals, Vocabulary::Base, Case::Heeded),
+    (
+        &[("TITLE", "Bee"), ("artist", "Zo\u{eb}")],
+        1,
         Test::Equals,
         Vocabulary::Base,
-    );
-    let filter = filter.expect(rt, "no filter");
-    matches(rt, &filter, &long_song(rt, alloc), Case::Ignored)
+        Case::Heeded,
+    ),
+    (
+        &[("artist", "zO\u{cb}")],
+        1,
+        Test::Contains,
+        Vocabulary::Base,
+        Case::Ignored,
+    ),
+    (
+        &[("base", "d"), ("file", ".wav")],
+        1,
+        Test::Contains,
+        Vocabulary::Base,
+        Case::Heeded,
+    ),
+    (
+        &[("title", "x"), ("foo", "x"), ("bar", "x")],
+        1,
+        Test::Equals,
+        Vocabulary::Base,
+        Case::Heeded,
+    ),
+    (
+        &[("filename", "b.wav")],
+        1,
+        Test::Equals,
+        Vocabulary::Base,
+        Case::Heeded,
+    ),
+];
+
+const KNOWN_PAIRS: &[Compared] = &[
+    (
+        &[("FileName", "b.wav"), ("albumartist", "Zo\u{eb}")],
+        1,
+        Test::Equals,
+        Vocabulary::Known,
+        Case::Heeded,
+    ),
+    (
+        &[("Composer", "x")],
+        1,
+        Test::Equals,
+        Vocabulary::Known,
+        Case::Heeded,
+    ),
+    (
+        &[("MUSICBRAINZ_TRACKID", ""), ("Art_ist", "x")],
+        1,
+        Test::Equals,
+        Vocabulary::Known,
+        Case::Heeded,
+    ),
+];
+
+const LONG_PAIR: &[Compared] = &[(
+    &[("ARTIST", "a")],
+    1_024,
+    Test::Equals,
+    Vocabulary::Base,
+    Case::Ignored,
+)];
+
+#[test]
+fn songs_that_meet_pairs(rt: HostRuntime) -> Result<(), Fail> {
+    let alloc = rt.alloc();
+    wants(
+        told_of_pairs(alloc, SONGS, PAIRS),
+        "a.wav b.wav d d/c.wav dd.wav |b.wav |b.wav |d/c.wav |unknown tag foo|unknown tag filename|",
+    )?;
+    wants(
+        told_of_pairs(alloc, SONGS, KNOWN_PAIRS),
+        "b.wav ||unknown tag Art_ist|",
+    )?;
+    wants(told_of_pairs(alloc, LONG_SONG, LONG_PAIR), "dd |")
+}
+
+/// Comparisons of the long song with a text that is repeated so many times.
+const LONG: &[(&str, &str, usize, Case)] = &[
+    ("artist ==", "A", 1_024, Case::Heeded),
+    ("artist ==", "a", 1_024, Case::Heeded),
+    ("artist ==", "a", 1_024, Case::Ignored),
+    ("artist ==", "a", 1_023, Case::Ignored),
+    ("artist contains", "a", 1_024, Case::Ignored),
+    ("artist contains", "a", 1_025, Case::Ignored),
+    ("any ==", "a", 1_024, Case::Ignored),
+    ("file ==", "D", 1_024, Case::Ignored),
+    // the full folding of U+0390 (Unicode's CaseFolding.txt, status F)
+    ("title ==", "\u{3b9}\u{308}\u{301}", 512, Case::Ignored),
+];
+
+/// Adds whether the long song meets a comparison with a text that is repeated so many times.
+fn tell_long(
+    told: &mut String,
+    alloc: Global,
+    with: &str,
+    text: String,
+    case: Case,
+) -> Result<(), AllocError> {
+    let filter = format!(in alloc; "({with} '{text}')")?;
+    let filter = Filter::parse(alloc, filter.as_str(), Vocabulary::Base);
+    tell_found(told, alloc, LONG_SONG, filter, case)?;
+    told.push('|')
+}
+
+fn told_of_long(alloc: Global) -> Result<String, AllocError> {
+    let mut told = String::new(alloc);
+    for (with, text, times, case) in LONG {
+        tell_long(&mut told, alloc, with, text.repeat(alloc, *times)?, *case)?;
+    }
+    Ok(told)
 }
 
 #[test]
-fn texts_of_1024_bytes(rt: HostRuntime) {
-    compare_all(
-        &rt,
-        rt.alloc(),
-        &[
-            ("artist ==", "A", 1_024, Case::Heeded, true),
-            ("artist ==", "a", 1_024, Case::Heeded, false),
-            ("artist ==", "a", 1_024, Case::Ignored, true),
-            ("artist ==", "a", 1_023, Case::Ignored, false),
-            ("artist contains", "a", 1_024, Case::Ignored, true),
-            ("artist contains", "a", 1_025, Case::Ignored, false),
-            ("any ==", "a", 1_024, Case::Ignored, true),
-            ("file ==", "D", 1_024, Case::Ignored, true),
-            // the full folding of U+0390 (Unicode's CaseFolding.txt, status F)
-            (
-                "title ==",
-                "\u{3b9}\u{308}\u{301}",
-                512,
-                Case::Ignored,
-                true,
-            ),
-        ],
-    );
-    holds(&rt, meets_pair(&rt, rt.alloc()), "the pair");
+fn texts_of_1024_bytes(rt: HostRuntime) -> Result<(), Fail> {
+    wants(told_of_long(rt.alloc()), "dd ||dd ||dd ||dd |dd |dd |")
 }

@@ -4,10 +4,6 @@
 #[cfg(test)]
 mod filter_texts;
 #[cfg(test)]
-mod kept_lines;
-#[cfg(test)]
-mod song_library;
-#[cfg(test)]
-mod tables;
+mod songs;
 #[cfg(test)]
 mod wave_files;

@@ -1,16 +1,12 @@
 //! WAVE files: worked bytes, files of other programs, cut files, failing devices, and the greatest sizes.
-
-use crate::tables::{Reads, compare, holds, push, wants};
 use counted_devices::{Counting, FailAt, Failing, FailurePoint, Media};
-use mpd_text::{Tag, number};
-use std::alloc::Global;
+use mpd_text::number;
+use std::alloc::{AllocError, Global};
 use std::fs;
 use std::io::Cursor;
-use std::process::Abort;
-use wave::{Head, Reader, WaveFault, chunks_are_those_of_the_bytes, read_head};
-
-/// The left and the right sample.
-type Frame = [i16; 2];
+use std::test::Fail;
+use wanted::{wants, wants_made};
+use wave::{Head, Reader, chunks_are_those_of_the_bytes, read_head};
 
 /// 24 bits, one channel, a title, and a data size past the file's end.
 const FIRST: &str = "52494646 00000000 57415645
@@ -18,115 +14,136 @@ const FIRST: &str = "52494646 00000000 57415645
     4c495354 10000000 494e464f 494e414d 03000000 486900 00
     64617461 64000000 000100 ffffff 7f";
 
-/// A file's start, with a format of 8 bits and one channel at 8,000 frames a second.
-const EIGHT: &str =
-    "52494646 00000000 57415645 666d7420 10000000 0100 0100 401f0000 401f0000 0100 0800";
+/// What is no hexadecimal digit's value.
+const NO_VALUE: u8 = 16;
 
 /// The value of a hexadecimal digit.
-fn value_of(digit: u8) -> Option<u8> {
+fn value_of(digit: u8) -> u8 {
     match digit {
-        b'0'..=b'9' => Some(digit - b'0'),
-        b'a'..=b'f' => Some(digit - b'a' + 10),
-        _ => None,
+        b'0'..=b'9' => digit - b'0',
+        b'a'..=b'f' => digit - b'a' + 10,
+        _ => NO_VALUE,
     }
+}
+
+/// Adds the byte that a digit ends, or gives the value of a digit that begins one.
+fn add_digit(all: &mut Vec<u8>, high: u8, digit: u8) -> Result<u8, AllocError> {
+    let value = value_of(digit);
+    if value == NO_VALUE {
+        return Ok(high);
+    }
+    if high == NO_VALUE {
+        return Ok(value);
+    }
+    all.push(high.wrapping_mul(16) | value)?;
+    Ok(NO_VALUE)
 }
 
 /// The bytes of hexadecimal digits.
-fn bytes<R: Abort>(rt: &R, alloc: Global, hex: &str) -> Vec<u8> {
+fn bytes(alloc: Global, digits: &str) -> Result<Vec<u8>, AllocError> {
     let mut all = Vec::new(alloc);
-    let mut high: Option<u8> = None;
-    for digit in hex.as_bytes() {
-        high = match (value_of(*digit), high) {
-            (None, high) => high,
-            (Some(front), None) => Some(front),
-            (Some(value), Some(front)) => {
-                add(rt, &mut all, &[front.wrapping_mul(16) | value]);
-                None
-            }
-        };
+    let mut high = NO_VALUE;
+    for digit in digits.as_bytes() {
+        high = add_digit(&mut all, high, *digit)?;
     }
-    all
-}
-
-fn add<R: Abort>(rt: &R, all: &mut Vec<u8>, more: &[u8]) {
-    all.extend_from_slice(more).expect(rt, "no memory");
+    Ok(all)
 }
 
 /// A device of these bytes.
-fn device<R: Abort>(rt: &R, alloc: Global, digits: &str, point: FailurePoint) -> FailAt {
-    FailAt::new(bytes(rt, alloc, digits), point)
+fn device(alloc: Global, digits: &str, point: FailurePoint) -> Result<FailAt, AllocError> {
+    Ok(FailAt::new(bytes(alloc, digits)?, point))
 }
 
-fn whole(bytes: Vec<u8>) -> FailAt {
-    FailAt::new(bytes, FailurePoint::Never)
-}
+/// Frames from one on, and the most that are read of them.
+type Range = (u64, usize);
 
-fn calls(media: &FailAt) -> u64 {
-    media.calls()
-}
-
-/// The head of a file that has one.
-fn head<R: Abort>(rt: &R, alloc: Global, media: &mut FailAt, rate: u32) -> Head {
-    read_head(alloc, media, rate).expect(rt, "no head")
-}
-
-/// The frames that are read from a place on.
-fn frames<R: Abort>(
-    rt: &R,
+/// Adds the frames that are read from a place on, or the fault's name.
+fn tell_frames<M: Media>(
+    told: &mut String,
     alloc: Global,
-    reader: &mut Reader<FailAt>,
-    from: u64,
-    n: usize,
-) -> Vec<Frame> {
-    reader.frames_at(alloc, from, n).expect(rt, "no frames")
+    reader: &mut Reader<M>,
+    range: Range,
+) -> Result<(), AllocError> {
+    match reader.frames_at(alloc, range.0, range.1) {
+        Ok(frames) => told.write_fmt(format_args!(" {frames:?}")),
+        Err(fault) => told.write_fmt(format_args!(" {fault:?}")),
+    }
 }
 
-fn shown_tag<R: Abort>(rt: &R, alloc: Global, tag: &Tag) -> String {
-    format!(in alloc; "|{:?} {}", tag.name(), tag.text()).expect(rt, "no memory")
+fn tell_ranges<M: Media>(
+    told: &mut String,
+    alloc: Global,
+    reader: &mut Reader<M>,
+    ranges: &[Range],
+) -> Result<(), AllocError> {
+    for range in ranges {
+        tell_frames(told, alloc, reader, *range)?;
+    }
+    Ok(())
 }
 
-/// Channels, bits and frames, and each tag after a bar.
-fn shown_head<R: Abort>(rt: &R, alloc: Global, head: &Head) -> String {
+/// Adds channels, bits and frames, and each tag after a bar.
+fn tell_head(told: &mut String, head: &Head) -> Result<(), AllocError> {
     let (channels, bits, frames) = (head.channels(), head.bits(), head.frames());
-    let mut text = format!(in alloc; "{channels} {bits} {frames}").expect(rt, "no memory");
+    told.write_fmt(format_args!("{channels} {bits} {frames}"))?;
     for tag in head.tags() {
-        push(rt, &mut text, shown_tag(rt, alloc, tag).as_str());
+        told.write_fmt(format_args!("|{} {}", tag.name().text(), tag.text()))?;
     }
-    text
+    Ok(())
 }
 
-/// The first frames of a file, or the fault's name.
-fn shown_frames<R: Abort, M: Media + Drop>(rt: &R, alloc: Global, media: M, head: Head) -> String {
-    let text = match Reader::new(media, head).frames_at(alloc, 0, 5) {
-        Ok(frames) => format!(in alloc; "{frames:?}"),
-        Err(fault) => format!(in alloc; "{fault:?}"),
-    };
-    text.expect(rt, "no memory")
+/// Adds the head of a file and some frames.
+fn tell_read<M: Media + Drop>(
+    told: &mut String,
+    alloc: Global,
+    reader: Reader<M>,
+    ranges: &[Range],
+) -> Result<(), AllocError> {
+    let mut reader = reader;
+    tell_head(told, reader.head())?;
+    tell_ranges(told, alloc, &mut reader, ranges)
 }
 
-fn fault_name<R: Abort>(rt: &R, alloc: Global, fault: WaveFault) -> String {
-    format!(in alloc; "{fault:?}").expect(rt, "no memory")
-}
-
-/// The head and the first frames, or the fault's name.
-fn shown<R: Abort, M: Media + Drop>(rt: &R, alloc: Global, mut media: M, rate: u32) -> String {
+/// The same, or the fault's name.
+fn tell_file<M: Media + Drop>(
+    told: &mut String,
+    alloc: Global,
+    media: M,
+    rate: u32,
+    ranges: &[Range],
+) -> Result<(), AllocError> {
+    let mut media = media;
     match read_head(alloc, &mut media, rate) {
-        Ok(head) => {
-            let mut text = shown_head(rt, alloc, &head);
-            push(rt, &mut text, " ");
-            push(rt, &mut text, shown_frames(rt, alloc, media, head).as_str());
-            text
-        }
-        Err(fault) => fault_name(rt, alloc, fault),
+        Ok(head) => tell_read(told, alloc, Reader::new(media, head), ranges),
+        Err(fault) => told.write_fmt(format_args!("{fault:?}")),
     }
 }
 
-const HIGH: &str = "1 24 2|Title Hi [[1, 1], [-1, -1]]";
+/// Adds a line of a table again, with what is read of the file on its left side.
+fn tell_line(told: &mut String, alloc: Global, line: &str) -> Result<(), AllocError> {
+    let Some((file, _)) = line.split_once(" => ") else {
+        return told.write_fmt(format_args!("{line}\n"));
+    };
+    told.write_fmt(format_args!("{file} => "))?;
+    let (rate, digits) = file.split_once(": ").unwrap_or(("", file));
+    let media = device(alloc, digits, FailurePoint::Never)?;
+    tell_file(told, alloc, media, number(rate).unwrap_or(0), &[(0, 5)])?;
+    told.push('\n')
+}
+
+/// The lines of a table again, with what is read of the files on their left sides.
+fn told_of(alloc: Global, table: &str) -> Result<String, AllocError> {
+    let mut told = String::new(alloc);
+    for line in table.lines() {
+        tell_line(&mut told, alloc, line)?;
+    }
+    Ok(told)
+}
 
 /// Files, a line for each: the rate, the bytes in hexadecimal digits, and what is read of them. A line with
 /// `#` says of what kind the next ones are.
-const FILES: &str = "
-8000: 52494646 00000000 57415645 666d7420 10000000 0100 0100 401f0000 c05d0000 0300 1800 4c495354 10000000 494e464f 494e414d 03000000 486900 00 64617461 64000000 000100 ffffff 7f => 1 24 2|Title Hi [[1, 1], [-1, -1]]
+const FILES: &str =
+    "8000: 52494646 00000000 57415645 666d7420 10000000 0100 0100 401f0000 c05d0000 0300 1800 4c495354 10000000 494e464f 494e414d 03000000 486900 00 64617461 64000000 000100 ffffff 7f => 1 24 2|Title Hi [[1, 1], [-1, -1]]
 44100: 52494646 00000000 57415645 666d7420 10000000 0100 0100 401f0000 c05d0000 0300 1800 4c495354 10000000 494e464f 494e414d 03000000 486900 00 64617461 64000000 000100 ffffff 7f => Unsupported
 # 8 bits, two channels
 8000: 52494646 00000000 57415645 666d7420 10000000 0100 0200 401f0000 803e0000 0200 0800 64617461 02000000 00ff => 2 8 1 [[-32768, 32512]]
@@ -167,13 +184,23 @@ const FILES: &str = "
 8000: 52494658 00000000 57415645 => NotRiff
 8000: 52494646 00000000 41564920 => NotRiff
 8000:  => NotRiff
+# the first file, cut to 11, 30, 36, 60, 67, 68, 71 and 74 bytes
+8000: 52494646 00000000 574156 => NotRiff
+8000: 52494646 00000000 57415645 666d7420 10000000 0100 0100 401f0000 c05d => NoFormat
+8000: 52494646 00000000 57415645 666d7420 10000000 0100 0100 401f0000 c05d0000 0300 1800 => NoData
+8000: 52494646 00000000 57415645 666d7420 10000000 0100 0100 401f0000 c05d0000 0300 1800 4c495354 10000000 494e464f 494e414d 03000000 486900 00 => NoData
+8000: 52494646 00000000 57415645 666d7420 10000000 0100 0100 401f0000 c05d0000 0300 1800 4c495354 10000000 494e464f 494e414d 03000000 486900 00 64617461 640000 => NoData
+8000: 52494646 00000000 57415645 666d7420 10000000 0100 0100 401f0000 c05d0000 0300 1800 4c495354 10000000 494e464f 494e414d 03000000 486900 00 64617461 64000000 => 1 24 0|Title Hi []
+8000: 52494646 00000000 57415645 666d7420 10000000 0100 0100 401f0000 c05d0000 0300 1800 4c495354 10000000 494e464f 494e414d 03000000 486900 00 64617461 64000000 000100 => 1 24 1|Title Hi [[1, 1]]
+8000: 52494646 00000000 57415645 666d7420 10000000 0100 0100 401f0000 c05d0000 0300 1800 4c495354 10000000 494e464f 494e414d 03000000 486900 00 64617461 64000000 000100 ffffff => 1 24 2|Title Hi [[1, 1], [-1, -1]]
+# the greatest size of data, as in a stream
+8000: 52494646 00000000 57415645 666d7420 10000000 0100 0100 401f0000 c05d0000 0300 1800 4c495354 10000000 494e464f 494e414d 03000000 486900 00 64617461 ffffffff 000100 ffffff 7f => 1 24 2|Title Hi [[1, 1], [-1, -1]]
 ";
 
 /// Files that sox 14.4.2 and ffmpeg 5.1.9 wrote from raw samples, as hexadecimal digits, and what `soxi`,
 /// `ffprobe` and `sox OUT.wav -t raw -` say of them: channels, bits, samples a channel, tags, and the
 /// samples.
-const REAL: &str = "
-# sox -D -t raw -r 8000 -e signed -b 16 -c 2 IN OUT.wav
+const REAL: &str = "# sox -D -t raw -r 8000 -e signed -b 16 -c 2 IN OUT.wav
 8000: 524946463000000057415645666d74201000000001000200401f0000007d000004001000646174610c0000000100ffff2c01d4feff7f0080 => 2 16 3 [[1, -1], [300, -300], [32767, -32768]]
 # sox -D -t raw -r 8000 -e signed -b 24 -c 1 IN OUT.wav; the samples are 256, -1, 8388607, -8388608, 513
 8000: 524946465800000057415645666d742028000000feff0100401f0000c05d00000300180016001800040000000100000000001000800000aa00389b71666163740400000005000000646174610f000000000100ffffffffff7f00008001020000 => 1 24 5 [[1, 1], [-1, -1], [32767, 32767], [-32768, -32768], [2, 2]]
@@ -187,307 +214,215 @@ const REAL: &str = "
 8000: 52494646ffffffff57415645666d74201000000001000100401f0000803e0000020010004c4953541a000000494e464f495346540e0000004c61766635392e32372e3130300064617461fffffffffbff00000700 => 1 16 3 [[-5, -5], [0, 0], [7, 7]]
 ";
 
-/// What is read of a file: its rate, a colon, and its bytes.
-pub fn read<R: Abort>(rt: &R, alloc: Global, file: &str) -> String {
-    let (rate, digits) = file.split_once(":").expect(rt, "no colon");
-    let rate = number(rate).expect(rt, "no rate");
-    let media = device(rt, alloc, digits, FailurePoint::Never);
-    shown(rt, alloc, media, rate)
+#[test]
+fn files(rt: HostRuntime) -> Result<(), Fail> {
+    chunks_are_those_of_the_bytes();
+    wants(told_of(rt.alloc(), FILES), FILES)?;
+    wants(told_of(rt.alloc(), REAL), REAL)
+}
+
+/// Adds what is read of the first file on a device in memory.
+fn tell_first(told: &mut String, alloc: Global) -> Result<(), AllocError> {
+    let media = device(alloc, FIRST, FailurePoint::Never)?;
+    tell_file(told, alloc, media, 8_000, RANGES)
+}
+
+/// The same on a device of unknown bytes.
+fn tell_unknown(told: &mut String, alloc: Global) -> Result<(), AllocError> {
+    let media = Counting::new(Cursor::new(bytes(alloc, FIRST)?));
+    tell_file(told, alloc, media, 8_000, &[(0, 5)])
+}
+
+/// The same on a device whose first call would block.
+fn tell_blocked(told: &mut String, alloc: Global) -> Result<(), AllocError> {
+    let media = FailAt::would_block(bytes(alloc, FIRST)?, FailurePoint::Call(1));
+    tell_file(told, alloc, media, 8_000, &[(0, 5)])
+}
+
+fn devices_told(alloc: Global) -> Result<String, AllocError> {
+    let mut told = String::new(alloc);
+    tell_first(&mut told, alloc)?;
+    told.push('\n')?;
+    tell_unknown(&mut told, alloc)?;
+    told.push('\n')?;
+    tell_blocked(&mut told, alloc)?;
+    Ok(told)
+}
+
+const RANGES: &[Range] = &[
+    (0, 1),
+    (1, 1),
+    (1, 9),
+    (2, 1),
+    (u64::MAX, usize::MAX),
+    (0, usize::MAX),
+    (0, 0),
+];
+
+const HIGH: &str = "1 24 2|Title Hi [[1, 1], [-1, -1]]";
+
+#[test]
+fn devices(rt: HostRuntime) -> Result<(), Fail> {
+    wants(
+        devices_told(rt.alloc()),
+        "1 24 2|Title Hi [[1, 1]] [[-1, -1]] [[-1, -1]] [] [] [[1, 1], [-1, -1]] []\n\
+         1 24 2|Title Hi [[1, 1], [-1, -1]]\nReadFault",
+    )
 }
 
 #[test]
-fn files(rt: HostRuntime) {
-    compare(&rt, rt.alloc(), Reads::Wave, FILES, 24);
+fn a_file(rt: HostRuntime) -> Result<(), Fail> {
+    let name = "wave_of_this_test.wav";
+    let bytes = bytes(rt.alloc(), FIRST).expect(&rt, "no memory");
+    fs::write(&rt, name, bytes.as_slice()).expect(&rt, "no file");
+    let media = Counting::new(fs::open(&rt, name).expect(&rt, "no file"));
+    let mut told = String::new(rt.alloc());
+    tell_file(&mut told, rt.alloc(), media, 8_000, &[(0, 5)]).expect(&rt, "no memory");
+    fs::remove_file(&rt, name).expect(&rt, "no file");
+    wants(Ok::<String, AllocError>(told), HIGH)
 }
 
-#[test]
-fn files_of_other_programs(rt: HostRuntime) {
-    compare(&rt, rt.alloc(), Reads::Wave, REAL, 6);
-}
-
-/// What is read of the first file cut to so many bytes.
-pub fn read_cut<R: Abort>(rt: &R, alloc: Global, len: &str) -> String {
-    let mut all = bytes(rt, alloc, FIRST);
-    all.truncate(number(len).expect(rt, "no length") as usize);
-    shown(rt, alloc, whole(all), 8_000)
-}
-
-const CUT: &str = "
-11 => NotRiff
-30 => NoFormat
-36 => NoData
-60 => NoData
-67 => NoData
-68 => 1 24 0|Title Hi []
-71 => 1 24 1|Title Hi [[1, 1]]
-74 => 1 24 2|Title Hi [[1, 1], [-1, -1]]
-";
-
-#[test]
-fn cut_files(rt: HostRuntime) {
-    compare(&rt, rt.alloc(), Reads::CutWave, CUT, 8);
-}
-
-/// How many bytes the first file has, and what is read of it where the size of its data is the greatest one.
-fn shown_stream<R: Abort>(rt: &R, alloc: Global) -> String {
-    let mut all = bytes(rt, alloc, FIRST);
-    holds(rt, all.len() == 75, "75 bytes");
-    let size = all.as_mut_slice().get_mut(64..68).expect(rt, "no size");
-    size.fill(255);
-    shown(rt, alloc, whole(all), 8_000)
-}
-
-#[test]
-fn the_data_size_of_a_stream(rt: HostRuntime) {
-    let told = shown_stream(&rt, rt.alloc());
-    wants(&rt, "a stream", told.as_str(), HIGH);
-}
-
-/// A file with an artist of so many letters.
-fn long_text<R: Abort>(rt: &R, alloc: Global, len: u16) -> Vec<u8> {
-    let mut all = bytes(rt, alloc, EIGHT);
-    let size = u32::from(len);
-    add(rt, &mut all, b"LIST");
-    add(rt, &mut all, &(size + 12).to_le_bytes());
-    add(rt, &mut all, b"INFOIART");
-    add(rt, &mut all, &size.to_le_bytes());
-    for _ in 0..len {
-        add(rt, &mut all, b"a");
+/// Adds to digits each of some others, so many times.
+fn digits(alloc: Global, parts: &[(&str, usize)]) -> Result<String, AllocError> {
+    let mut digits = String::new(alloc);
+    for (part, times) in parts {
+        digits.push_str(part.repeat(alloc, *times)?.as_str())?;
     }
-    if len % 2 == 1 {
-        add(rt, &mut all, b"\0");
-    }
-    add(rt, &mut all, b"data\0\0\0\0");
-    all
+    Ok(digits)
 }
 
-/// How many tags such a file has, and how many calls the reading of its head took.
-fn long_text_told<R: Abort>(rt: &R, alloc: Global, len: u16) -> (usize, u64) {
-    let mut media = whole(long_text(rt, alloc, len));
-    let head = head(rt, alloc, &mut media, 8_000);
-    (head.tags().len(), calls(&media))
+/// Where the samples of a file begin, how long a frame is, how many frames and tags there are, and how many
+/// calls the reading of its head took.
+fn places_told(alloc: Global, parts: &[(&str, usize)]) -> Result<String, AllocError> {
+    let mut media = device(alloc, digits(alloc, parts)?.as_str(), FailurePoint::Never)?;
+    match read_head(alloc, &mut media, 8_000) {
+        Ok(head) => {
+            let (place, block, frames) = (head.place(), head.layout().block(), head.frames());
+            let (tags, calls) = (head.into_tags().len(), media.calls());
+            format!(in alloc; "{place} {block} {frames} {tags} {calls}")
+        }
+        Err(fault) => format!(in alloc; "{fault:?}"),
+    }
 }
+
+/// A file's start, with a format of 24 bits and one channel at 8,000 frames a second.
+const START: &str =
+    "52494646 00000000 57415645 666d7420 10000000 0100 0100 401f0000 c05d0000 0300 1800";
+
+/// An artist of 1,024 letters, the most that a tag has, and one of a letter more, in a list before two frames.
+const LONGEST_TEXT: &[(&str, usize)] = &[
+    (START, 1),
+    ("4c495354 0c040000 494e464f 49415254 00040000", 1),
+    ("61", 1_024),
+    ("64617461 06000000 000100 ffffff", 1),
+];
+
+const TOO_LONG_TEXT: &[(&str, usize)] = &[
+    (START, 1),
+    ("4c495354 0d040000 494e464f 49415254 01040000", 1),
+    ("61", 1_025),
+    ("00 64617461 06000000 000100 ffffff", 1),
+];
 
 // The calls are the file's size, and a seek and a read for each of eleven: the first twelve bytes, three
 // headers and the format for the samples, three headers, the list's kind, an item's header and its text for
 // the tags.
 #[test]
-fn the_longest_text(rt: HostRuntime) {
-    holds(
-        &rt,
-        long_text_told(&rt, rt.alloc(), 1_024) == (1, 23),
-        "1,024 bytes",
-    );
-    holds(
-        &rt,
-        long_text_told(&rt, rt.alloc(), 1_025) == (0, 23),
-        "1,025 bytes",
-    );
+fn places_and_calls(rt: HostRuntime) -> Result<(), Fail> {
+    wants(places_told(rt.alloc(), LONGEST_TEXT), "1088 3 2 1 23")?;
+    wants(places_told(rt.alloc(), TOO_LONG_TEXT), "1090 3 2 0 23")
 }
 
-/// The bytes of a frame of 24 bits and two channels. The samples are k and -k, above a low byte of 200.
-fn counted_frame(k: u16) -> [u8; 6] {
-    let [a, b] = k.to_le_bytes();
-    let [c, d] = 0u16.wrapping_sub(k).to_le_bytes();
-    [200, a, b, 200, c, d]
-}
-
-/// A file of 24 bits and two channels at this rate. The samples of frame k are k and -k.
-fn counted_frames<R: Abort>(rt: &R, alloc: Global, rate: u32, frames: u16) -> Vec<u8> {
-    let mut all = Vec::new(alloc);
-    add(rt, &mut all, b"RIFF\0\0\0\0WAVEfmt ");
-    add(rt, &mut all, &[16, 0, 0, 0, 1, 0, 2, 0]);
-    add(rt, &mut all, &rate.to_le_bytes());
-    add(rt, &mut all, &rate.wrapping_mul(6).to_le_bytes());
-    add(rt, &mut all, &[6, 0, 24, 0]);
-    add(rt, &mut all, b"data");
-    add(rt, &mut all, &(u32::from(frames) * 6).to_le_bytes());
-    for k in 0..frames {
-        add(rt, &mut all, &counted_frame(k));
-    }
-    all
-}
-
-/// Whether the samples are k and -k, k + 1 and -(k + 1), and so on.
-fn are_counted(frames: &[Frame], first: i16) -> bool {
-    let mut k = first;
-    for frame in frames {
-        if *frame != [k, 0i16.wrapping_sub(k)] {
-            return false;
+/// How many frames a file has; of a block of 1,024, how many calls its reading took, and whether its samples
+/// are all 1 and -1.
+fn block_told(alloc: Global, reader: Reader<FailAt>) -> Result<String, AllocError> {
+    let mut reader = reader;
+    let (all, before) = (reader.head().frames(), reader.media().calls());
+    match reader.frames_at(alloc, 500, 1_024) {
+        Ok(frames) => {
+            let calls = reader.media().calls().wrapping_sub(before);
+            let are_wanted = frames.as_slice() == [[1, -1]; 1_024].as_slice();
+            format!(in alloc; "{all} {calls} {are_wanted}")
         }
-        k = k.wrapping_add(1);
+        Err(fault) => format!(in alloc; "{fault:?}"),
     }
-    true
 }
 
-/// How many frames a file of 2,000 has; of a block of 1,024, how many calls its reading took and how many
-/// frames it has; and whether they are those from frame 500 on.
-fn block_told<R: Abort>(rt: &R, alloc: Global, rate: u32) -> (u64, u64, usize, bool) {
-    let mut media = whole(counted_frames(rt, alloc, rate, 2_000));
-    let head = head(rt, alloc, &mut media, rate);
-    let (all, before) = (head.frames(), calls(&media));
-    let mut reader = Reader::new(media, head);
-    let block = frames(rt, alloc, &mut reader, 500, 1_024);
-    let took = calls(reader.media()).wrapping_sub(before);
-    (all, took, block.len(), are_counted(block.as_slice(), 500))
+/// The same of a file of 24 bits and two channels, with 500 frames of 2 and -2, 1,024 of 1 and -1, and 476
+/// of 2 and -2, above low bytes of 200.
+fn block_of_file_told(alloc: Global, start: &str, rate: u32) -> Result<String, AllocError> {
+    let parts = [
+        (start, 1),
+        ("c80200 c8feff", 500),
+        ("c80100 c8ffff", 1_024),
+        ("c80200 c8feff", 476),
+    ];
+    let digits = digits(alloc, &parts)?;
+    let mut media = device(alloc, digits.as_str(), FailurePoint::Never)?;
+    match read_head(alloc, &mut media, rate) {
+        Ok(head) => block_told(alloc, Reader::new(media, head)),
+        Err(fault) => format!(in alloc; "{fault:?}"),
+    }
 }
+
+/// The starts of files of 2,000 such frames, at 8,000 and at 192,000 a second.
+const LOWEST: &str =
+    "52494646 00000000 57415645 666d7420 10000000 0100 0200 401f0000 80bb0000 0600 1800
+    64617461 e02e0000";
+
+const HIGHEST: &str =
+    "52494646 00000000 57415645 666d7420 10000000 0100 0200 00ee0200 00941100 0600 1800
+    64617461 e02e0000";
 
 // The calls are one seek and one read.
 #[test]
-fn a_block_at_the_lowest_and_highest_rate(rt: HostRuntime) {
-    let want = (2_000, 2, 1_024, true);
-    holds(
-        &rt,
-        block_told(&rt, rt.alloc(), 8_000) == want,
-        "the lowest",
-    );
-    holds(
-        &rt,
-        block_told(&rt, rt.alloc(), 192_000) == want,
-        "the highest",
-    );
+fn a_block_at_the_lowest_and_highest_rate(rt: HostRuntime) -> Result<(), Fail> {
+    let alloc = rt.alloc();
+    wants(block_of_file_told(alloc, LOWEST, 8_000), "2000 2 true")?;
+    wants(block_of_file_told(alloc, HIGHEST, 192_000), "2000 2 true")
 }
 
-/// A reader of the first file.
-fn reader<R: Abort>(rt: &R, alloc: Global, point: FailurePoint) -> Reader<FailAt> {
-    let mut media = device(rt, alloc, FIRST, point);
-    let head = head(rt, alloc, &mut media, 8_000);
-    Reader::new(media, head)
+/// Adds what is read twice of the frames, and how many calls failed.
+fn tell_reader(told: &mut String, alloc: Global, reader: Reader<FailAt>) -> Result<(), AllocError> {
+    let mut reader = reader;
+    tell_ranges(told, alloc, &mut reader, &[(0, 2), (0, 2)])?;
+    told.write_fmt(format_args!(" {}\n", reader.media().failures()))
 }
 
-fn wants_frames<R: Abort>(
-    rt: &R,
+/// The same of the file with the longest text where a call fails, or the fault of its head.
+fn tell_failing(
+    told: &mut String,
     alloc: Global,
-    reader: &mut Reader<FailAt>,
-    range: (u64, usize),
-    wanted: &str,
-) {
-    let frames = frames(rt, alloc, reader, range.0, range.1);
-    let told = format!(in alloc; "{frames:?}").expect(rt, "no memory");
-    wants(rt, "the frames", told.as_str(), wanted);
+    digits: &str,
+    call: u64,
+) -> Result<(), AllocError> {
+    let mut media = device(alloc, digits, FailurePoint::Call(call))?;
+    match read_head(alloc, &mut media, 8_000) {
+        Ok(head) => tell_reader(told, alloc, Reader::new(media, head)),
+        Err(fault) => told.write_fmt(format_args!("{fault:?} {}\n", media.failures())),
+    }
 }
 
-/// Where the samples of a file begin, how long a frame is, and how many frames there are.
-fn places(head: &Head) -> (u64, usize, u64) {
-    (head.place(), head.layout().block(), head.frames())
+/// The same for each of some calls.
+fn failing_told(alloc: Global, first: u64, last: u64) -> Result<String, AllocError> {
+    let digits = digits(alloc, LONGEST_TEXT)?;
+    let mut told = String::new(alloc);
+    for call in first..=last {
+        tell_failing(&mut told, alloc, digits.as_str(), call)?;
+    }
+    Ok(told)
 }
 
-fn tag_count<R: Abort>(rt: &R, alloc: Global) -> usize {
-    let mut media = device(rt, alloc, FIRST, FailurePoint::Never);
-    head(rt, alloc, &mut media, 8_000).into_tags().len()
-}
-
-fn failures(reader: &Reader<FailAt>) -> u64 {
-    reader.media().failures()
-}
-
+// The head takes 23 calls, as above, and the frames a seek and a read.
 #[test]
-fn a_reader(rt: HostRuntime) {
-    chunks_are_those_of_the_bytes();
+fn each_call_fails_in_turn(rt: HostRuntime) -> Result<(), Fail> {
     let alloc = rt.alloc();
-    let mut reader = reader(&rt, alloc, FailurePoint::Never);
-    holds(&rt, places(reader.head()) == (68, 3, 2), "places");
-    for (from, n, expected) in [
-        (0, 1, "[[1, 1]]"),
-        (1, 1, "[[-1, -1]]"),
-        (1, 9, "[[-1, -1]]"),
-        (2, 1, "[]"),
-        (u64::MAX, usize::MAX, "[]"),
-        (0, usize::MAX, "[[1, 1], [-1, -1]]"),
-        (0, 0, "[]"),
-    ] {
-        wants_frames(&rt, alloc, &mut reader, (from, n), expected);
-    }
-    holds(&rt, failures(&reader) == 0, "failures");
-    holds(&rt, tag_count(&rt, alloc) == 1, "tags");
-}
-
-/// How many calls the reading of a head takes.
-fn calls_of_head<R: Abort>(rt: &R, alloc: Global) -> u64 {
-    let mut media = device(rt, alloc, FIRST, FailurePoint::Never);
-    let _head = head(rt, alloc, &mut media, 8_000);
-    calls(&media)
-}
-
-/// Whether the reading of a head ends in a fault of the device.
-fn is_head_refused(alloc: Global, media: &mut FailAt) -> bool {
-    match read_head(alloc, media, 8_000) {
-        Ok(_) => false,
-        Err(fault) => fault == WaveFault::ReadFault,
-    }
-}
-
-/// Whether the reading of a head ends in a fault where a call fails, and how many failures the device counts
-/// then.
-fn failed_head<R: Abort>(rt: &R, alloc: Global, call: u64) -> (bool, u64) {
-    let mut media = device(rt, alloc, FIRST, FailurePoint::Call(call));
-    (is_head_refused(alloc, &mut media), media.failures())
-}
-
-fn are_frames_refused(alloc: Global, reader: &mut Reader<FailAt>) -> bool {
-    match reader.frames_at(alloc, 0, 2) {
-        Ok(_) => false,
-        Err(fault) => fault == WaveFault::ReadFault,
-    }
-}
-
-/// Whether the reading of the frames ends in a fault where a call fails, and how many are read after that.
-fn failed_frames<R: Abort>(rt: &R, alloc: Global, call: u64) -> (bool, usize) {
-    let mut reader = reader(rt, alloc, FailurePoint::Call(call));
-    let is_refused = are_frames_refused(alloc, &mut reader);
-    (is_refused, frames(rt, alloc, &mut reader, 0, 2).len())
-}
-
-fn is_blocked_head_refused<R: Abort>(rt: &R, alloc: Global) -> bool {
-    let bytes = bytes(rt, alloc, FIRST);
-    let mut blocked = FailAt::would_block(bytes, FailurePoint::Call(1));
-    is_head_refused(alloc, &mut blocked)
-}
-
-/// Ends the test where the reading of a head does not end in a fault at one of its calls.
-fn wants_failed_heads<R: Abort>(rt: &R, alloc: Global, calls: u64) {
-    for call in 1..=calls {
-        let told = failed_head(rt, alloc, call);
-        assert!(*rt; told == (true, 1), "call {call}");
-    }
-}
-
-/// The same of the seek and the read of the frames, which come after the calls for the head.
-fn wants_failed_frames<R: Abort>(rt: &R, alloc: Global, calls: u64) {
-    for call in 1..=2 {
-        let told = failed_frames(rt, alloc, calls.saturating_add(call));
-        assert!(*rt; told == (true, 2), "call {call} for the frames");
-    }
-}
-
-#[test]
-fn each_call_fails_in_turn(rt: HostRuntime) {
-    let alloc = rt.alloc();
-    let calls = calls_of_head(&rt, alloc);
-    holds(&rt, calls > 3, "calls");
-    wants_failed_heads(&rt, alloc, calls);
-    wants_failed_frames(&rt, alloc, calls);
-    holds(&rt, is_blocked_head_refused(&rt, alloc), "a blocked device");
-}
-
-#[test]
-fn a_file(rt: HostRuntime) {
-    let name = "wave_of_this_test.wav";
-    let bytes = bytes(&rt, rt.alloc(), FIRST);
-    fs::write(&rt, name, bytes.as_slice()).expect(&rt, "no file");
-    let media = Counting::new(fs::open(&rt, name).expect(&rt, "no file"));
-    let text = shown(&rt, rt.alloc(), media, 8_000);
-    fs::remove_file(&rt, name).expect(&rt, "no file");
-    wants(&rt, "a file", text.as_str(), HIGH);
-}
-
-fn shown_bytes<R: Abort>(rt: &R, alloc: Global) -> String {
-    let media = Counting::new(Cursor::new(bytes(rt, alloc, FIRST)));
-    shown(rt, alloc, media, 8_000)
-}
-
-#[test]
-fn a_device_of_unknown_bytes(rt: HostRuntime) {
-    let told = shown_bytes(&rt, rt.alloc());
-    wants(&rt, "bytes", told.as_str(), HIGH);
+    wants_made(
+        failing_told(alloc, 1, 23),
+        "ReadFault 1\n".repeat(alloc, 23),
+    )?;
+    wants(
+        failing_told(alloc, 24, 25),
+        " ReadFault [[1, 1], [-1, -1]] 1\n ReadFault [[1, 1], [-1, -1]] 1\n",
+    )
 }

@@ -1,12 +1,14 @@
 //! Queues that are edited by steps.
 //!
-//! A step is a line, of a word and numbers, and tells what is answered and what is left. So few functions
-//! hold a queue.
-use crate::steps::{number_of, song};
+//! A step is a line, of a word and numbers, and adds what is answered and what is left. So few functions hold
+//! a queue.
+use crate::steps::{entry, first_word, number_of, song};
 use song_db::SharedSong;
 use song_queue::{Queue, QueueFault};
 use std::alloc::{AllocError, Global};
 use std::ops::Range;
+use std::test::Fail;
+use wanted::wants;
 
 fn songs(alloc: Global, count: usize) -> Result<Vec<SharedSong>, AllocError> {
     let mut songs = Vec::new(alloc);
@@ -16,12 +18,7 @@ fn songs(alloc: Global, count: usize) -> Result<Vec<SharedSong>, AllocError> {
     Ok(songs)
 }
 
-/// An empty queue, of so many entries at most, and of this greatest version and id.
-pub fn empty(alloc: Global, max_len: usize, max_version: u32, max_id: u32) -> Queue {
-    Queue::new(alloc, max_len, max_version.max(1), max_id)
-}
-
-fn word(answer: Result<(), QueueFault>) -> &'static str {
+fn word_of(answer: Result<(), QueueFault>) -> &'static str {
     match answer {
         Ok(()) => "ok",
         Err(QueueFault::NoSuchSong) => "no such song",
@@ -33,114 +30,256 @@ fn word(answer: Result<(), QueueFault>) -> &'static str {
 }
 
 /// What is answered to an insertion of so many songs.
-pub fn inserts(
+fn insert(
     queue: &mut Queue,
     alloc: Global,
     at: usize,
     count: usize,
 ) -> Result<&'static str, AllocError> {
     let songs = songs(alloc, count)?;
-    Ok(word(queue.insert(at, songs)))
+    Ok(word_of(queue.insert(at, songs)))
 }
 
-fn removes(queue: &mut Queue, start: usize, end: usize) -> &'static str {
-    word(queue.remove(start..end))
+/// Puts so many songs into an empty queue, one by one.
+fn insert_each(queue: &mut Queue, alloc: Global, count: usize) -> Result<(), AllocError> {
+    for at in 0..count {
+        let _ok = insert(queue, alloc, at, 1)?;
+    }
+    Ok(())
 }
 
-fn swaps(queue: &mut Queue, a: usize, b: usize) -> &'static str {
-    word(queue.swap(a, b))
+/// The range of two numbers with a colon between them.
+fn range_of(text: &str) -> Range<usize> {
+    match text.split_once(':') {
+        Some((start, end)) => number_of(start) as usize..number_of(end) as usize,
+        None => 0..0,
+    }
 }
 
-fn moves(queue: &mut Queue, start: usize, end: usize, to: usize) -> &'static str {
-    word(queue.move_range(start..end, to))
-}
-
-/// The ranges from each first number to each second one.
-fn ranges(alloc: Global, ends: &[usize]) -> Result<Vec<Range<usize>>, AllocError> {
+fn ranges(alloc: Global, text: &str) -> Result<Vec<Range<usize>>, AllocError> {
     let mut ranges = Vec::new(alloc);
-    for place in 0..ends.len() / 2 {
-        ranges.push(nth(ends, 2 * place)..nth(ends, 2 * place + 1))?;
+    if text.is_empty() {
+        return Ok(ranges);
+    }
+    for range in text.split(' ') {
+        ranges.push(range_of(range))?;
     }
     Ok(ranges)
 }
 
-fn prioritizes(
-    queue: &mut Queue,
-    alloc: Global,
-    priority: usize,
-    ends: &[usize],
-) -> Result<&'static str, AllocError> {
-    let ranges = ranges(alloc, ends)?;
-    Ok(word(queue.set_prio(ranges.as_slice(), (priority % 256) as u8)))
+fn prioritize(queue: &mut Queue, alloc: Global, rest: &str) -> Result<&'static str, AllocError> {
+    let (priority, rest) = first_word(rest);
+    let ranges = ranges(alloc, rest)?;
+    let priority = (number_of(priority) % 256) as u8;
+    Ok(word_of(queue.set_prio(ranges.as_slice(), priority)))
 }
 
-/// The numbers of a text, with a space between each two.
-pub fn numbers(alloc: Global, text: &str) -> Result<Vec<usize>, AllocError> {
-    let mut numbers = Vec::new(alloc);
-    for word in text.split(' ') {
-        numbers.push(number_of(word) as usize)?;
-    }
-    Ok(numbers)
-}
-
-/// The number at a place; 0 where there is none.
-pub fn nth(numbers: &[usize], place: usize) -> usize {
-    match numbers.get(place) {
-        Some(number) => *number,
-        None => 0,
-    }
+/// The first three numbers of a text; 0 for each that is not there.
+fn three_numbers(text: &str) -> (usize, usize, usize) {
+    let (first, rest) = first_word(text);
+    let (second, rest) = first_word(rest);
+    let (third, _) = first_word(rest);
+    (
+        number_of(first) as usize,
+        number_of(second) as usize,
+        number_of(third) as usize,
+    )
 }
 
 /// What is answered to an edit, by its word: `insert` at a place so many, `remove` from a place to one,
 /// `swap` a place and another, `move` from a place to one to a place, and `prio` of a priority and any number
 /// of ranges.
-pub fn edit(
+fn edit(
     queue: &mut Queue,
     alloc: Global,
     word: &str,
-    given: &[usize],
+    rest: &str,
 ) -> Result<&'static str, AllocError> {
-    let (first, second) = (nth(given, 0), nth(given, 1));
-    if word == "insert" {
-        inserts(queue, alloc, first, second)
-    } else if word == "remove" {
-        Ok(removes(queue, first, second))
-    } else if word == "swap" {
-        Ok(swaps(queue, first, second))
-    } else if word == "move" {
-        Ok(moves(queue, first, second, nth(given, 2)))
-    } else {
-        prioritizes(queue, alloc, first, given.get(1..).unwrap_or(&[]))
+    let (first, second, third) = three_numbers(rest);
+    match word {
+        "insert" => insert(queue, alloc, first, second),
+        "remove" => Ok(word_of(queue.remove(first..second))),
+        "swap" => Ok(word_of(queue.swap(first, second))),
+        "move" => Ok(word_of(queue.move_range(first..second, third))),
+        _ => prioritize(queue, alloc, rest),
     }
 }
 
-fn changed_since(queue: &Queue, version: u32) -> Result<Vec<usize>, AllocError> {
-    queue.changed_since(version)
-}
-
-/// The places that changed since a version, with a space before each.
-pub fn changed(queue: &Queue, alloc: Global, version: u32) -> Result<String, AllocError> {
-    let mut all = String::new(alloc);
-    for place in &changed_since(queue, version)? {
+/// Adds places, with a space before each; of many how many these are, and the first and the last.
+fn add_places(all: &mut String, places: &[usize]) -> Result<(), AllocError> {
+    if places.len() > 100 {
+        let count = places.len();
+        let (first, last) = (nth(places, 0), nth(places, count.saturating_sub(1)));
+        return all.write_fmt(format_args!(" {count} places from {first} to {last}"));
+    }
+    for place in places {
         all.write_fmt(format_args!(" {place}"))?;
     }
+    Ok(())
+}
+
+fn nth(places: &[usize], at: usize) -> usize {
+    match places.get(at) {
+        Some(place) => *place,
+        None => 0,
+    }
+}
+
+/// Adds the places that changed since a version.
+fn add_changed(all: &mut String, queue: &Queue, since: u32) -> Result<(), AllocError> {
+    add_places(all, queue.changed_since(since)?.as_slice())
+}
+
+/// Adds an answer, the version, the length, and whether the parity was flipped.
+fn add_note(all: &mut String, queue: &Queue, answer: &str, parity: bool) -> Result<(), AllocError> {
+    let (version, len) = (queue.version(), queue.len());
+    let flipped = if queue.parity() == parity {
+        "stays"
+    } else {
+        "flips"
+    };
+    all.write_fmt(format_args!("{answer} {version} {len} {flipped}"))
+}
+
+/// Whether a place is told of: each, or those at the ends and in the middle of a queue of 16,384.
+fn is_told(place: usize, len: usize) -> bool {
+    len <= 100 || place <= 1 || place == 8_191 || place == 8_192 || place == 16_383
+}
+
+/// Adds the ids and priorities at the places.
+fn add_entries(all: &mut String, queue: &Queue) -> Result<(), AllocError> {
+    let len = queue.len();
+    for place in 0..len {
+        if is_told(place, len) {
+            let (id, priority) = entry(queue, place);
+            all.write_fmt(format_args!(" {id}/{priority}"))?;
+        }
+    }
+    Ok(())
+}
+
+/// Adds an answer, the version and the parity, each entry's id and priority, and the places that changed since
+/// a version.
+fn add_whole(all: &mut String, queue: &Queue, answer: &str, since: u32) -> Result<(), AllocError> {
+    let (version, parity) = (queue.version(), queue.parity());
+    all.write_fmt(format_args!("{answer} {version} {parity}:"))?;
+    add_entries(all, queue)?;
+    all.push_str(" new:")?;
+    add_changed(all, queue, since)
+}
+
+/// Adds what an edit answers and leaves.
+fn add_edit(
+    all: &mut String,
+    queue: &mut Queue,
+    alloc: Global,
+    line: &str,
+    is_whole: bool,
+) -> Result<(), AllocError> {
+    let (word, rest) = first_word(line);
+    let (version, parity) = (queue.version(), queue.parity());
+    let answer = edit(queue, alloc, word, rest)?;
+    if is_whole {
+        add_whole(all, queue, answer, version)
+    } else {
+        add_note(all, queue, answer, parity)
+    }
+}
+
+/// Adds the place of an id, or that it is at none.
+fn add_place(all: &mut String, queue: &Queue, id: u32) -> Result<(), AllocError> {
+    match queue.position_of(id) {
+        Some(place) => all.write_fmt(format_args!("{place}")),
+        None => all.push_str("nowhere"),
+    }
+}
+
+/// Adds the id at a place, and the place that is found for it, after a space.
+fn add_id(all: &mut String, queue: &Queue, place: usize) -> Result<(), AllocError> {
+    let (id, _) = entry(queue, place);
+    all.write_fmt(format_args!(" {id}@"))?;
+    add_place(all, queue, id)
+}
+
+/// The same from place to place.
+fn add_ids(all: &mut String, queue: &Queue) -> Result<(), AllocError> {
+    for place in 0..queue.len() {
+        add_id(all, queue, place)?;
+    }
+    Ok(())
+}
+
+/// Adds what is shown where a step asks for it: `ids`, or, with a number, `new` or `whole` since a version,
+/// `place` or `id`.
+fn show(all: &mut String, queue: &Queue, rest: &str) -> Result<(), AllocError> {
+    let (what, number) = first_word(rest);
+    let number = number_of(number);
+    match what {
+        "new" => add_changed(all, queue, number),
+        "whole" => add_whole(all, queue, "shown", number),
+        "place" => add_place(all, queue, number),
+        "id" => add_id(all, queue, number as usize),
+        _ => add_ids(all, queue),
+    }
+}
+
+/// Adds what a step tells: an edit, alone or after `whole`, or `show` and what is asked for.
+fn add_step(
+    all: &mut String,
+    queue: &mut Queue,
+    alloc: Global,
+    line: &str,
+) -> Result<(), AllocError> {
+    let (word, rest) = first_word(line);
+    match word {
+        "show" => show(all, queue, rest),
+        "whole" => add_edit(all, queue, alloc, rest, true),
+        _ => add_edit(all, queue, alloc, line, false),
+    }
+}
+
+fn add_steps(
+    all: &mut String,
+    queue: &mut Queue,
+    alloc: Global,
+    steps: &str,
+) -> Result<(), AllocError> {
+    for line in steps.lines() {
+        add_step(all, queue, alloc, line)?;
+        all.push('\n')?;
+    }
+    Ok(())
+}
+
+/// The most entries, the greatest version and the greatest id of a queue; how many songs were added to it one
+/// by one; the steps, and what they tell, with a line for each.
+pub type Row<'a> = ((usize, u32, u32), usize, &'a str, &'a str);
+
+pub const GREATEST: (usize, u32, u32) = (16_384, 2_147_483_647, 2_147_483_647);
+
+fn fill_and_step(
+    all: &mut String,
+    queue: &mut Queue,
+    alloc: Global,
+    count: usize,
+    steps: &str,
+) -> Result<(), AllocError> {
+    insert_each(queue, alloc, count)?;
+    add_steps(all, queue, alloc, steps)
+}
+
+fn told(alloc: Global, row: &Row<'_>) -> Result<String, AllocError> {
+    let ((max_len, max_version, max_id), count, steps, _) = *row;
+    let mut all = String::new(alloc);
+    let mut queue = Queue::new(alloc, max_len, max_version.max(1), max_id);
+    fill_and_step(&mut all, &mut queue, alloc, count, steps)?;
     Ok(all)
 }
 
-/// How many places changed since a version.
-pub fn count_changed(queue: &Queue, version: u32) -> Result<usize, AllocError> {
-    Ok(changed_since(queue, version)?.len())
-}
-
-/// The place of an id, or that it is at none.
-pub fn place_of(queue: &Queue, alloc: Global, id: u32) -> Result<String, AllocError> {
-    match queue.position_of(id) {
-        Some(place) => format!(in alloc; "{place}"),
-        None => String::from_str(alloc, "nowhere"),
+/// Fails where the steps of a row tell something else.
+pub fn check_rows(alloc: Global, rows: &[Row<'_>]) -> Result<(), Fail> {
+    for row in rows {
+        wants(told(alloc, row), row.3)?;
     }
-}
-
-/// The version, the length and the parity.
-pub fn state(queue: &Queue) -> (u32, usize, bool) {
-    (queue.version(), queue.len(), queue.parity())
+    Ok(())
 }

@@ -1,93 +1,58 @@
-//! What all tests of this crate use.
+//! What several tests of this crate use.
+//!
+//! What a test needs and cannot make counts as want of memory.
+use library_scan::{ScanFault, Scanned};
 use mpd_text::{Song, Tag, TagName};
-use song_db::{Db, SharedSong};
-use std::alloc::Global;
-use std::process::Abort;
+use std::alloc::{AllocError, Global};
 
-/// Ends the test where what is told of something is not what is wanted.
-pub fn wants<R: Abort>(rt: &R, given: &str, told: &str, wanted: &str) {
-    if told != wanted {
-        panic!(*rt; "{given}: {told}, and not {wanted}");
+/// A song of this URI, so many frames, and one tag, its artist.
+pub fn song(alloc: Global, uri: &str, frames: u64, artist: &str) -> Result<Song, AllocError> {
+    let artist = String::from_str(alloc, artist)?;
+    let mut tags = Vec::new(alloc);
+    tags.push(Tag::new(TagName::Artist, artist))?;
+    match Song::new(String::from_str(alloc, uri)?, tags, frames) {
+        Some(song) => Ok(song),
+        None => Err(AllocError),
     }
 }
 
-/// Ends the test where something does not hold.
-pub fn holds<R: Abort>(rt: &R, is_so: bool, what: &str) {
-    if !is_so {
-        panic!(*rt; "{what}");
+/// Adds the songs of a scan with their frames and how many tags they have, then the files that are none with
+/// their refusals; or why there is no scan.
+pub fn add_scan(told: &mut String, scanned: &Result<Scanned, ScanFault>) -> Result<(), AllocError> {
+    match scanned {
+        Ok(scanned) => add_found(told, scanned),
+        Err(fault) => told.write_fmt(format_args!("{fault:?} ")),
     }
 }
 
-/// The text in memory of its own.
-pub fn owned<R: Abort>(rt: &R, alloc: Global, text: &str) -> String {
-    String::from_str(alloc, text).expect(rt, "no memory")
+fn add_found(told: &mut String, scanned: &Scanned) -> Result<(), AllocError> {
+    for song in &scanned.songs {
+        let (uri, frames, tags) = (song.uri(), song.frames(), song.tags().len());
+        told.write_fmt(format_args!("{uri}={frames}+{tags} "))?;
+    }
+    for file in &scanned.refused {
+        let (uri, name) = (file.uri.as_str(), file.refusal.name());
+        told.write_fmt(format_args!("{uri}:{name} "))?;
+    }
+    Ok(())
 }
 
-/// Adds to a text, and a space after it.
-pub fn push<R: Abort>(rt: &R, all: &mut String, text: &str) {
-    all.push_str(text).expect(rt, "no memory");
-    all.push(' ').expect(rt, "no memory");
-}
-
-/// A text so many times.
-pub fn repeated<R: Abort>(rt: &R, alloc: Global, text: &str, count: usize) -> String {
-    text.repeat(alloc, count).expect(rt, "no memory")
-}
-
-/// The tags of `NAME=TEXT`, with `;` between them; a name is its first letter, but `D` for Date and `C` for
-/// Comment.
-fn tags<R: Abort>(rt: &R, alloc: Global, given: &str) -> Vec<Tag> {
-    let mut all = Vec::new(alloc);
-    for one in given.split(';') {
-        if let Some((name, text)) = one.split_once('=') {
-            all.push(Tag::new(tag_name(name), owned(rt, alloc, text)))
-                .expect(rt, "no memory");
+/// How many songs a scan found, how long the URI of the last is, and how many files are none; or why there is
+/// no scan.
+pub fn size_of(alloc: Global, scanned: &Result<Scanned, ScanFault>) -> Result<String, AllocError> {
+    match scanned {
+        Ok(scanned) => {
+            let (songs, refused) = (scanned.songs.len(), scanned.refused.len());
+            let last = last_length(&scanned.songs);
+            format!(in alloc; "{songs} songs, the last of {last} bytes, {refused} refused")
         }
-    }
-    all
-}
-
-fn tag_name(name: &str) -> TagName {
-    match name {
-        "Title" => TagName::Title,
-        "Artist" => TagName::Artist,
-        _ => TagName::Album,
+        Err(fault) => format!(in alloc; "{fault:?}"),
     }
 }
 
-/// A song of a URI without a newline.
-pub fn song<R: Abort>(rt: &R, alloc: Global, uri: &str, frames: u64, given: &str) -> Song {
-    Song::new(owned(rt, alloc, uri), tags(rt, alloc, given), frames).expect(rt, "a newline")
-}
-
-/// The library of these songs.
-pub fn library<R: Abort>(rt: &R, alloc: Global, songs: Vec<Song>) -> Db {
-    Db::of_songs(alloc, songs).expect(rt, "no library")
-}
-
-/// The URIs of songs, each with a space after it.
-pub fn uris<R: Abort>(rt: &R, alloc: Global, songs: &[SharedSong]) -> String {
-    let mut all = String::new(alloc);
-    for shared in songs {
-        push(rt, &mut all, shared.song().uri());
+fn last_length(songs: &[Song]) -> usize {
+    match songs.last() {
+        Some(song) => song.uri().len(),
+        None => 0,
     }
-    all
-}
-
-/// The same of references.
-pub fn uris_of<R: Abort>(rt: &R, alloc: Global, songs: &[&SharedSong]) -> String {
-    let mut all = String::new(alloc);
-    for shared in songs {
-        push(rt, &mut all, shared.song().uri());
-    }
-    all
-}
-
-/// Texts, each with a space after it.
-pub fn joined<R: Abort>(rt: &R, alloc: Global, texts: &[&str]) -> String {
-    let mut all = String::new(alloc);
-    for text in texts {
-        push(rt, &mut all, text);
-    }
-    all
 }

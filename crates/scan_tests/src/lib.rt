@@ -4,8 +4,6 @@
 #![tactic(auto)]
 
 #[cfg(test)]
-mod big;
-#[cfg(test)]
 mod disk;
 #[cfg(test)]
 mod helpers;

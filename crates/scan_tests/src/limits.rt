@@ -1,12 +1,13 @@
 //! A disk of so many songs, and a file whose reads fail.
 use crate::disk::WAVE;
-use crate::helpers::wants;
+use crate::helpers::size_of;
 use counted_devices::{FailAt, FailurePoint};
 use library_scan::{Content, Disk, Entry, Kind, Seen, Unwatched, content_of, scan_disk};
 use mpd_text::Text;
 use song_db::Rate;
 use std::alloc::{AllocError, Global};
-use std::process::Abort;
+use std::test::Fail;
+use wanted::wants;
 
 /// One folder of so many songs, each of one frame.
 #[derive(Drop)]
@@ -52,64 +53,52 @@ impl Disk for Many {
     }
 }
 
-/// How many songs are found of so many, or why there is no scan.
-fn found<R: Abort>(rt: &R, alloc: Global, count: u32) -> String {
+fn found(alloc: Global, count: u32) -> Result<String, AllocError> {
     let mut disk = Many { left: count };
-    match scan_disk(alloc, &mut disk, &Rate::lowest(), &mut Unwatched) {
-        Ok(scanned) => {
-            let songs = scanned.songs.len();
-            format!(in alloc; "{songs}").expect(rt, "no memory")
-        }
-        Err(fault) => format!(in alloc; "{fault:?}").expect(rt, "no memory"),
-    }
-}
-
-fn check_the_most_songs<R: Abort>(rt: &R, alloc: Global) {
-    wants(rt, "none", found(rt, alloc, 0).as_str(), "0");
-    wants(rt, "all", found(rt, alloc, 100_000).as_str(), "100000");
-    wants(
-        rt,
-        "one more",
-        found(rt, alloc, 100_001).as_str(),
-        "TooMany",
-    );
+    size_of(
+        alloc,
+        &scan_disk(alloc, &mut disk, &Rate::lowest(), &mut Unwatched),
+    )
 }
 
 #[test]
-fn the_most_songs(rt: HostRuntime) {
-    check_the_most_songs(&rt, rt.alloc());
+fn the_most_songs(rt: HostRuntime) -> Result<(), Fail> {
+    wants(
+        found(rt.alloc(), 0),
+        "0 songs, the last of 0 bytes, 0 refused",
+    )?;
+    wants(
+        found(rt.alloc(), 100_000),
+        "100000 songs, the last of 9 bytes, 0 refused",
+    )?;
+    wants(found(rt.alloc(), 100_001), "TooMany")
 }
 
-/// What is kept of the worked file where a call of its device fails.
-fn kept<R: Abort>(rt: &R, alloc: Global, point: FailurePoint) -> &'static str {
+/// Adds what is kept of the worked file where a call of its device fails.
+fn add_kept(told: &mut String, alloc: Global, point: FailurePoint) -> Result<(), AllocError> {
     let mut bytes = Vec::new(alloc);
-    bytes.extend_from_slice(&WAVE).expect(rt, "no memory");
-    match content_of(alloc, &mut FailAt::new(bytes, point), &Rate::lowest()) {
-        Ok(Content::Song(_, 2)) => "two frames",
-        Ok(Content::Refused(refusal)) => refusal.name(),
-        Ok(_) => "something else",
-        Err(_) => "no memory",
+    bytes.extend_from_slice(&WAVE)?;
+    match content_of(alloc, &mut FailAt::new(bytes, point), &Rate::lowest())? {
+        Content::Song(_, frames) => told.write_fmt(format_args!("{frames} frames ")),
+        Content::Refused(refusal) => told.write_fmt(format_args!("{refusal:?} ")),
+        Content::Empty => told.push_str("Empty "),
     }
 }
 
-fn check_failing_reads<R: Abort>(rt: &R, alloc: Global) {
-    for call in [1u64, 2, 3, 4, 5] {
-        wants(
-            rt,
-            "a call fails",
-            kept(rt, alloc, FailurePoint::Call(call)),
-            "ReadFault",
-        );
+fn kept(alloc: Global) -> Result<String, AllocError> {
+    let mut told = String::new(alloc);
+    for call in 1..6u64 {
+        add_kept(&mut told, alloc, FailurePoint::Call(call))?;
     }
-    wants(
-        rt,
-        "none fails",
-        kept(rt, alloc, FailurePoint::Never),
-        "two frames",
-    );
+    add_kept(&mut told, alloc, FailurePoint::Never)?;
+    Ok(told)
 }
 
+/// Each of the five calls fails, and then none.
 #[test]
-fn failing_reads(rt: HostRuntime) {
-    check_failing_reads(&rt, rt.alloc());
+fn failing_reads(rt: HostRuntime) -> Result<(), Fail> {
+    wants(
+        kept(rt.alloc()),
+        "ReadFault ReadFault ReadFault ReadFault ReadFault 2 frames ",
+    )
 }

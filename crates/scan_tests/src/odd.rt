@@ -1,16 +1,17 @@
 //! Folders of a fake system, which tell what no real one tells when a test wants it: a name that is no text,
 //! a listing that breaks off, a file that cannot be opened, and one of more than 2^32 bytes.
-use crate::disk::{WAVE, put, shown};
-use crate::helpers::wants;
+use crate::disk::WAVE;
+use crate::helpers::add_scan;
 use counted_devices::{FailAt, FailurePoint, ReadSeek};
 use library_scan::{Unwatched, scan};
 use song_db::Rate;
-use std::alloc::{Allocator, Global};
-use std::fs::{Metadata, OpenOptions, remove_file};
-use std::io;
+use std::alloc::{AllocError, Allocator, Global};
+use std::fs::{Metadata, OpenOptions};
 use std::io::ErrorKind;
-use std::process::Abort;
 use std::rt::Files;
+use std::test::Fail;
+use std::{fs, io};
+use wanted::wants;
 
 /// What a folder tells; the second has a folder below it whose listing breaks off after its first name.
 const ODD: &[u8] = b"a.wav\0\xff.wav\0shut.wav\0far.wav\0b.wav\0broken\0gone\0c.wav\0";
@@ -21,12 +22,12 @@ const BREAK: u64 = 6;
 
 /// The folder `odd` of fake names. The bytes of its files are those of two real ones.
 #[derive(Clone, Drop)]
-struct Odd<R> {
-    rt: R,
+struct Odd<'a, R> {
+    rt: &'a R,
     alloc: Global,
 }
 
-impl<R: Files> Odd<R> {
+impl<R: Files> Odd<'_, R> {
     fn listing(&self, names: &[u8], point: FailurePoint) -> io::Result<FailAt> {
         let mut bytes = Vec::new(self.alloc);
         bytes.extend_from_slice(names)?;
@@ -34,7 +35,7 @@ impl<R: Files> Odd<R> {
     }
 }
 
-impl<R: Files> Files for Odd<R> {
+impl<R: Files> Files for Odd<'_, R> {
     type File = R::File;
 
     type Dir = FailAt;
@@ -92,27 +93,6 @@ impl<R: Files> Files for Odd<R> {
     }
 }
 
-/// The songs of a fake folder with their frames, then the files that are none with their refusals.
-fn told<R: Files + Abort + Clone + Drop>(rt: &R, alloc: Global, folder: &str) -> String
-where
-    R::File: ReadSeek,
-{
-    let odd = Odd {
-        rt: rt.clone().expect(rt, "no runtime"),
-        alloc,
-    };
-    match scan(
-        &(odd, alloc),
-        alloc,
-        folder,
-        &Rate::lowest(),
-        &mut Unwatched,
-    ) {
-        Ok(scanned) => shown(rt, alloc, &scanned),
-        Err(fault) => format!(in alloc; "{fault:?}").expect(rt, "no memory"),
-    }
-}
-
 /// The worked file with the greatest size of data that a chunk can tell.
 fn far() -> [u8; 75] {
     let mut bytes = WAVE;
@@ -120,29 +100,50 @@ fn far() -> [u8; 75] {
     bytes
 }
 
-fn check_odd_folders<R: Files + AllocGlobal + Abort + Clone + Drop>(rt: &R)
+fn add_odd<R: Files + Clone + Drop>(
+    rt: &R,
+    alloc: Global,
+    told: &mut String,
+    folder: &str,
+) -> Result<(), AllocError>
 where
     R::File: ReadSeek,
 {
-    put(rt, "odd_near", &WAVE);
-    put(rt, "odd_far", &far());
-    let text = told(rt, rt.alloc(), "odd");
-    let broken = told(rt, rt.alloc(), "odd/broken");
-    let gone = told(rt, rt.alloc(), "odd/gone");
-    remove_file(rt, "odd_near").expect(rt, "the file stays");
-    remove_file(rt, "odd_far").expect(rt, "the file stays");
-    // 4,294,967,295 bytes of data, at three a frame
-    wants(
-        rt,
-        "odd names",
-        text.as_str(),
-        "a.wav=2+1 b.wav=2+1 broken/d.wav=2+1 c.wav=2+1 far.wav=1431655765+1 shut.wav:ReadFault ",
-    );
-    wants(rt, "a listing that breaks off", broken.as_str(), "NoFolder");
-    wants(rt, "a folder that is gone", gone.as_str(), "NoFolder");
+    let fake = (Odd { rt, alloc }, alloc);
+    add_scan(
+        told,
+        &scan(&fake, alloc, folder, &Rate::lowest(), &mut Unwatched),
+    )
 }
 
+fn told_of_odd<R: Files + Clone + Drop>(rt: &R, alloc: Global) -> io::Result<String>
+where
+    R::File: ReadSeek,
+{
+    let mut told = String::new(alloc);
+    add_odd(rt, alloc, &mut told, "odd")?;
+    add_odd(rt, alloc, &mut told, "odd/broken")?;
+    add_odd(rt, alloc, &mut told, "odd/gone")?;
+    Ok(told)
+}
+
+fn told<R: Files + AllocGlobal + Clone + Drop>(rt: &R) -> io::Result<String>
+where
+    R::File: ReadSeek,
+{
+    fs::write(rt, "odd_near", &WAVE)?;
+    fs::write(rt, "odd_far", &far())?;
+    let told = told_of_odd(rt, rt.alloc())?;
+    fs::remove_file(rt, "odd_near")?;
+    fs::remove_file(rt, "odd_far")?;
+    Ok(told)
+}
+
+// Of the far file there are 4,294,967,295 bytes of data, at three a frame.
 #[test]
-fn odd_folders(rt: HostRuntime) {
-    check_odd_folders(&rt);
+fn odd_folders(rt: HostRuntime) -> Result<(), Fail> {
+    wants(
+        told(&rt),
+        "a.wav=2+1 b.wav=2+1 broken/d.wav=2+1 c.wav=2+1 far.wav=1431655765+1 shut.wav:ReadFault NoFolder NoFolder ",
+    )
 }

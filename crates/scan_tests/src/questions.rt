@@ -1,184 +1,207 @@
-//! A small library: filters, counts, and folders.
-use crate::helpers::{holds, joined, library, song, uris, uris_of, wants};
+//! A small library and the greatest: filters, counts, and folders.
+//!
+//! Of songs is told how many they are, and the first and the last of them.
+use crate::helpers::song;
 use filters::{Case, Filter, Vocabulary};
-use song_db::{Db, Rate};
-use song_search::{Count, counted, find, is_folder, list_folder, under};
-use std::alloc::Global;
-use std::process::Abort;
+use mpd_text::Song;
+use song_db::{Db, Rate, SharedSong};
+use song_search::{counted, find, is_folder, list_folder, under};
+use std::alloc::{AllocError, Global};
+use std::test::Fail;
+use wanted::wants;
 
-/// Songs in folders: their URIs, frames and tags. The folder `a` comes before `a-b`, though `a-b/y.wav` comes
-/// before `a/x.wav`.
+/// Songs in folders: their URIs, frames and artists. The folder `a` comes before `a-b`, though `a-b/y.wav`
+/// comes before `a/x.wav`.
 const SONGS: [(&str, u64, &str); 10] = [
-    ("a/x.wav", 8_000, "Artist=Zoe;Title=One"),
-    ("a/deep/er/y.wav", 7_999, "Artist=zoe"),
-    ("a/deep/z.wav", 15_999, "Artist=Bee"),
-    ("a-b/y.wav", 4, "Artist=Zoe"),
-    ("a", 8, "Album=A"),
+    ("a/x.wav", 8_000, "Zoe"),
+    ("a/deep/er/y.wav", 7_999, "zoe"),
+    ("a/deep/z.wav", 15_999, "Bee"),
+    ("a-b/y.wav", 4, "Zoe"),
+    ("a", 8, "A"),
     ("a0/n.wav", 8, ""),
     ("d//x.wav", 8, ""),
     ("d/x.wav", 8, ""),
-    ("ab.wav", 8, "Title=One"),
-    ("\u{e9}/\u{e9}.wav", 16, "Artist=\u{c9}mile"),
+    ("ab.wav", 8, "One"),
+    ("\u{e9}/\u{e9}.wav", 16, "\u{c9}mile"),
 ];
 
-fn small<R: Abort>(rt: &R, alloc: Global) -> Db {
+fn library(alloc: Global, songs: Vec<Song>) -> Result<Db, AllocError> {
+    match Db::of_songs(alloc, songs) {
+        Ok(db) => Ok(db),
+        Err(_) => Err(AllocError),
+    }
+}
+
+fn small(alloc: Global) -> Result<Db, AllocError> {
     let mut songs = Vec::new(alloc);
-    for (uri, frames, tags) in SONGS {
-        songs
-            .push(song(rt, alloc, uri, frames, tags))
-            .expect(rt, "no memory");
+    for (uri, frames, artist) in SONGS.iter() {
+        songs.push(song(alloc, uri, *frames, artist)?)?;
     }
-    library(rt, alloc, songs)
+    library(alloc, songs)
 }
 
-fn filter<R: Abort>(rt: &R, alloc: Global, text: &str) -> Filter {
-    Filter::parse(alloc, text, Vocabulary::Base).expect(rt, "no filter")
+/// The song of a number: in a folder of a thousand, with the greatest number of frames and an artist of
+/// hundred.
+fn numbered(alloc: Global, number: u64) -> Result<Song, AllocError> {
+    let (folder, artist) = (number / 1_000, number % 100);
+    let line = format!(in alloc; "{folder:03}/{number:06}.wav;Artist {artist:02}")?;
+    let (uri, artist) = line.as_str().split_once(';').unwrap_or(("", ""));
+    song(alloc, uri, u64::MAX, artist)
 }
 
-fn found<R: Abort>(rt: &R, alloc: Global, db: &Db, text: &str, case: Case) -> String {
-    let songs = find(alloc, db, &filter(rt, alloc, text), case).expect(rt, "no memory");
-    uris_of(rt, alloc, songs.as_slice())
+fn greatest(alloc: Global) -> Result<Db, AllocError> {
+    let mut songs = Vec::new(alloc);
+    for number in 0..100_000u64 {
+        songs.push(numbered(alloc, number)?)?;
+    }
+    library(alloc, songs)
 }
 
-fn check_songs_that_meet_a_filter<R: Abort>(rt: &R, alloc: Global) {
-    let db = small(rt, alloc);
-    let told = found(rt, alloc, &db, "(Artist == 'Zoe')", Case::Heeded);
-    wants(rt, "the artist", told.as_str(), "a-b/y.wav a/x.wav ");
-    let told = found(rt, alloc, &db, "(Artist contains 'ZO')", Case::Ignored);
-    wants(
-        rt,
-        "any case",
-        told.as_str(),
-        "a-b/y.wav a/deep/er/y.wav a/x.wav ",
-    );
-    let told = found(
-        rt,
+fn uri_of<'a>(song: Option<&'a SharedSong>) -> &'a str {
+    match song {
+        Some(song) => song.song().uri(),
+        None => "-",
+    }
+}
+
+fn add_found(
+    told: &mut String,
+    alloc: Global,
+    db: &Db,
+    filter: &Filter,
+    case: Case,
+) -> Result<(), AllocError> {
+    let songs = find(alloc, db, filter, case)?;
+    let first = uri_of(songs.first().copied());
+    let last = uri_of(songs.last().copied());
+    let count = songs.len();
+    told.write_fmt(format_args!("{count} {first} {last} | "))
+}
+
+fn add_count(told: &mut String, db: &Db, filter: &Filter) -> Result<(), AllocError> {
+    let count = counted(db, filter, &Rate::lowest());
+    let (songs, seconds) = (count.songs, count.seconds);
+    told.write_fmt(format_args!("{songs} {seconds}\n"))
+}
+
+/// Adds the songs that meet a filter, the same where the case of letters does not count, and how many they are
+/// with their seconds.
+fn add_filter(told: &mut String, alloc: Global, db: &Db, text: &str) -> Result<(), AllocError> {
+    let Ok(filter) = Filter::parse(alloc, text, Vocabulary::Base) else {
+        return Err(AllocError);
+    };
+    add_found(told, alloc, db, &filter, Case::Heeded)?;
+    add_found(told, alloc, db, &filter, Case::Ignored)?;
+    add_count(told, db, &filter)
+}
+
+fn add_songs_under(told: &mut String, db: &Db, folder: &str) -> Result<(), AllocError> {
+    let is_one = is_folder(db, folder);
+    let songs = under(db, folder);
+    let (count, first, last) = (songs.len(), uri_of(songs.first()), uri_of(songs.last()));
+    told.write_fmt(format_args!("{is_one} | {count} {first} {last} | "))
+}
+
+fn add_listing(told: &mut String, alloc: Global, db: &Db, folder: &str) -> Result<(), AllocError> {
+    let listing = list_folder(alloc, db, folder)?;
+    let (folders, songs) = (listing.folders.len(), listing.songs.len());
+    let first_folder = listing.folders.first().copied().unwrap_or("-");
+    let last_folder = listing.folders.last().copied().unwrap_or("-");
+    let first = uri_of(listing.songs.first().copied());
+    let last = uri_of(listing.songs.last().copied());
+    told.write_fmt(format_args!(
+        "{folders} {first_folder} {last_folder} | {songs} {first} {last}\n"
+    ))
+}
+
+/// Adds whether there is such a folder, the songs below it, and the folders and the songs right in it.
+fn add_folder(told: &mut String, alloc: Global, db: &Db, folder: &str) -> Result<(), AllocError> {
+    add_songs_under(told, db, folder)?;
+    add_listing(told, alloc, db, folder)
+}
+
+/// What is told of filters, one a line, and then of folders.
+fn answers(alloc: Global, db: &Db, filters: &str, folders: &str) -> Result<String, AllocError> {
+    let mut told = String::new(alloc);
+    for filter in filters.split('\n') {
+        add_filter(&mut told, alloc, db, filter)?;
+    }
+    for folder in folders.split('\n') {
+        add_folder(&mut told, alloc, db, folder)?;
+    }
+    Ok(told)
+}
+
+const FILTERS: &str = "(Artist == 'Zoe')
+(Artist contains 'ZO')
+((base 'a/deep') AND (!(Artist == 'Bee')))
+(artist == '\u{e9}MILE')
+(any == 'none')
+(base 'a')
+(base 'a/deep')";
+
+const FOLDERS: &str = "
+a
+a/deep
+d
+d/
+\u{e9}
+ab.wav
+a/x.wav
+a/dee
+A
+a/";
+
+// Frames at 8,000 a second: of `a` 1.000, 0.999 and 1.999 seconds, and of `a/deep` 0.999 and 1.999, where each
+// second cut would be one in all.
+const SMALL_TELLS: &str = "2 a-b/y.wav a/x.wav | 3 a-b/y.wav a/x.wav | 2 1
+0 - - | 3 a-b/y.wav a/x.wav | 0 0
+1 a/deep/er/y.wav a/deep/er/y.wav | 1 a/deep/er/y.wav a/deep/er/y.wav | 1 0
+0 - - | 1 \u{e9}/\u{e9}.wav \u{e9}/\u{e9}.wav | 0 0
+0 - - | 0 - - | 0 0
+3 a/deep/er/y.wav a/x.wav | 3 a/deep/er/y.wav a/x.wav | 3 3
+2 a/deep/er/y.wav a/deep/z.wav | 2 a/deep/er/y.wav a/deep/z.wav | 2 2
+true | 10 a \u{e9}/\u{e9}.wav | 5 a \u{e9} | 2 a ab.wav
+true | 3 a/deep/er/y.wav a/x.wav | 1 a/deep a/deep | 1 a/x.wav a/x.wav
+true | 2 a/deep/er/y.wav a/deep/z.wav | 1 a/deep/er a/deep/er | 1 a/deep/z.wav a/deep/z.wav
+true | 2 d//x.wav d/x.wav | 1 d/ d/ | 1 d/x.wav d/x.wav
+true | 1 d//x.wav d//x.wav | 0 - - | 1 d//x.wav d//x.wav
+true | 1 \u{e9}/\u{e9}.wav \u{e9}/\u{e9}.wav | 0 - - | 1 \u{e9}/\u{e9}.wav \u{e9}/\u{e9}.wav
+false | 0 - - | 0 - - | 0 - -
+false | 0 - - | 0 - - | 0 - -
+false | 0 - - | 0 - - | 0 - -
+false | 0 - - | 0 - - | 0 - -
+false | 0 - - | 0 - - | 0 - -
+";
+
+fn told_of_small(alloc: Global) -> Result<String, AllocError> {
+    answers(alloc, &small(alloc)?, FILTERS, FOLDERS)
+}
+
+#[test]
+fn a_small_library(rt: HostRuntime) -> Result<(), Fail> {
+    wants(told_of_small(rt.alloc()), SMALL_TELLS)
+}
+
+// At 8,000 a second 2^64-1 frames are 2305843009213693951 thousandths, cut, of each song.
+const GREATEST_TELLS: &str =
+    "100000 000/000000.wav 099/099999.wav | 100000 000/000000.wav 099/099999.wav | 100000 230584300921369395100
+true | 100000 000/000000.wav 099/099999.wav | 100 000 099 | 0 - -
+true | 1000 050/050000.wav 050/050999.wav | 0 - - | 1000 050/050000.wav 050/050999.wav
+true | 1000 099/099000.wav 099/099999.wav | 0 - - | 1000 099/099000.wav 099/099999.wav
+false | 0 - - | 0 - - | 0 - -
+";
+
+fn told_of_greatest(alloc: Global) -> Result<String, AllocError> {
+    answers(
         alloc,
-        &db,
-        "((base 'a/deep') AND (!(Artist == 'Bee')))",
-        Case::Heeded,
-    );
-    wants(rt, "a folder", told.as_str(), "a/deep/er/y.wav ");
-    let told = found(rt, alloc, &db, "(artist == '\u{e9}MILE')", Case::Ignored);
-    wants(rt, "folding", told.as_str(), "\u{e9}/\u{e9}.wav ");
-    let told = found(rt, alloc, &db, "(any == 'none')", Case::Heeded);
-    wants(rt, "none", told.as_str(), "");
+        &greatest(alloc)?,
+        "(any contains 'Artist')",
+        "\n050\n099\n100",
+    )
 }
 
 #[test]
-fn songs_that_meet_a_filter(rt: HostRuntime) {
-    check_songs_that_meet_a_filter(&rt, rt.alloc());
-}
-
-fn count<R: Abort>(rt: &R, alloc: Global, db: &Db, text: &str) -> Count {
-    counted(db, &filter(rt, alloc, text), &Rate::lowest())
-}
-
-fn check_counts<R: Abort>(rt: &R, alloc: Global) {
-    let db = small(rt, alloc);
-    // 1.000, 0.999 and 1.999 seconds
-    let told = count(rt, alloc, &db, "(base 'a')");
-    holds(rt, told.songs == 3, "three songs");
-    holds(rt, told.seconds == 3, "three seconds");
-    // 0.999 and 1.999: each second cut would be one in all
-    let told = count(rt, alloc, &db, "(base 'a/deep')");
-    holds(rt, told.songs == 2 && told.seconds == 2, "two seconds");
-    let told = count(rt, alloc, &db, "(any == 'none')");
-    holds(rt, told.songs == 0 && told.seconds == 0, "none");
-}
-
-#[test]
-fn counts(rt: HostRuntime) {
-    check_counts(&rt, rt.alloc());
-}
-
-fn songs_under<R: Abort>(rt: &R, alloc: Global, folder: &str) -> String {
-    let db = small(rt, alloc);
-    uris(rt, alloc, under(&db, folder))
-}
-
-fn check_songs_under_a_folder<R: Abort>(rt: &R, alloc: Global) {
-    let told = songs_under(rt, alloc, "a");
-    wants(
-        rt,
-        "a",
-        told.as_str(),
-        "a/deep/er/y.wav a/deep/z.wav a/x.wav ",
-    );
-    let told = songs_under(rt, alloc, "");
-    wants(
-        rt,
-        "all",
-        told.as_str(),
-        "a a-b/y.wav a/deep/er/y.wav a/deep/z.wav a/x.wav a0/n.wav ab.wav d//x.wav d/x.wav \u{e9}/\u{e9}.wav ",
-    );
-    let told = songs_under(rt, alloc, "d/");
-    wants(rt, "an empty name", told.as_str(), "d//x.wav ");
-    let told = songs_under(rt, alloc, "ab.wav");
-    wants(rt, "a song", told.as_str(), "");
-    let told = songs_under(rt, alloc, "\u{e9}");
-    wants(rt, "two bytes", told.as_str(), "\u{e9}/\u{e9}.wav ");
-}
-
-#[test]
-fn songs_under_a_folder(rt: HostRuntime) {
-    check_songs_under_a_folder(&rt, rt.alloc());
-}
-
-fn is_one<R: Abort>(rt: &R, alloc: Global, folder: &str) -> bool {
-    is_folder(&small(rt, alloc), folder)
-}
-
-fn is_one_of_none<R: Abort>(rt: &R, alloc: Global, folder: &str) -> bool {
-    is_folder(&library(rt, alloc, Vec::new(alloc)), folder)
-}
-
-fn check_folders<R: Abort>(rt: &R, alloc: Global) {
-    for folder in ["", "a", "a/deep", "d/"] {
-        assert!(*rt; is_one(rt, alloc, folder), "{folder} is a folder");
-    }
-    for folder in ["ab.wav", "a/x.wav", "a/dee", "A", "a/"] {
-        assert!(*rt; !is_one(rt, alloc, folder), "{folder} is no folder");
-    }
-    holds(rt, is_one_of_none(rt, alloc, ""), "the whole library");
-    holds(rt, !is_one_of_none(rt, alloc, "a"), "none");
-}
-
-#[test]
-fn folders(rt: HostRuntime) {
-    check_folders(&rt, rt.alloc());
-}
-
-/// The folders and the songs right in a folder, with a `|` between them.
-fn within<R: Abort>(rt: &R, alloc: Global, folder: &str) -> String {
-    let db = small(rt, alloc);
-    let listing = list_folder(alloc, &db, folder).expect(rt, "no memory");
-    let mut all = joined(rt, alloc, listing.folders.as_slice());
-    let songs = uris_of(rt, alloc, listing.songs.as_slice());
-    all.push_str("| ").expect(rt, "no memory");
-    all.push_str(songs.as_str()).expect(rt, "no memory");
-    all
-}
-
-fn check_what_lies_in_a_folder<R: Abort>(rt: &R, alloc: Global) {
-    let told = within(rt, alloc, "");
-    wants(
-        rt,
-        "the root",
-        told.as_str(),
-        "a a-b a0 d \u{e9} | a ab.wav ",
-    );
-    let told = within(rt, alloc, "a");
-    wants(rt, "a", told.as_str(), "a/deep | a/x.wav ");
-    let told = within(rt, alloc, "a/deep");
-    wants(rt, "a/deep", told.as_str(), "a/deep/er | a/deep/z.wav ");
-    let told = within(rt, alloc, "d");
-    wants(rt, "d", told.as_str(), "d/ | d/x.wav ");
-    let told = within(rt, alloc, "ab.wav");
-    wants(rt, "a song", told.as_str(), "| ");
-}
-
-#[test]
-fn what_lies_in_a_folder(rt: HostRuntime) {
-    check_what_lies_in_a_folder(&rt, rt.alloc());
+fn the_greatest_library(rt: HostRuntime) -> Result<(), Fail> {
+    wants(told_of_greatest(rt.alloc()), GREATEST_TELLS)
 }

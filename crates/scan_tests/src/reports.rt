@@ -1,115 +1,93 @@
-//! What a scan prints.
-use crate::helpers::{owned, wants};
+//! What a scan prints, and what is told of it.
+use crate::helpers::song;
 use library_scan::{Refusal, Refused, Scanned};
-use mpd_text::{Song, Tag, TagName, Text};
+use mpd_text::{Song, Text};
 use scan_report::{found_text, per_second, rate_text, report_of};
 use song_db::Rate;
-use std::alloc::Global;
-use std::process::Abort;
+use std::alloc::{AllocError, Global};
+use std::test::Fail;
+use wanted::wants;
 
-fn song<R: Abort>(rt: &R, alloc: Global, uri: &str, title: &str, frames: u64) -> Song {
-    let mut tags = Vec::new(alloc);
-    tags.push(Tag::new(TagName::Title, owned(rt, alloc, title)))
-        .expect(rt, "no memory");
-    Song::new(owned(rt, alloc, uri), tags, frames).expect(rt, "a newline")
-}
-
-fn refused<R: Abort>(rt: &R, alloc: Global, uri: &str, refusal: Refusal) -> Refused {
-    let uri = Text::of(owned(rt, alloc, uri));
-    Refused { uri, refusal }
-}
-
-fn scanned<R: Abort>(rt: &R, alloc: Global) -> Scanned {
+fn songs(alloc: Global) -> Result<Vec<Song>, AllocError> {
     let mut songs = Vec::new(alloc);
-    songs
-        .push(song(rt, alloc, "a/x.wav", "Hi", 12_001))
-        .expect(rt, "no memory");
-    songs
-        .push(song(rt, alloc, "b.wav", "Bee", 8))
-        .expect(rt, "no memory");
-    let mut none = Vec::new(alloc);
-    none.push(refused(rt, alloc, "c.wav", Refusal::NotRiff))
-        .expect(rt, "no memory");
-    none.push(refused(rt, alloc, "d.wav", Refusal::ReadFault))
-        .expect(rt, "no memory");
-    Scanned {
+    songs.push(song(alloc, "a/x.wav", 12_001, "Hi")?)?;
+    songs.push(song(alloc, "b.wav", 8, "Bee")?)?;
+    Ok(songs)
+}
+
+/// Files that are none: the first is no RIFF file, the others cannot be read.
+fn refused(alloc: Global, uris: &str) -> Result<Vec<Refused>, AllocError> {
+    let mut refused = Vec::new(alloc);
+    for line in uris.lines() {
+        let uri = Text::new(alloc, line)?;
+        let refusal = if line == "c.wav" {
+            Refusal::NotRiff
+        } else {
+            Refusal::ReadFault
+        };
+        refused.push(Refused { uri, refusal })?;
+    }
+    Ok(refused)
+}
+
+fn scanned(alloc: Global, uris: &str) -> Result<Scanned, AllocError> {
+    let songs = songs(alloc)?;
+    Ok(Scanned {
         songs,
-        refused: none,
-    }
+        refused: refused(alloc, uris)?,
+    })
 }
 
-fn check_a_report<R: Abort>(rt: &R, alloc: Global) {
-    let report = report_of(alloc, &scanned(rt, alloc), &Rate::lowest()).expect(rt, "no memory");
-    wants(
-        rt,
-        "songs",
-        report.songs.as_str(),
-        "file: a/x.wav\nTitle: Hi\nTime: 2\nduration: 1.500\nfile: b.wav\nTitle: Bee\nTime: 0\nduration: 0.001\n",
-    );
-    wants(
-        rt,
-        "others",
-        report.refused.as_str(),
-        "c.wav: NotRiff\nd.wav: ReadFault\n",
-    );
+fn report(alloc: Global) -> Result<String, AllocError> {
+    let report = report_of(alloc, &scanned(alloc, "c.wav\nd.wav")?, &Rate::lowest())?;
+    let (songs, refused) = (report.songs.as_str(), report.refused.as_str());
+    format!(in alloc; "{songs}{refused}")
 }
 
 #[test]
-fn a_report(rt: HostRuntime) {
-    check_a_report(&rt, rt.alloc());
+fn a_report(rt: HostRuntime) -> Result<(), Fail> {
+    wants(
+        report(rt.alloc()),
+        "file: a/x.wav
+Artist: Hi
+Time: 2
+duration: 1.500
+file: b.wav
+Artist: Bee
+Time: 0
+duration: 0.001
+c.wav: NotRiff
+d.wav: ReadFault
+",
+    )
 }
 
-fn check_what_is_told<R: Abort>(rt: &R, alloc: Global) {
-    let mut found = scanned(rt, alloc);
-    let told = found_text(alloc, &found).expect(rt, "no memory");
+fn found(alloc: Global, uris: &str) -> Result<String, AllocError> {
+    found_text(alloc, &scanned(alloc, uris)?)
+}
+
+/// How many songs were found: of reasons as common the first is told, else the commonest, and none where all
+/// are songs. At which rate they are, and how fast names were looked at.
+#[test]
+fn what_is_told(rt: HostRuntime) -> Result<(), Fail> {
     wants(
-        rt,
-        "two reasons as common",
-        told.as_str(),
+        found(rt.alloc(), "c.wav\nd.wav"),
         "2 songs, 2 files are none (NotRiff 1)",
-    );
-    found
-        .refused
-        .push(refused(rt, alloc, "e.wav", Refusal::ReadFault))
-        .expect(rt, "no memory");
-    let told = found_text(alloc, &found).expect(rt, "no memory");
+    )?;
     wants(
-        rt,
-        "the commonest reason",
-        told.as_str(),
+        found(rt.alloc(), "c.wav\nd.wav\ne.wav"),
         "2 songs, 3 files are none (ReadFault 2)",
-    );
-    found.refused.clear();
-    let told = found_text(alloc, &found).expect(rt, "no memory");
-    wants(rt, "all are songs", told.as_str(), "2 songs");
-    let told = rate_text(alloc, 2, 3, 8_000).expect(rt, "no memory");
+    )?;
+    wants(found(rt.alloc(), ""), "2 songs")?;
     wants(
-        rt,
-        "a rate",
-        told.as_str(),
+        rate_text(rt.alloc(), 2, 3, 8_000),
         "2 of 3 files are at 8000 frames a second; set rate = 8000, or see music_daemon scan DIR",
-    );
+    )?;
+    wants(speeds(rt.alloc()), "0 0 3 4294967296000")
 }
 
-#[test]
-fn what_is_told(rt: HostRuntime) {
-    check_what_is_told(&rt, rt.alloc());
-}
-
-fn check_speeds<R: Abort>(rt: &R, alloc: Global) {
-    for (names, millis, wanted) in [
-        (0u64, 0u128, "0"),
-        (7, 0, "0"),
-        (7, 2_000, "3"),
-        (4_294_967_296, 1, "4294967296000"),
-    ] {
-        let speed = per_second(names, millis);
-        let told = format!(in alloc; "{speed}").expect(rt, "no memory");
-        wants(rt, "a speed", told.as_str(), wanted);
-    }
-}
-
-#[test]
-fn speeds(rt: HostRuntime) {
-    check_speeds(&rt, rt.alloc());
+fn speeds(alloc: Global) -> Result<String, AllocError> {
+    let (none, at_once) = (per_second(0, 0), per_second(7, 0));
+    let (cut, greatest) = (per_second(7, 2_000), per_second(4_294_967_296, 1));
+    format!(in alloc; "{none} {at_once} {cut} {greatest}")
 }

@@ -1,156 +1,237 @@
 //! Texts as settings.
-use crate::helpers::{owned, wants};
-use settings::{Settings, SettingsFault, settings};
-use std::alloc::Global;
-use std::process::Abort;
+use settings::{OutputSettings, Settings, SettingsFault, settings};
+use std::alloc::{AllocError, Global};
+use std::test::Fail;
+use wanted::wants;
 
-/// The settings that a text says in one line, or the key for which it is refused.
-fn told<R: Abort>(rt: &R, alloc: Global, text: &str) -> String {
-    match settings(alloc, text) {
-        Ok(settings) => line_of(rt, alloc, &settings),
-        Err(SettingsFault::BadSetting(key)) => {
-            let key = key.as_str();
-            format!(in alloc; "BadSetting({key})").expect(rt, "no memory")
-        }
-        Err(SettingsFault::NoMemory) => owned(rt, alloc, "no memory"),
+/// The settings that a text says, or the key for which it is refused.
+fn told(alloc: Global, before: &str, lines: &str) -> Result<String, AllocError> {
+    let text = format!(in alloc; "{before}{lines}")?;
+    match settings(alloc, text.as_str()) {
+        Ok(settings) => line_of(alloc, &settings),
+        Err(SettingsFault::BadSetting(key)) => format!(in alloc; "BadSetting({key})"),
+        Err(SettingsFault::NoMemory) => Err(AllocError),
     }
 }
 
-fn line_of<R: Abort>(rt: &R, alloc: Global, settings: &Settings) -> String {
+fn line_of(alloc: Global, settings: &Settings) -> Result<String, AllocError> {
+    let mut line = String::new(alloc);
+    add_settings(&mut line, settings)?;
+    add_outputs(&mut line, settings.outputs.as_slice())?;
+    Ok(line)
+}
+
+fn add_settings(line: &mut String, settings: &Settings) -> Result<(), AllocError> {
     let (music, listen) = (settings.music.as_str(), settings.listen.as_str());
-    let shelf = match &settings.shelf {
-        Some(shelf) => shelf.as_str(),
-        None => "-",
-    };
+    let (shelf, state) = (path_of(&settings.shelf), path_of(&settings.state));
     let (rate, start) = (settings.rate.frames(), settings.random_start);
     let (history, ring, kill) = (settings.history, settings.ring, settings.kill);
-    let mut line = format!(in alloc;
-        "{music} {listen} {shelf} {rate} {start} {history} {ring} {kill}"
-    ).expect(rt, "no memory");
-    if let Some(state) = &settings.state {
-        let more = format!(in alloc; " state={state}").expect(rt, "no memory");
-        line.push_str(more.as_str()).expect(rt, "no memory");
+    line.write_fmt(format_args!(
+        "{music} {listen} {shelf} {state} {rate} {start} {history} {ring} {kill}"
+    ))
+}
+
+fn path_of(path: &Option<String>) -> &str {
+    match path {
+        Some(path) => path.as_str(),
+        None => "-",
     }
-    for output in settings.outputs.as_slice() {
+}
+
+fn add_outputs(line: &mut String, outputs: &[OutputSettings]) -> Result<(), AllocError> {
+    for output in outputs {
         let (name, path, enabled) = (output.name.as_str(), output.path.as_str(), output.enabled);
-        let more = format!(in alloc; " {name}={path}:{enabled}").expect(rt, "no memory");
-        line.push_str(more.as_str()).expect(rt, "no memory");
+        line.write_fmt(format_args!(" {name}={path}:{enabled}"))?;
     }
-    line
+    Ok(())
 }
 
-/// The lines between bars, with the two keys that must be there before them.
-fn with_needed<R: Abort>(rt: &R, alloc: Global, lines: &str) -> String {
-    let mut text = owned(rt, alloc, "music = \"/m\"\nlisten = \"127.0.0.1:0\"");
-    for line in lines.split(" | ") {
-        text.push('\n').expect(rt, "no memory");
-        text.push_str(line).expect(rt, "no memory");
-    }
-    text
+/// The lines of a text, and after `=>` what they come to.
+fn comes_to(alloc: Global, before: &str, lines: &str) -> Result<(), Fail> {
+    let (lines, wanted) = lines.split_once("=> ").unwrap_or((lines, "?"));
+    wants(told(alloc, before, lines), wanted)
 }
 
-/// What is added to the two keys that must be there, its lines between bars, and what the whole comes to.
-const ADDED: &str = " => /m 127.0.0.1:0 - 44100 0 4096 8192 false
-shelf = \"/s\" | kill = true => /m 127.0.0.1:0 /s 44100 0 4096 8192 true
-state = \"/t\" => /m 127.0.0.1:0 - 44100 0 4096 8192 false state=/t
-rate = 8000 | history = 1 | ring = 1024 => /m 127.0.0.1:0 - 8000 0 1 1024 false
-rate = 192000 | history = 65536 | ring = 65536 => /m 127.0.0.1:0 - 192000 0 65536 65536 false
-random_start = 9223372036854775807 => /m 127.0.0.1:0 - 44100 9223372036854775807 4096 8192 false
-random_start = 0x10 => /m 127.0.0.1:0 - 44100 16 4096 8192 false
-output = [] => /m 127.0.0.1:0 - 44100 0 4096 8192 false
-[[output]] | name = \"b\" | path = \"/b\" | [[output]] | name = \"a\" | path = \"/a\" | enabled = false => /m 127.0.0.1:0 - 44100 0 4096 8192 false b=/b:true a=/a:false
-port = 1 => BadSetting(port)
-a.b = 1 => BadSetting(a)
-rate = 7999 => BadSetting(rate)
-rate = 192001 => BadSetting(rate)
-rate = 44100.0 => BadSetting(rate)
-history = 0 => BadSetting(history)
-history = 65537 => BadSetting(history)
-ring = 1023 => BadSetting(ring)
-ring = 65537 => BadSetting(ring)
-random_start = -1 => BadSetting(random_start)
-random_start = 9223372036854775808 => BadSetting()
-kill = 1 => BadSetting(kill)
-shelf = 1 => BadSetting(shelf)
-state = 1 => BadSetting(state)
-zone = 1 | rate = 1 | port = 1 => BadSetting(port)
-port = 1 | Zone = 1 => BadSetting(Zone)
-\"é\" = 1 | zone = 1 => BadSetting(zone)
-output = 1 => BadSetting(output)
-[output] | name = \"a\" | path = \"/a\" => BadSetting(output)
-[[output]] | name = \"a\" => BadSetting(output)
-[[output]] | name = \"a\" | path = \"/a\" | port = 1 => BadSetting(output)
-[[output]] | name = \"a\" | path = \"/a\" | enabled = 1 => BadSetting(output)
-";
-
-fn check_pair<R: Abort>(rt: &R, alloc: Global, pair: &str) {
-    let (lines, wanted) = pair.split_once(" => ").unwrap_or((pair, "?"));
-    let whole = with_needed(rt, alloc, lines);
-    wants(rt, lines, told(rt, alloc, whole.as_str()).as_str(), wanted);
+/// The same of each, with an empty line between them.
+fn each_comes_to(alloc: Global, before: &str, texts: &str) -> Result<(), Fail> {
+    for lines in texts.split("\n\n") {
+        comes_to(alloc, before, lines)?;
+    }
+    Ok(())
 }
 
-fn check_added<R: Abort>(rt: &R, alloc: Global) {
-    for pair in ADDED.lines() {
-        check_pair(rt, alloc, pair);
-    }
+/// The keys that must be there.
+const NEEDED: &str = "music = \"/m\"\nlisten = \"127.0.0.1:0\"\n";
+
+const ADDED: &str = "=> /m 127.0.0.1:0 - - 44100 0 4096 8192 false
+
+shelf = \"/s\"
+kill = true
+=> /m 127.0.0.1:0 /s - 44100 0 4096 8192 true
+
+state = \"/t\"
+=> /m 127.0.0.1:0 - /t 44100 0 4096 8192 false
+
+rate = 8000
+history = 1
+ring = 1024
+=> /m 127.0.0.1:0 - - 8000 0 1 1024 false
+
+rate = 192000
+history = 65536
+ring = 65536
+=> /m 127.0.0.1:0 - - 192000 0 65536 65536 false
+
+random_start = 9223372036854775807
+=> /m 127.0.0.1:0 - - 44100 9223372036854775807 4096 8192 false
+
+random_start = 0x10
+=> /m 127.0.0.1:0 - - 44100 16 4096 8192 false
+
+output = []
+=> /m 127.0.0.1:0 - - 44100 0 4096 8192 false
+
+[[output]]
+name = \"b\"
+path = \"/b\"
+[[output]]
+name = \"a\"
+path = \"/a\"
+enabled = false
+=> /m 127.0.0.1:0 - - 44100 0 4096 8192 false b=/b:true a=/a:false
+
+port = 1
+=> BadSetting(port)
+
+a.b = 1
+=> BadSetting(a)
+
+rate = 7999
+=> BadSetting(rate)
+
+rate = 192001
+=> BadSetting(rate)
+
+rate = 44100.0
+=> BadSetting(rate)
+
+history = 0
+=> BadSetting(history)
+
+history = 65537
+=> BadSetting(history)
+
+ring = 1023
+=> BadSetting(ring)
+
+ring = 65537
+=> BadSetting(ring)
+
+random_start = -1
+=> BadSetting(random_start)
+
+random_start = 9223372036854775808
+=> BadSetting()
+
+kill = 1
+=> BadSetting(kill)
+
+shelf = 1
+=> BadSetting(shelf)
+
+state = 1
+=> BadSetting(state)
+
+zone = 1
+rate = 1
+port = 1
+=> BadSetting(port)
+
+port = 1
+Zone = 1
+=> BadSetting(Zone)
+
+\"é\" = 1
+zone = 1
+=> BadSetting(zone)
+
+output = 1
+=> BadSetting(output)
+
+[output]
+name = \"a\"
+path = \"/a\"
+=> BadSetting(output)
+
+[[output]]
+name = \"a\"
+=> BadSetting(output)
+
+[[output]]
+name = \"a\"
+path = \"/a\"
+port = 1
+=> BadSetting(output)
+
+[[output]]
+name = \"a\"
+path = \"/a\"
+enabled = 1
+=> BadSetting(output)";
+
+/// What is added to the keys that must be there.
+#[test]
+fn added_keys(rt: HostRuntime) -> Result<(), Fail> {
+    each_comes_to(rt.alloc(), NEEDED, ADDED)
+}
+
+const WHOLE: &str = "music = \"/m\"
+=> BadSetting(listen)
+
+listen = \"127.0.0.1:0\"
+=> BadSetting(music)
+
+=> BadSetting(listen)
+
+# nothing
+=> BadSetting(listen)
+
+port = 1
+=> BadSetting(port)
+
+music = 1
+=> BadSetting(music)
+
+music
+=> BadSetting()
+
+music = \"/m\"
+music = \"/m\"
+=> BadSetting()
+
+\"\" = 1
+=> BadSetting()
+
+listen = \"\"
+music = \"\"
+=>   - - 44100 0 4096 8192 false";
+
+#[test]
+fn whole_texts(rt: HostRuntime) -> Result<(), Fail> {
+    each_comes_to(rt.alloc(), "", WHOLE)
+}
+
+const OUTPUT: &str = "[[output]]\nname = \"a\"\npath = \"/a\"\n";
+
+fn told_of_outputs(alloc: Global, count: usize) -> Result<String, AllocError> {
+    told(alloc, NEEDED, OUTPUT.repeat(alloc, count)?.as_str())
 }
 
 #[test]
-fn added_keys(rt: HostRuntime) {
-    check_added(&rt, rt.alloc());
-}
-
-/// Whole texts, and what they come to.
-const WHOLE: [(&str, &str); 10] = [
-    ("music = \"/m\"", "BadSetting(listen)"),
-    ("listen = \"127.0.0.1:0\"", "BadSetting(music)"),
-    ("", "BadSetting(listen)"),
-    ("# nothing", "BadSetting(listen)"),
-    ("port = 1", "BadSetting(port)"),
-    ("music = 1", "BadSetting(music)"),
-    ("music", "BadSetting()"),
-    ("music = \"/m\"\nmusic = \"/m\"", "BadSetting()"),
-    ("\"\" = 1", "BadSetting()"),
-    ("listen = \"\"\nmusic = \"\"", "  - 44100 0 4096 8192 false"),
-];
-
-fn check_whole<R: Abort>(rt: &R, alloc: Global) {
-    for (text, wanted) in WHOLE {
-        wants(rt, text, told(rt, alloc, text).as_str(), wanted);
-    }
-}
-
-#[test]
-fn whole_texts(rt: HostRuntime) {
-    check_whole(&rt, rt.alloc());
-}
-
-/// A text with so many outputs.
-fn with_outputs<R: Abort>(rt: &R, alloc: Global, count: u32) -> String {
-    let mut text = with_needed(rt, alloc, "");
-    for _ in 0..count {
-        text.push_str("[[output]]\nname = \"a\"\npath = \"/a\"\n")
-            .expect(rt, "no memory");
-    }
-    text
-}
-
-fn check_outputs<R: Abort>(rt: &R, alloc: Global) {
+fn most_outputs(rt: HostRuntime) -> Result<(), Fail> {
     wants(
-        rt,
-        "8 outputs",
-        told(rt, alloc, with_outputs(rt, alloc, 8).as_str()).as_str(),
-        "/m 127.0.0.1:0 - 44100 0 4096 8192 false a=/a:true a=/a:true a=/a:true a=/a:true a=/a:true a=/a:true a=/a:true a=/a:true",
-    );
-    wants(
-        rt,
-        "9 outputs",
-        told(rt, alloc, with_outputs(rt, alloc, 9).as_str()).as_str(),
-        "BadSetting(output)",
-    );
-}
-
-#[test]
-fn most_outputs(rt: HostRuntime) {
-    check_outputs(&rt, rt.alloc());
+        told_of_outputs(rt.alloc(), 8),
+        "/m 127.0.0.1:0 - - 44100 0 4096 8192 false a=/a:true a=/a:true a=/a:true a=/a:true a=/a:true a=/a:true a=/a:true a=/a:true",
+    )?;
+    wants(told_of_outputs(rt.alloc(), 9), "BadSetting(output)")
 }

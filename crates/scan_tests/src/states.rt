@@ -1,8 +1,8 @@
 //! What is kept of a player, as lines.
-use crate::helpers::wants;
 use kept_state::{kept_of, state_text};
 use std::alloc::{AllocError, Global};
-use std::process::Abort;
+use std::test::Fail;
+use wanted::{wants, wants_made};
 
 const OPTIONS: &str = "setvol 100\nrepeat 0\nrandom 0\nsingle 0\nconsume 0\ncrossfade 0\n";
 
@@ -38,32 +38,24 @@ fn text_of(alloc: Global, answers: &str) -> Result<String, AllocError> {
     state_text(alloc, &kept)
 }
 
-fn check_states<R: Abort>(rt: &R, alloc: Global) {
-    for (answers, lines) in ANSWERS {
-        let text = text_of(alloc, answers).expect(rt, "no memory");
-        let wanted = format!(in alloc; "{OPTIONS}{lines}").expect(rt, "no memory");
-        wants(rt, answers, text.as_str(), wanted.as_str());
+/// What is kept of a player that answered so is these lines.
+fn gives(alloc: Global, answers: &str, lines: &str) -> Result<(), Fail> {
+    wants_made(
+        text_of(alloc, answers),
+        format!(in alloc; "{OPTIONS}{lines}"),
+    )
+}
+
+#[test]
+fn states(rt: HostRuntime) -> Result<(), Fail> {
+    for (answers, lines) in ANSWERS.iter() {
+        gives(rt.alloc(), answers, lines)?;
     }
-}
-
-#[test]
-fn states(rt: HostRuntime) {
-    check_states(&rt, rt.alloc());
-}
-
-fn check_options<R: Abort>(rt: &R, alloc: Global) {
-    let answers =
-        "volume: 7\nrepeat: 1\nrandom: 1\nsingle: oneshot\nconsume: 1\nplaylist: 4\nxfade: 12\n";
-    let text = text_of(alloc, answers).expect(rt, "no memory");
     wants(
-        rt,
-        "options",
-        text.as_str(),
+        text_of(
+            rt.alloc(),
+            "volume: 7\nrepeat: 1\nrandom: 1\nsingle: oneshot\nconsume: 1\nplaylist: 4\nxfade: 12\n",
+        ),
         "setvol 7\nrepeat 1\nrandom 1\nsingle oneshot\nconsume 1\ncrossfade 12\n",
-    );
-}
-
-#[test]
-fn options(rt: HostRuntime) {
-    check_options(&rt, rt.alloc());
+    )
 }

@@ -1,117 +1,98 @@
 //! Command lines.
-use crate::helpers::{owned, wants};
 use command_line::{LineFault, Program, command_line};
-use std::alloc::Global;
-use std::process::Abort;
+use std::alloc::{AllocError, Global};
+use std::test::Fail;
+use wanted::wants;
 
-/// The words of a line, with the program's name before them.
-fn words_of<R: Abort>(rt: &R, alloc: Global, line: &str) -> Vec<String> {
+fn words_of(alloc: Global, line: &str) -> Result<Vec<String>, AllocError> {
     let mut words = Vec::new(alloc);
-    words
-        .push(owned(rt, alloc, "music_daemon"))
-        .expect(rt, "no memory");
     for word in line.split(' ') {
-        if !word.is_empty() {
-            words.push(owned(rt, alloc, word)).expect(rt, "no memory");
-        }
+        words.push(String::from_str(alloc, word)?)?;
     }
-    words
+    Ok(words)
 }
 
-/// The program that a line asks for, or the exit status and the first line of what is printed in its place.
-fn told<R: Abort>(rt: &R, alloc: Global, line: &str) -> String {
-    let words = words_of(rt, alloc, line);
+/// The program that a line asks for, or the exit status and all that is printed in its place.
+fn told(alloc: Global, line: &str) -> Result<String, AllocError> {
+    let words = words_of(alloc, line)?;
     match command_line(alloc, &words) {
-        Ok(Program::Serve(file, true)) => format!(in alloc; "Check({file})").expect(
-            rt,
-            "no memory",
-        ),
-        Ok(Program::Serve(file, false)) => format!(in alloc; "Serve({file})").expect(
-            rt,
-            "no memory",
-        ),
-        Ok(Program::Scan(rate, folder)) => {
+        Ok(program) => program_told(alloc, &program),
+        Err(fault) => refusal_told(alloc, &fault),
+    }
+}
+
+fn program_told(alloc: Global, program: &Program<'_>) -> Result<String, AllocError> {
+    match program {
+        Program::Serve(file, only_checks) => format!(in alloc; "Serve({file}, {only_checks})"),
+        Program::Scan(rate, folder) => {
             let frames = rate.frames();
-            format!(in alloc; "Scan({frames}, {folder})").expect(rt, "no memory")
+            format!(in alloc; "Scan({frames}, {folder})")
         }
-        Ok(Program::Script) => owned(rt, alloc, "Script"),
-        Err(fault) => refused(rt, alloc, &fault),
+        Program::Script => format!(in alloc; "Script"),
     }
 }
 
-/// All that is printed in the place of a program.
-fn help<R: Abort>(rt: &R, alloc: Global, line: &str) -> String {
-    let words = words_of(rt, alloc, line);
-    match command_line(alloc, &words) {
-        Err(LineFault::Refused(error)) => format!(in alloc; "{error}").expect(rt, "no memory"),
-        Err(LineFault::NoMemory) => owned(rt, alloc, "no memory"),
-        Ok(_) => owned(rt, alloc, "a program"),
-    }
-}
-
-fn refused<R: Abort>(rt: &R, alloc: Global, fault: &LineFault) -> String {
+fn refusal_told(alloc: Global, fault: &LineFault) -> Result<String, AllocError> {
     let status = fault.status();
     match fault {
-        LineFault::Refused(error) => {
-            let text = format!(in alloc; "{error}").expect(rt, "no memory");
-            let first = text.as_str().split('\n').next().unwrap_or("");
-            format!(in alloc; "{status}: {first}").expect(rt, "no memory")
-        }
-        LineFault::NoMemory => owned(rt, alloc, "no memory"),
+        LineFault::Refused(error) => format!(in alloc; "{status}: {error}"),
+        LineFault::NoMemory => Err(AllocError),
     }
 }
 
-/// Lines, each with what it is to come to.
-const LINES: &str = "serve --config FILE => Serve(FILE)
-serve --config=FILE => Serve(FILE)
-serve --config FILE --check => Check(FILE)
-serve --check --config FILE => Check(FILE)
-serve --config - => Serve(-)
-serve --config= => Serve()
-serve => 2: error: the following required arguments were not provided:
-serve --config => 2: error: a value is required for '--config <FILE>' but none was supplied
-serve FILE => 2: error: unexpected argument 'FILE' found
-serve --config FILE more => 2: error: unexpected argument 'more' found
-serve --config FILE --config FILE => 2: error: the argument '--config <FILE>' cannot be used multiple times
---config FILE serve => 2: error: unexpected argument '--config' found
-help serve => 0: Serves clients and plays to outputs, as a file of settings says
-script => Script
-scan DIR => Scan(44100, DIR)
-scan --rate 8000 DIR => Scan(8000, DIR)
-scan --rate 192000 DIR => Scan(192000, DIR)
-scan --rate=48000 DIR => Scan(48000, DIR)
-scan DIR --rate 8000 => Scan(8000, DIR)
-scan -- --rate => Scan(44100, --rate)
-scan --rate 7999 DIR => 2: error: invalid value '7999' for '--rate <N>': 7999 is not in 8000..=192000
-scan --rate 192001 DIR => 2: error: invalid value '192001' for '--rate <N>': 192001 is not in 8000..=192000
-scan --rate x DIR => 2: error: invalid value 'x' for '--rate <N>': invalid digit found in string
-scan => 2: error: the following required arguments were not provided:
-scan DIR more => 2: error: unexpected argument 'more' found
-script x => 2: error: unexpected argument 'x' found
-nosuch => 2: error: unrecognized subcommand 'nosuch'
- => 2: error: 'music_daemon' requires a subcommand but one was not provided
---help => 0: A Music Player Daemon for PCM libraries
-help script => 0: Runs standard input as a script
---version => 0: music_daemon MPD protocol 0.23.0
-";
+/// The same up to the end of its first line.
+fn first_line_told(alloc: Global, line: &str) -> Result<String, AllocError> {
+    let told = told(alloc, line)?;
+    String::from_str(alloc, told.as_str().split('\n').next().unwrap_or(""))
+}
 
-fn check_line<R: Abort>(rt: &R, alloc: Global, pair: &str) {
+/// Lines, each with the first line of what it is to come to.
+const LINES: &str = "music_daemon serve --config FILE => Serve(FILE, false)
+music_daemon serve --config=FILE => Serve(FILE, false)
+music_daemon serve --config FILE --check => Serve(FILE, true)
+music_daemon serve --check --config FILE => Serve(FILE, true)
+music_daemon serve --config - => Serve(-, false)
+music_daemon serve --config= => Serve(, false)
+music_daemon serve => 2: error: the following required arguments were not provided:
+music_daemon serve --config => 2: error: a value is required for '--config <FILE>' but none was supplied
+music_daemon serve FILE => 2: error: unexpected argument 'FILE' found
+music_daemon serve --config FILE more => 2: error: unexpected argument 'more' found
+music_daemon serve --config FILE --config FILE => 2: error: the argument '--config <FILE>' cannot be used multiple times
+music_daemon --config FILE serve => 2: error: unexpected argument '--config' found
+music_daemon help serve => 0: Serves clients and plays to outputs, as a file of settings says
+music_daemon script => Script
+music_daemon scan DIR => Scan(44100, DIR)
+music_daemon scan --rate 8000 DIR => Scan(8000, DIR)
+music_daemon scan --rate 192000 DIR => Scan(192000, DIR)
+music_daemon scan --rate=48000 DIR => Scan(48000, DIR)
+music_daemon scan DIR --rate 8000 => Scan(8000, DIR)
+music_daemon scan -- --rate => Scan(44100, --rate)
+music_daemon scan --rate 7999 DIR => 2: error: invalid value '7999' for '--rate <N>': 7999 is not in 8000..=192000
+music_daemon scan --rate 192001 DIR => 2: error: invalid value '192001' for '--rate <N>': 192001 is not in 8000..=192000
+music_daemon scan --rate x DIR => 2: error: invalid value 'x' for '--rate <N>': invalid digit found in string
+music_daemon scan => 2: error: the following required arguments were not provided:
+music_daemon scan DIR more => 2: error: unexpected argument 'more' found
+music_daemon script x => 2: error: unexpected argument 'x' found
+music_daemon nosuch => 2: error: unrecognized subcommand 'nosuch'
+music_daemon => 2: error: 'music_daemon' requires a subcommand but one was not provided
+music_daemon --help => 0: A Music Player Daemon for PCM libraries
+music_daemon help script => 0: Runs standard input as a script
+music_daemon --version => 0: music_daemon MPD protocol 0.23.0";
+
+fn comes_to(alloc: Global, pair: &str) -> Result<(), Fail> {
     let (line, wanted) = pair.split_once(" => ").unwrap_or((pair, "?"));
-    wants(rt, line, told(rt, alloc, line).as_str(), wanted);
-}
-
-fn check_lines<R: Abort>(rt: &R, alloc: Global) {
-    for pair in LINES.lines() {
-        check_line(rt, alloc, pair);
-    }
+    wants(first_line_told(alloc, line), wanted)
 }
 
 #[test]
-fn lines(rt: HostRuntime) {
-    check_lines(&rt, rt.alloc());
+fn lines(rt: HostRuntime) -> Result<(), Fail> {
+    for pair in LINES.lines() {
+        comes_to(rt.alloc(), pair)?;
+    }
+    Ok(())
 }
 
-const HELP: &str = "A Music Player Daemon for PCM libraries
+const HELP: &str = "0: A Music Player Daemon for PCM libraries
 
 Usage: music_daemon <COMMAND>
 
@@ -126,7 +107,7 @@ Options:
   -V, --version  Print version
 ";
 
-const SERVE_HELP: &str = "Serves clients and plays to outputs, as a file of settings says
+const SERVE_HELP: &str = "0: Serves clients and plays to outputs, as a file of settings says
 
 Usage: music_daemon serve [OPTIONS] --config <FILE>
 
@@ -137,7 +118,7 @@ Options:
 ";
 
 const SCAN_HELP: &str =
-    "Prints the songs of a folder, and on standard error why other files are none
+    "0: Prints the songs of a folder, and on standard error why other files are none
 
 Usage: music_daemon scan [OPTIONS] <DIR>
 
@@ -149,7 +130,7 @@ Options:
   -h, --help      Print help
 ";
 
-const SCRIPT_HELP: &str = "Runs standard input as a script
+const SCRIPT_HELP: &str = "0: Runs standard input as a script
 
 Usage: music_daemon script
 
@@ -159,14 +140,9 @@ Options:
 
 /// The whole help texts, in the layout of clap 4.
 #[test]
-fn helps(rt: HostRuntime) {
-    let helps = [
-        ("--help", HELP),
-        ("serve --help", SERVE_HELP),
-        ("scan --help", SCAN_HELP),
-        ("script -h", SCRIPT_HELP),
-    ];
-    for (line, wanted) in helps {
-        wants(&rt, line, help(&rt, rt.alloc(), line).as_str(), wanted);
-    }
+fn helps(rt: HostRuntime) -> Result<(), Fail> {
+    wants(told(rt.alloc(), "music_daemon --help"), HELP)?;
+    wants(told(rt.alloc(), "music_daemon serve --help"), SERVE_HELP)?;
+    wants(told(rt.alloc(), "music_daemon scan --help"), SCAN_HELP)?;
+    wants(told(rt.alloc(), "music_daemon script -h"), SCRIPT_HELP)
 }

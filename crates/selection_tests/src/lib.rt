@@ -3,26 +3,12 @@
 #![tactic(auto)]
 
 #[cfg(test)]
-mod big;
+mod commands;
 #[cfg(test)]
-mod big_groups;
+mod grouped_songs;
 #[cfg(test)]
-mod group_helpers;
-#[cfg(test)]
-mod group_rows;
-#[cfg(test)]
-mod group_shelves;
-#[cfg(test)]
-mod groups;
-#[cfg(test)]
-mod known_names;
+mod made_songs;
 #[cfg(test)]
 mod partitions;
 #[cfg(test)]
-mod shown_tags;
-#[cfg(test)]
-mod songs;
-#[cfg(test)]
-mod tag_sets;
-#[cfg(test)]
-mod told;
+mod tags;

@@ -5,17 +5,17 @@ use mpd_command::{Command, CommandSet, Name, PartitionCommand, Request};
 use mpd_text::SharedText;
 use partition_commands::run;
 use parts::{Crossing, Greatest, Openings, Parts, opened};
-use player_state::{Client, Outputs, Part};
+use player_state::{Client, Outputs};
 use std::alloc::{AllocError, Global};
 use std::test::Fail;
-use transitions::{Asked, Move, Response, Stand, Transition};
+use transitions::{Asked, Move, Stand, Transition};
 use wanted::wants;
 
 /// The partitions of a daemon, and its two clients.
 #[derive(Drop)]
 struct Daemon {
     parts: Parts,
-    clients: Vec<Client>,
+    clients: [Client; 2],
 }
 
 fn openings() -> Openings {
@@ -37,12 +37,6 @@ fn outputs(alloc: Global) -> Result<Outputs, AllocError> {
     Ok(outputs)
 }
 
-fn default_part(alloc: Global) -> Result<Part, AllocError> {
-    let name = SharedText::new(alloc, "default")?;
-    let outputs = outputs(alloc)?;
-    Ok(opened(alloc, openings(), 0, name, outputs))
-}
-
 fn client(number: u32) -> Client {
     Client {
         number,
@@ -52,58 +46,14 @@ fn client(number: u32) -> Client {
     }
 }
 
-fn clients(alloc: Global) -> Result<Vec<Client>, AllocError> {
-    let mut clients = Vec::new(alloc);
-    clients.push(client(1)).map_err(AllocError::from)?;
-    clients.push(client(2)).map_err(AllocError::from)?;
-    Ok(clients)
-}
-
 fn opening(alloc: Global) -> Result<Daemon, AllocError> {
-    let part = default_part(alloc)?;
-    let parts = Parts::open(alloc, part)?;
-    let clients = clients(alloc)?;
-    Ok(Daemon { parts, clients })
-}
-
-/// The number of the partition that a client is in.
-fn place_of(clients: &[Client], number: u32) -> u8 {
-    for client in clients {
-        if client.number == number {
-            return client.place;
-        }
-    }
-    0
-}
-
-fn asked(number: u32, name: Name) -> Asked {
-    Asked {
-        client: number,
-        tags: TagSet::all(),
-        name,
-        stand: Stand::Alone,
-    }
-}
-
-/// What a command of a client asks for.
-fn planned(
-    alloc: Global,
-    daemon: &Daemon,
-    number: u32,
-    name: Name,
-    command: &PartitionCommand,
-) -> Result<Transition, AllocError> {
-    let own = place_of(&daemon.clients, number);
-    let asked = asked(number, name);
-    run(
-        alloc,
-        &daemon.parts,
-        &daemon.clients,
-        openings(),
-        asked,
-        own,
-        command,
-    )
+    let outputs = outputs(alloc)?;
+    let name = SharedText::new(alloc, "default")?;
+    let parts = Parts::open(alloc, opened(alloc, openings(), 0, name, outputs))?;
+    Ok(Daemon {
+        parts,
+        clients: [client(1), client(2)],
+    })
 }
 
 fn cross(parts: &mut Parts, crossing: Crossing) {
@@ -112,106 +62,115 @@ fn cross(parts: &mut Parts, crossing: Crossing) {
     }
 }
 
-fn enter(clients: &mut [Client], number: u32, moves: Move) {
-    if let Move::Enter(place) = moves {
-        for client in clients.iter_mut() {
-            if client.number == number {
-                client.place = place;
-            }
-        }
-    }
-}
-
-/// Does it, and gives what is answered.
-fn done(daemon: &mut Daemon, number: u32, transition: Transition) -> Response {
+/// Does it, and adds what the client at this place is answered.
+fn tell_done(
+    told: &mut String,
+    daemon: &mut Daemon,
+    at: usize,
+    transition: Transition,
+) -> Result<(), AllocError> {
     let mut transition = transition;
     let crossing = std::mem::replace(&mut transition.crossing, Crossing::Stays);
     cross(&mut daemon.parts, crossing);
-    enter(&mut daemon.clients, number, transition.response.moves());
-    transition.into_telling().response
+    let response = transition.into_telling().response;
+    if let Move::Enter(place) = response.moves() {
+        daemon.clients[at.min(1)].place = place;
+    }
+    told.push_str(response.into_reply().text())
 }
 
-fn text_of(alloc: Global, response: Response) -> Result<String, AllocError> {
-    String::from_str(alloc, response.into_reply().text())
-}
-
-fn ran(
+fn tell_run(
+    told: &mut String,
     alloc: Global,
     daemon: &mut Daemon,
-    number: u32,
+    at: usize,
     name: Name,
     command: &PartitionCommand,
-) -> Result<String, AllocError> {
-    let transition = planned(alloc, daemon, number, name, command)?;
-    text_of(alloc, done(daemon, number, transition))
+) -> Result<(), AllocError> {
+    let own = daemon.clients[at.min(1)].place;
+    let asked = Asked {
+        client: daemon.clients[at.min(1)].number,
+        tags: TagSet::all(),
+        name,
+        stand: Stand::Alone,
+    };
+    let transition = run(
+        alloc,
+        &daemon.parts,
+        &daemon.clients,
+        openings(),
+        asked,
+        own,
+        command,
+    )?;
+    tell_done(told, daemon, at, transition)
 }
 
-/// What a line of a client is answered.
-fn answer(
+/// Adds what a line of the client at this place is answered.
+fn tell_answer(
+    told: &mut String,
     alloc: Global,
     daemon: &mut Daemon,
-    number: u32,
+    at: usize,
     line: &str,
-) -> Result<String, AllocError> {
+) -> Result<(), AllocError> {
     let request = Request::of_line(alloc, line, CommandSet::base())?;
     match &request {
         Request::Run(name, Command::Partitions(command)) => {
-            ran(alloc, daemon, number, *name, command)
+            tell_run(told, alloc, daemon, at, *name, command)
         }
-        _ => String::from_str(alloc, "no command of partitions\n"),
+        _ => told.push_str("no command of partitions\n"),
     }
 }
 
-/// An output as it is in a partition.
-fn standing(
-    alloc: Global,
-    outputs: &Outputs,
-    place: u8,
-    output: usize,
-) -> Result<String, AllocError> {
-    let on = outputs.is_enabled(output);
-    let moves = outputs.moves(output);
-    format!(in alloc; "in {place}, on {on}, moved {moves}\n")
-}
-
-/// Where an output is.
-fn found(alloc: Global, parts: &Parts, output: usize) -> Result<String, AllocError> {
+/// Adds where an output is, and how.
+fn tell_output(told: &mut String, parts: &Parts, output: usize) -> Result<(), AllocError> {
     for part in parts.items() {
         if part.outputs.is_output(output) {
-            return standing(alloc, &part.outputs, part.place, output);
+            return told.write_fmt(format_args!(
+                "in {}, on {}, moved {}\n",
+                part.place,
+                part.outputs.is_enabled(output),
+                part.outputs.moves(output)
+            ));
         }
     }
-    String::from_str(alloc, "nowhere\n")
+    told.push_str("nowhere\n")
 }
 
-/// What the test asks for: where an output is, or the number of a partition.
-fn shown(alloc: Global, parts: &Parts, word: &str) -> Result<String, AllocError> {
+/// Adds where an output is, or the number of a partition.
+fn tell_seen(told: &mut String, parts: &Parts, word: &str) -> Result<(), AllocError> {
     match word {
-        "0" => found(alloc, parts, 0),
-        "1" => found(alloc, parts, 1),
-        "2" => found(alloc, parts, 2),
-        name => format!(in alloc; "{:?}\n", parts.place_named(name)),
+        "0" => tell_output(told, parts, 0),
+        "1" => tell_output(told, parts, 1),
+        "2" => tell_output(told, parts, 2),
+        name => told.write_fmt(format_args!("{:?}\n", parts.place_named(name))),
     }
 }
 
-/// What a line of a client is answered, or what is there to be seen.
-fn told(alloc: Global, daemon: &mut Daemon, line: &str) -> Result<String, AllocError> {
+/// Adds what a line of a client is answered, or what is there to be seen.
+fn tell_line(
+    told: &mut String,
+    alloc: Global,
+    daemon: &mut Daemon,
+    line: &str,
+) -> Result<(), AllocError> {
     match line.split_once(' ') {
-        Some(("1", rest)) => answer(alloc, daemon, 1, rest),
-        Some(("2", rest)) => answer(alloc, daemon, 2, rest),
-        Some(("see", word)) => shown(alloc, &daemon.parts, word),
-        _ => String::from_str(alloc, "no line\n"),
+        Some(("1", rest)) => tell_answer(told, alloc, daemon, 0, rest),
+        Some(("2", rest)) => tell_answer(told, alloc, daemon, 1, rest),
+        Some(("see", word)) => tell_seen(told, &daemon.parts, word),
+        _ => told.push_str("no line\n"),
     }
 }
 
 /// What all lines are answered, one after the other.
 fn all_told(alloc: Global, lines: &str) -> Result<String, AllocError> {
     let mut daemon = opening(alloc)?;
-    let mut all = String::new(alloc);
+    let mut told = String::new(alloc);
     for line in lines.lines() {
-        all.push_str(told(alloc, &mut daemon, line)?.as_str())?;
+        tell_line(&mut told, alloc, &mut daemon, line)?;
     }
-    Ok(all)
+    Ok(told)
 }
 
 #[test]

@@ -1,83 +1,11 @@
-//! How sessions are closed.
-use crate::days::{Step, told, told_with_kill};
+//! Answers that a client does not take.
+use crate::days::{Step, told};
 use crate::wires::{Takes, repeated};
 use partition::PartitionFault;
 use std::alloc::{AllocError, Global};
 use std::sync::Wait;
 use std::test::Fail;
 use wanted::wants;
-
-/// Nothing is run after `close`, in its piece or later.
-#[test]
-fn no_line_is_run_behind_a_close(rt: HostRuntime) -> Result<(), Fail> {
-    let steps = [
-        Step::Comes(1, Takes::All),
-        Step::Comes(2, Takes::All),
-        Step::Says(1, b"ping\nclose\nadd a.wav\nping\n"),
-        Step::Says(1, b"add b.wav\n"),
-        Step::Says(2, b"plchangesposid 0\n"),
-    ];
-    let wanted = "1 left\nOK MPD 0.23.0\nOK\n2 open\nOK MPD 0.23.0\nOK\n";
-    wants(told(&rt, rt.alloc(), &steps), wanted)
-}
-
-#[test]
-fn a_close_ends_a_list(rt: HostRuntime) -> Result<(), Fail> {
-    let steps = [
-        Step::Comes(1, Takes::All),
-        Step::Says(
-            1,
-            b"command_list_ok_begin\nping\nclose\nping\ncommand_list_end\nping\n",
-        ),
-    ];
-    wants(
-        told(&rt, rt.alloc(), &steps),
-        "1 left\nOK MPD 0.23.0\nlist_OK\n",
-    )
-}
-
-#[test]
-fn kill_is_allowed_or_not(rt: HostRuntime) -> Result<(), Fail> {
-    let steps = [
-        Step::Comes(1, Takes::All),
-        Step::Says(1, b"ping\nkill\nping\n"),
-    ];
-    let refused = "1 open\nOK MPD 0.23.0\nOK\nACK [4@0] {kill} no permission for \"kill\"\nOK\n";
-    wants(told(&rt, rt.alloc(), &steps), refused)?;
-    let killed = "1 killed\nOK MPD 0.23.0\nOK\n";
-    wants(told_with_kill(&rt, rt.alloc(), &steps), killed)
-}
-
-/// In a list the first `kill` ends the daemon; a `close` before it does not.
-#[test]
-fn kill_in_a_list(rt: HostRuntime) -> Result<(), Fail> {
-    let steps = [
-        Step::Comes(1, Takes::All),
-        Step::Comes(2, Takes::All),
-        Step::Says(
-            1,
-            b"command_list_ok_begin\nping\nclose\nkill\ncommand_list_end\n",
-        ),
-        Step::Says(
-            2,
-            b"command_list_ok_begin\nping\nkill\nkill\ncommand_list_end\n",
-        ),
-    ];
-    let wanted = "1 left\nOK MPD 0.23.0\nlist_OK\n2 killed\nOK MPD 0.23.0\nlist_OK\n";
-    wants(told_with_kill(&rt, rt.alloc(), &steps), wanted)
-}
-
-/// What came whole is answered where the peer sends no more; a started line is not.
-#[test]
-fn the_peer_ends(rt: HostRuntime) -> Result<(), Fail> {
-    let steps = [
-        Step::Comes(1, Takes::UpTo(5)),
-        Step::Says(1, b"ping\nping"),
-        Step::Ends(1),
-        Step::Says(1, b"\n"),
-    ];
-    wants(told(&rt, rt.alloc(), &steps), "1 no peer\nOK MP")
-}
 
 /// Two stickers, and questions for their values: 2,047 for the first, whose value has 8,177 letters, and one
 /// for the second, whose value has so many letters.
@@ -110,11 +38,7 @@ fn told_of_unsent<R: Wait>(rt: &R, alloc: Global, last: usize) -> Result<String,
 }
 
 #[test]
-fn many_unsent_bytes_are_held(rt: HostRuntime) -> Result<(), Fail> {
-    wants(told_of_unsent(&rt, rt.alloc(), 8_154), "1 open\n")
-}
-
-#[test]
-fn too_many_unsent_bytes_close(rt: HostRuntime) -> Result<(), Fail> {
+fn unsent_bytes_are_held_up_to_a_limit(rt: HostRuntime) -> Result<(), Fail> {
+    wants(told_of_unsent(&rt, rt.alloc(), 8_154), "1 open\n")?;
     wants(told_of_unsent(&rt, rt.alloc(), 8_155), "1 unsent\n")
 }

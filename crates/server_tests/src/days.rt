@@ -204,8 +204,8 @@ fn told_of(alloc: Global, log: &Log) -> Result<String, AllocError> {
     let mut told = String::from_str(alloc, log.faults.as_str())?;
     for guest in &log.guests {
         let text = str::from_utf8(guest.wire.inner().bytes()).unwrap_or("no text\n");
-        let part = format!(in alloc; "{} {}\n{text}", guest.client, state(&guest.session))?;
-        told.push_str(part.as_str())?;
+        let (client, state) = (guest.client, state(&guest.session));
+        told.write_fmt(format_args!("{client} {state}\n{text}"))?;
     }
     Ok(told)
 }
@@ -287,16 +287,17 @@ pub(crate) fn told<R: Wait>(
     alloc: Global,
     steps: &[Step<'_>],
 ) -> Result<String, PartitionFault> {
-    day::<Brand>(rt, alloc, blanks(), steps, false)
+    told_where(rt, alloc, steps, false)
 }
 
-/// The same where clients may end the daemon.
-pub(crate) fn told_with_kill<R: Wait>(
+/// The same where clients may end the daemon, or may not.
+pub(crate) fn told_where<R: Wait>(
     rt: &R,
     alloc: Global,
     steps: &[Step<'_>],
+    may_kill: bool,
 ) -> Result<String, PartitionFault> {
-    day::<Brand>(rt, alloc, blanks(), steps, true)
+    day::<Brand>(rt, alloc, blanks(), steps, may_kill)
 }
 
 /// A client comes and says some pieces.

@@ -14,8 +14,8 @@ mod lists;
 #[cfg(test)]
 mod loopback;
 #[cfg(test)]
-mod notices;
-#[cfg(test)]
 mod scanner;
+#[cfg(test)]
+mod sessions;
 #[cfg(test)]
 mod wires;

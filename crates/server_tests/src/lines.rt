@@ -11,31 +11,6 @@ const ROW: &[u8] = b"ping\ncommand_list_ok_begin\nping\ncommand_list_end\n";
 
 const ANSWERS: &str = "1 open\nOK MPD 0.23.0\nOK\nlist_OK\nOK\n";
 
-#[test]
-fn a_row_in_three_pieces(rt: HostRuntime) -> Result<(), Fail> {
-    let pieces = [
-        b"pi".as_slice(),
-        b"ng\ncommand_list_ok_begin\nping\n".as_slice(),
-        b"command_list_end\n".as_slice(),
-    ];
-    wants(
-        told_of_pieces(&rt, rt.alloc(), Takes::All, &pieces),
-        ANSWERS,
-    )
-}
-
-#[test]
-fn a_row_at_every_cut_into_two(rt: HostRuntime) -> Result<(), Fail> {
-    for cut in 0..=ROW.len() {
-        let pieces = [&ROW[..cut], &ROW[cut..]];
-        wants(
-            told_of_pieces(&rt, rt.alloc(), Takes::All, &pieces),
-            ANSWERS,
-        )?;
-    }
-    Ok(())
-}
-
 /// The row in pieces of a byte.
 fn bytes_of_row(alloc: Global) -> Result<Vec<&'static [u8]>, AllocError> {
     let mut pieces = Vec::new(alloc);
@@ -51,9 +26,30 @@ fn told_byte_by_byte<R: Wait>(rt: &R, alloc: Global) -> Result<String, Partition
     told_of_pieces(rt, alloc, Takes::All, &pieces)
 }
 
+/// The row is cut at each place into two.
+fn cut_into_two<R: Wait>(rt: &R, alloc: Global) -> Result<(), Fail> {
+    for cut in 0..=ROW.len() {
+        let pieces = [&ROW[..cut], &ROW[cut..]];
+        wants(told_of_pieces(rt, alloc, Takes::All, &pieces), ANSWERS)?;
+    }
+    Ok(())
+}
+
+const THREE_PIECES: &[&[u8]] = &[
+    b"pi",
+    b"ng\ncommand_list_ok_begin\nping\n",
+    b"command_list_end\n",
+];
+
 #[test]
-fn a_row_byte_by_byte(rt: HostRuntime) -> Result<(), Fail> {
-    wants(told_byte_by_byte(&rt, rt.alloc()), ANSWERS)
+fn a_row_in_pieces(rt: HostRuntime) -> Result<(), Fail> {
+    let alloc = rt.alloc();
+    wants(
+        told_of_pieces(&rt, alloc, Takes::All, THREE_PIECES),
+        ANSWERS,
+    )?;
+    cut_into_two(&rt, alloc)?;
+    wants(told_byte_by_byte(&rt, alloc), ANSWERS)
 }
 
 /// A `ping`, a line of so many bytes, and another `ping`. What the line holds is not shown.
@@ -68,42 +64,26 @@ fn told_of_length<R: Wait>(rt: &R, alloc: Global, length: usize) -> Result<Strin
     Ok(without_x(alloc, told(rt, alloc, &steps)?.as_str())?)
 }
 
-#[test]
-fn a_line_of_the_greatest_length_is_answered(rt: HostRuntime) -> Result<(), Fail> {
-    let wanted = "1 open\nOK MPD 0.23.0\nOK\nACK [5@0] {} unknown command \"\"\nOK\n";
-    wants(told_of_length(&rt, rt.alloc(), 16_384), wanted)
-}
-
-#[test]
-fn a_longer_line_closes(rt: HostRuntime) -> Result<(), Fail> {
-    let wanted = "1 long line\nOK MPD 0.23.0\nOK\n";
-    wants(told_of_length(&rt, rt.alloc(), 16_385), wanted)
-}
-
-/// The lines before a longer one in the same piece are answered, and those after it are not.
-#[test]
-fn lines_before_a_longer_one_are_answered(rt: HostRuntime) -> Result<(), Fail> {
-    let alloc = rt.alloc();
+/// What is told of two lines before a line that is too long, and one after it, all in one piece.
+fn told_around_long_line<R: Wait>(rt: &R, alloc: Global) -> Result<String, PartitionFault> {
     let mut bytes = Vec::from_slice(alloc, b"ping\nping\n")?;
     bytes.extend_from_slice(&repeated(alloc, b'x', 20_000, b"\nping\n")?)?;
-    let steps = [Step::Comes(1, Takes::All), Step::Says(1, &bytes)];
-    wants(
-        told(&rt, alloc, &steps),
-        "1 long line\nOK MPD 0.23.0\nOK\nOK\n",
+    told(
+        rt,
+        alloc,
+        &[Step::Comes(1, Takes::All), Step::Says(1, &bytes)],
     )
 }
 
+/// A line of the greatest length is answered, and a longer one closes: lines before it in the same piece are
+/// answered, and those after it are not.
 #[test]
-fn a_line_that_is_no_text(rt: HostRuntime) -> Result<(), Fail> {
-    let steps = [
-        Step::Comes(1, Takes::All),
-        Step::Says(1, b"\xff\nping\r\n\n"),
-    ];
-    let wanted = "1 open
-OK MPD 0.23.0
-ACK [2@0] {} line is not UTF-8
-OK
-ACK [5@0] {} no command given
-";
-    wants(told(&rt, rt.alloc(), &steps), wanted)
+fn long_lines(rt: HostRuntime) -> Result<(), Fail> {
+    let alloc = rt.alloc();
+    let answered = "1 open\nOK MPD 0.23.0\nOK\nACK [5@0] {} unknown command \"\"\nOK\n";
+    wants(told_of_length(&rt, alloc, 16_384), answered)?;
+    let closed = "1 long line\nOK MPD 0.23.0\nOK\n";
+    wants(told_of_length(&rt, alloc, 16_385), closed)?;
+    let closed_later = "1 long line\nOK MPD 0.23.0\nOK\nOK\n";
+    wants(told_around_long_line(&rt, alloc), closed_later)
 }

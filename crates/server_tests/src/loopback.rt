@@ -497,65 +497,52 @@ fn goes_well<
     Ok(served.is_ok() && visited?)
 }
 
+/// The place of the first of these that does not go well.
+fn first_that_fails<
+    R: Threads
+        + Wait
+        + Net<Listener = TcpListener, Stream = TcpStream>
+        + Clock
+        + Copy
+        + Send
+        + Sync
+        + 'static,
+>(rt: R, alloc: Global, parties: &[Party]) -> io::Result<Option<usize>> {
+    for (place, party) in parties.iter().enumerate() {
+        if !goes_well(rt, alloc, *party)? {
+            return Ok(Some(place));
+        }
+    }
+    Ok(None)
+}
+
+const GUESTS: &[Party] = &[
+    Party::One,
+    Party::Many,
+    Party::SlowReader,
+    Party::Idle,
+    Party::LongLine,
+    Party::Leaves,
+];
+
 #[test]
-fn one_client(rt: HostRuntime) -> Result<(), Fail> {
-    assert!(rt; goes_well(rt, rt.alloc(), Party::One)?);
+fn guests_are_served(rt: HostRuntime) -> Result<(), Fail> {
+    assert_eq!(rt; first_that_fails(rt, rt.alloc(), GUESTS)?, None);
     Ok(())
 }
 
-#[test]
-fn more_clients_than_places(rt: HostRuntime) -> Result<(), Fail> {
-    assert!(rt; goes_well(rt, rt.alloc(), Party::Many)?);
-    Ok(())
-}
+const ENDS: &[Party] = &[
+    Party::HalfClosed,
+    Party::Replaced,
+    Party::Followed,
+    Party::BreakOff,
+    Party::ReadsLate(false),
+    Party::ReadsLate(true),
+];
 
 #[test]
-fn a_slow_reader(rt: HostRuntime) -> Result<(), Fail> {
-    assert!(rt; goes_well(rt, rt.alloc(), Party::SlowReader)?);
-    Ok(())
-}
-
-#[test]
-fn a_client_that_waits(rt: HostRuntime) -> Result<(), Fail> {
-    assert!(rt; goes_well(rt, rt.alloc(), Party::Idle)?);
-    Ok(())
-}
-
-#[test]
-fn a_line_without_end(rt: HostRuntime) -> Result<(), Fail> {
-    assert!(rt; goes_well(rt, rt.alloc(), Party::LongLine)?);
-    Ok(())
-}
-
-#[test]
-fn clients_that_leave(rt: HostRuntime) -> Result<(), Fail> {
-    assert!(rt; goes_well(rt, rt.alloc(), Party::Leaves)?);
-    Ok(())
-}
-
-#[test]
-fn a_peer_that_sends_no_more(rt: HostRuntime) -> Result<(), Fail> {
-    assert!(rt; goes_well(rt, rt.alloc(), Party::HalfClosed)?);
-    Ok(())
-}
-
-#[test]
-fn a_place_after_a_long_line(rt: HostRuntime) -> Result<(), Fail> {
-    assert!(rt; goes_well(rt, rt.alloc(), Party::Replaced)?);
-    Ok(())
-}
-
-#[test]
-fn places_of_clients_that_go(rt: HostRuntime) -> Result<(), Fail> {
-    assert!(rt; goes_well(rt, rt.alloc(), Party::Followed)?);
-    assert!(rt; goes_well(rt, rt.alloc(), Party::BreakOff)?);
-    Ok(())
-}
-
-#[test]
-fn last_answers_are_read_late(rt: HostRuntime) -> Result<(), Fail> {
-    assert!(rt; goes_well(rt, rt.alloc(), Party::ReadsLate(false))?);
-    assert!(rt; goes_well(rt, rt.alloc(), Party::ReadsLate(true))?);
+fn guests_end(rt: HostRuntime) -> Result<(), Fail> {
+    assert_eq!(rt; first_that_fails(rt, rt.alloc(), ENDS)?, None);
     Ok(())
 }
 

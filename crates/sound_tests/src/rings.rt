@@ -8,7 +8,7 @@ use std::alloc::{AllocError, Global};
 use std::io;
 use std::io::{ErrorKind, Write};
 use std::test::Fail;
-use wanted::wants;
+use wanted::{wants, wants_made};
 
 const FIRST: Cut = Cut {
     moves: 0,
@@ -20,22 +20,26 @@ const SECOND: Cut = Cut {
     number: 2,
 };
 
-// A call and what it answers: cuts by their numbers, fates as frames written and discarded, faults with the
-// bytes of a torn frame.
+// The cuts of an output that was moved twice in between, of which the earlier one has the greater number.
+const BEFORE_MOVES: Cut = Cut {
+    moves: 1,
+    number: 9,
+};
+
+const AFTER_MOVES: Cut = Cut {
+    moves: 3,
+    number: 2,
+};
+
+// A call. `Play`, `Pause` and `Off` write out a hand.
 #[derive(Clone, Copy)]
 enum Step {
-    Take(u64, &'static [Frame]),
-    Push(usize),
-    Pop(usize),
-    Play(u64, u64, u64),
-    Pause(u64, u64),
-    Off(u64, u64),
-    Fault(u64, u64, u8),
-}
-
-// A cut of an output that was never moved.
-const fn of_no_move(number: u64) -> Cut {
-    Cut { moves: 0, number }
+    Take(Cut, &'static [Frame]),
+    Push,
+    Pop,
+    Play(Cut),
+    Pause,
+    Off,
 }
 
 const fn live(cut: Cut, enabled: bool, paused: bool) -> Live {
@@ -44,17 +48,6 @@ const fn live(cut: Cut, enabled: bool, paused: bool) -> Live {
         enabled,
         paused,
         ended: false,
-    }
-}
-
-const fn fates(written: u64, discarded: u64) -> Fates {
-    Fates { written, discarded }
-}
-
-const fn fault(written: u64, discarded: u64, torn: u8) -> WriteFault {
-    WriteFault {
-        fates: fates(written, discarded),
-        torn,
     }
 }
 
@@ -83,220 +76,205 @@ fn pop(drainer: &mut Drainer) -> usize {
     drainer.pop()
 }
 
-fn is_written(found: Result<Fates, WriteFault>, written: u64, discarded: u64) -> bool {
+// Adds the fates of a hand, or those at a fault, with the bytes of a torn frame.
+fn tell_fates(told: &mut String, found: Result<Fates, WriteFault>) -> Result<(), AllocError> {
     match found {
-        Ok(fates) => fates.written == written && fates.discarded == discarded,
-        Err(_) => false,
-    }
-}
-
-fn is_fault(found: Result<Fates, WriteFault>, wanted: WriteFault) -> bool {
-    match found {
-        Ok(_) => false,
-        Err(fault) => fault == wanted,
-    }
-}
-
-// Whether a call answers as wanted.
-fn holds(feeder: &mut Feeder, drainer: &mut Drainer, out: &mut FailAt, step: &Step) -> bool {
-    match *step {
-        Step::Take(number, frames) => {
-            offer(feeder, frames, of_no_move(number));
-            true
+        Ok(fates) => {
+            told.write_fmt(format_args!(
+                "{} written, {} discarded\n",
+                fates.written, fates.discarded
+            ))
         }
-        Step::Push(want) => push(feeder) == want,
-        Step::Pop(want) => pop(drainer) == want,
-        Step::Play(number, written, discarded) => {
-            let found = written_out(drainer, out, of_no_move(number), true, false);
-            is_written(found, written, discarded)
-        }
-        Step::Pause(written, discarded) => {
-            let found = written_out(drainer, out, FIRST, false, true);
-            is_written(found, written, discarded)
-        }
-        Step::Off(written, discarded) => {
-            let found = written_out(drainer, out, FIRST, false, false);
-            is_written(found, written, discarded)
-        }
-        Step::Fault(written, discarded, torn) => {
-            let found = written_out(drainer, out, FIRST, true, false);
-            is_fault(found, fault(written, discarded, torn))
+        Err(fault) => {
+            told.write_fmt(format_args!(
+                "fault: {} written, {} discarded, {} torn\n",
+                fault.fates.written, fault.fates.discarded, fault.torn
+            ))
         }
     }
 }
 
-// The place of the first step that answers otherwise.
-fn first_wrong(
-    feeder: &mut Feeder,
-    drainer: &mut Drainer,
+// Adds what a call answers.
+fn tell_step(
+    told: &mut String,
+    ends: &mut (Feeder, Drainer),
     out: &mut FailAt,
-    steps: &[Step],
-) -> Option<usize> {
-    for (place, step) in steps.iter().enumerate() {
-        if !holds(feeder, drainer, out, step) {
-            return Some(place);
+    step: &Step,
+) -> Result<(), AllocError> {
+    match *step {
+        Step::Take(cut, frames) => {
+            offer(&mut ends.0, frames, cut);
+            Ok(())
         }
+        Step::Push => told.write_fmt(format_args!("{} pushed\n", push(&mut ends.0))),
+        Step::Pop => told.write_fmt(format_args!("{} popped\n", pop(&mut ends.1))),
+        Step::Play(cut) => tell_fates(told, written_out(&mut ends.1, out, cut, true, false)),
+        Step::Pause => tell_fates(told, written_out(&mut ends.1, out, FIRST, false, true)),
+        Step::Off => tell_fates(told, written_out(&mut ends.1, out, FIRST, false, false)),
     }
-    None
 }
 
-// The totals: the frames written and discarded, and the bytes of a torn one.
-fn totals_told(alloc: Global, drainer: &Drainer) -> Result<String, AllocError> {
+// Adds all bytes that were written, and the totals.
+fn tell_totals(told: &mut String, drainer: &Drainer, out: &FailAt) -> Result<(), AllocError> {
     let Totals {
         written,
         discarded,
         torn,
     } = drainer.totals();
-    format!(in alloc; "{written} written, {discarded} discarded, {torn} bytes torn")
+    told.write_fmt(format_args!(
+        "{:?}: {written} written, {discarded} discarded, {torn} bytes torn\n",
+        out.bytes()
+    ))
 }
 
-// The totals after all steps, or the place of the first that answers otherwise, or that other bytes were
-// written.
-fn follow_all(
+// What all steps answer, with a ring and a hand of these sizes, and what was written in the end.
+fn told_of(
     alloc: Global,
     sizes: (usize, usize),
     point: FailurePoint,
     steps: &[Step],
-    bytes: &[u8],
 ) -> Result<String, AllocError> {
     let mut out = FailAt::new(Vec::new(alloc), point);
-    let (mut feeder, mut drainer) = ring(alloc, sizes.0, sizes.1)?;
-    if let Some(place) = first_wrong(&mut feeder, &mut drainer, &mut out, steps) {
-        return format!(in alloc; "step {place}");
+    let mut ends = ring(alloc, sizes.0, sizes.1)?;
+    let mut told = String::new(alloc);
+    for step in steps {
+        tell_step(&mut told, &mut ends, &mut out, step)?;
     }
-    if out.bytes() != bytes {
-        return String::from_str(alloc, "other bytes");
-    }
-    totals_told(alloc, &drainer)
+    tell_totals(&mut told, &ends.1, &out)?;
+    Ok(told)
 }
 
 const OLD_CUT: &[Step] = &[
-    Step::Take(1, &[[1, -1]; 12]),
-    Step::Push(8),
-    Step::Pop(3),
-    Step::Play(1, 3, 0),
-    Step::Pop(3),
-    Step::Play(2, 0, 3),
-    Step::Pop(2),
-    Step::Play(2, 0, 2),
-    Step::Push(4),
+    Step::Take(FIRST, &[[1, -1]; 12]),
+    Step::Push,
+    Step::Pop,
+    Step::Play(FIRST),
+    Step::Pop,
+    Step::Play(SECOND),
+    Step::Pop,
+    Step::Play(SECOND),
+    Step::Push,
 ];
 
-#[test]
-fn an_old_cut_is_discarded(rt: HostRuntime) -> Result<(), Fail> {
-    let bytes = &[1, 0, 255, 255, 1, 0, 255, 255, 1, 0, 255, 255];
-    let told = follow_all(rt.alloc(), (8, 3), FailurePoint::Never, OLD_CUT, bytes);
-    wants(told, "3 written, 5 discarded, 0 bytes torn")
-}
+const OLD_CUT_TOLD: &str = "8 pushed
+3 popped
+3 written, 0 discarded
+3 popped
+0 written, 3 discarded
+2 popped
+0 written, 2 discarded
+4 pushed
+[1, 0, 255, 255, 1, 0, 255, 255, 1, 0, 255, 255]: 3 written, 5 discarded, 0 bytes torn
+";
 
-const BEFORE_MOVES: Cut = Cut {
-    moves: 1,
-    number: 9,
-};
+// Of an output that was moved, no frame comes out that it took before.
+const MOVED: &[Step] = &[
+    Step::Take(BEFORE_MOVES, &[[1, 2], [3, 4], [5, 6]]),
+    Step::Push,
+    Step::Take(AFTER_MOVES, &[[7, 8], [9, 10]]),
+    Step::Push,
+    Step::Pop,
+    Step::Play(AFTER_MOVES),
+    Step::Pop,
+    Step::Play(AFTER_MOVES),
+];
 
-const AFTER_MOVES: Cut = Cut {
-    moves: 3,
-    number: 2,
-};
-
-// The bytes that come out of an output that was moved twice after it took three frames, whose cut has the
-// greater number, and before it took two more; then how many frames were written and discarded.
-fn moved_told(alloc: Global) -> Result<String, AllocError> {
-    let mut out = FailAt::new(Vec::new(alloc), FailurePoint::Never);
-    let (mut feeder, mut drainer) = ring(alloc, 8, 4)?;
-    offer(&mut feeder, &[[1, 2], [3, 4], [5, 6]], BEFORE_MOVES);
-    let _old = push(&mut feeder);
-    offer(&mut feeder, &[[7, 8], [9, 10]], AFTER_MOVES);
-    let _new = push(&mut feeder);
-    for _turn in 0..2 {
-        let _popped = pop(&mut drainer);
-        let _fates = written_out(&mut drainer, &mut out, AFTER_MOVES, true, false);
-    }
-    let bytes = out.bytes();
-    let Totals {
-        written,
-        discarded,
-        ..
-    } = drainer.totals();
-    format!(in alloc; "{bytes:?}: {written} written, {discarded} discarded")
-}
-
-#[test]
-fn frames_of_an_earlier_move_are_not_written(rt: HostRuntime) -> Result<(), Fail> {
-    let told = moved_told(rt.alloc());
-    wants(told, "[7, 0, 8, 0, 9, 0, 10, 0]: 2 written, 3 discarded")
-}
+const MOVED_TOLD: &str = "3 pushed
+2 pushed
+4 popped
+1 written, 3 discarded
+1 popped
+1 written, 0 discarded
+[7, 0, 8, 0, 9, 0, 10, 0]: 2 written, 3 discarded, 0 bytes torn
+";
 
 const FAILS_WITHIN: &[Step] = &[
-    Step::Take(1, &[[1, -1], [2, -2], [3, -3], [4, -4]]),
-    Step::Push(4),
-    Step::Pop(3),
-    Step::Fault(1, 2, 2),
-    Step::Pop(1),
-    Step::Play(1, 0, 1),
+    Step::Take(FIRST, &[[1, -1], [2, -2], [3, -3], [4, -4]]),
+    Step::Push,
+    Step::Pop,
+    Step::Play(FIRST),
+    Step::Pop,
+    Step::Play(FIRST),
 ];
 
-#[test]
-fn a_writer_fails_within_a_frame(rt: HostRuntime) -> Result<(), Fail> {
-    let bytes = &[1, 0, 255, 255, 2, 0];
-    let point = FailurePoint::Byte(6);
-    let told = follow_all(rt.alloc(), (8, 3), point, FAILS_WITHIN, bytes);
-    wants(told, "1 written, 3 discarded, 2 bytes torn")
-}
+const FAILS_WITHIN_TOLD: &str = "4 pushed
+3 popped
+fault: 1 written, 2 discarded, 2 torn
+1 popped
+0 written, 1 discarded
+[1, 0, 255, 255, 2, 0]: 1 written, 3 discarded, 2 bytes torn
+";
 
 const ORDER: &[Step] = &[
-    Step::Take(1, &[[1, 2]; 4]),
-    Step::Push(4),
-    Step::Pop(2),
-    Step::Pause(0, 0),
-    Step::Off(0, 2),
-    Step::Pop(2),
-    Step::Fault(0, 2, 0),
-    Step::Take(1, &[[1, 2]]),
-    Step::Push(1),
-    Step::Pop(1),
-    Step::Pause(0, 1),
+    Step::Take(FIRST, &[[1, 2]; 4]),
+    Step::Push,
+    Step::Pop,
+    Step::Pause,
+    Step::Off,
+    Step::Pop,
+    Step::Play(FIRST),
+    Step::Take(FIRST, &[[1, 2]]),
+    Step::Push,
+    Step::Pop,
+    Step::Pause,
 ];
 
+const ORDER_TOLD: &str = "4 pushed
+2 popped
+0 written, 0 discarded
+0 written, 2 discarded
+2 popped
+fault: 0 written, 2 discarded, 0 torn
+1 pushed
+1 popped
+0 written, 1 discarded
+[]: 0 written, 5 discarded, 0 bytes torn
+";
+
 #[test]
-fn the_order_of_fates(rt: HostRuntime) -> Result<(), Fail> {
-    let told = follow_all(rt.alloc(), (8, 2), FailurePoint::Byte(0), ORDER, &[]);
-    wants(told, "0 written, 5 discarded, 0 bytes torn")
+fn worked_steps(rt: HostRuntime) -> Result<(), Fail> {
+    let alloc = rt.alloc();
+    let never = FailurePoint::Never;
+    wants(told_of(alloc, (8, 3), never, OLD_CUT), OLD_CUT_TOLD)?;
+    wants(told_of(alloc, (8, 4), never, MOVED), MOVED_TOLD)?;
+    wants(
+        told_of(alloc, (8, 3), FailurePoint::Byte(6), FAILS_WITHIN),
+        FAILS_WITHIN_TOLD,
+    )?;
+    wants(
+        told_of(alloc, (8, 2), FailurePoint::Byte(0), ORDER),
+        ORDER_TOLD,
+    )
 }
 
-// What is told where a writer of three frames fails after so many bytes: these are the totals of what it has
-// to have written.
-fn failed_after(alloc: Global, place: u64) -> Result<String, AllocError> {
-    let all = [1, 0, 2, 0, 3, 0, 4, 0, 5, 0, 6, 0];
-    let steps = [
-        Step::Take(1, &[[1, 2], [3, 4], [5, 6]]),
-        Step::Push(3),
-        Step::Pop(3),
-        Step::Fault(place / 4, 3u64.saturating_sub(place / 4), (place % 4) as u8),
-    ];
-    let bytes = all.get(..place as usize).unwrap_or(&[]);
-    follow_all(alloc, (3, 3), FailurePoint::Byte(place), &steps, bytes)
-}
+const THREE_FRAMES: &[Step] = &[
+    Step::Take(FIRST, &[[1, 2], [3, 4], [5, 6]]),
+    Step::Push,
+    Step::Pop,
+    Step::Play(FIRST),
+];
 
+// What is wanted where a writer of three frames fails after so many bytes.
 fn failed_after_wanted(alloc: Global, place: u64) -> Result<String, AllocError> {
+    let all = [1u8, 0, 2, 0, 3, 0, 4, 0, 5, 0, 6, 0];
+    let bytes = all.get(..place as usize).unwrap_or(&[]);
     let (written, torn) = (place / 4, place % 4);
     let discarded = 3u64.saturating_sub(written);
-    format!(in alloc; "{written} written, {discarded} discarded, {torn} bytes torn")
-}
-
-fn fails_as_wanted(alloc: Global, place: u64) -> Result<bool, AllocError> {
-    let wanted = failed_after_wanted(alloc, place)?;
-    Ok(failed_after(alloc, place)?.as_str() == wanted.as_str())
+    format!(in alloc;
+        "3 pushed\n3 popped\nfault: {written} written, {discarded} discarded, {torn} torn\n\
+         {bytes:?}: {written} written, {discarded} discarded, {torn} bytes torn\n"
+    )
 }
 
 #[test]
-fn a_writer_that_fails_after_each_byte(rt: HostRuntime) {
+fn a_writer_that_fails_after_each_byte(rt: HostRuntime) -> Result<(), Fail> {
     for place in 0..12 {
-        assert!(rt;
-            fails_as_wanted(rt.alloc(), place) == Ok(true),
-            "after byte {place}"
-        );
+        wants_made(
+            told_of(rt.alloc(), (3, 3), FailurePoint::Byte(place), THREE_FRAMES),
+            failed_after_wanted(rt.alloc(), place),
+        )?;
     }
+    Ok(())
 }
 
 // A writer that answers its first call so, and takes all at the others.
@@ -323,12 +301,8 @@ impl Write for Once {
     }
 }
 
-// What is answered to a hand of one frame by a writer that answers its first call so: the frames written and
-// discarded and the bytes of a torn one, and none where that is no fault.
-fn first_call_answered(
-    alloc: Global,
-    answer: Option<ErrorKind>,
-) -> Result<Option<(u64, u64, u8)>, AllocError> {
+// What a hand of one frame gives with a writer that answers its first call so.
+fn first_call_told(alloc: Global, answer: Option<ErrorKind>) -> Result<String, AllocError> {
     let mut out = Counting::new(Once {
         answer,
         first: true,
@@ -337,21 +311,21 @@ fn first_call_answered(
     offer(&mut feeder, &[[1, 2]], FIRST);
     let _pushed = push(&mut feeder);
     let _popped = pop(&mut drainer);
-    match drainer.write_out(&mut out, live(FIRST, true, false)) {
-        Ok(_) => Ok(None),
-        Err(fault) => Ok(Some((fault.fates.written, fault.fates.discarded, fault.torn))),
-    }
+    let mut told = String::new(alloc);
+    tell_fates(
+        &mut told,
+        drainer.write_out(&mut out, live(FIRST, true, false)),
+    )?;
+    Ok(told)
 }
 
 #[test]
-fn interrupted_blocked_and_empty_writes_are_faults(rt: HostRuntime) {
-    for answer in [
-        Some(ErrorKind::Interrupted),
-        Some(ErrorKind::WouldBlock),
-        None,
-    ] {
-        assert!(rt; first_call_answered(rt.alloc(), answer) == Ok(Some((0, 1, 0))));
-    }
+fn interrupted_blocked_and_empty_writes_are_faults(rt: HostRuntime) -> Result<(), Fail> {
+    let alloc = rt.alloc();
+    let wanted = "fault: 0 written, 1 discarded, 0 torn\n";
+    wants(first_call_told(alloc, Some(ErrorKind::Interrupted)), wanted)?;
+    wants(first_call_told(alloc, Some(ErrorKind::WouldBlock)), wanted)?;
+    wants(first_call_told(alloc, None), wanted)
 }
 
 // What a ring of four answers: to a push and a pop of seven frames, how many are in the ring, how many are
@@ -412,9 +386,15 @@ fn take_turn(ends: &mut (Feeder, Drainer), out: &mut FailAt, cut: Cut, which: u6
     }
 }
 
-// One order of five calls, and then enough turns that all frames go through: the bytes that came out, and how
-// many frames were discarded.
-fn ran(alloc: Global, cut: Cut, order: u64) -> Result<(Vec<u8>, u64), AllocError> {
+// Whether one order of five calls, and then enough turns that all frames go through, writes these bytes and
+// discards so many frames.
+fn is_order_as_wanted(
+    alloc: Global,
+    cut: Cut,
+    order: u64,
+    wanted: &[u8],
+    skipped: u64,
+) -> Result<bool, AllocError> {
     let mut out = FailAt::new(Vec::new(alloc), FailurePoint::Never);
     let mut ends = ring(alloc, 2, 2)?;
     let mut blocks = 0;
@@ -428,22 +408,7 @@ fn ran(alloc: Global, cut: Cut, order: u64) -> Result<(Vec<u8>, u64), AllocError
         blocks = feed(&mut ends.0, blocks);
         take_turn(&mut ends, &mut out, cut, [0, 1, 3][turn % 3]);
     }
-    Ok((
-        Vec::from_slice(alloc, out.bytes())?,
-        ends.1.totals().discarded,
-    ))
-}
-
-// Whether these bytes came out in one order, and so many frames were discarded.
-fn is_order_as_wanted(
-    alloc: Global,
-    cut: Cut,
-    order: u64,
-    wanted: &[u8],
-    skipped: u64,
-) -> Result<bool, AllocError> {
-    let (bytes, discarded) = ran(alloc, cut, order)?;
-    Ok(bytes.as_slice() == wanted && discarded == skipped)
+    Ok(out.bytes() == wanted && ends.1.totals().discarded == skipped)
 }
 
 const ALL: [u8; 20] = [1, 0, 2, 0, 3, 0, 4, 0, 5, 0, 6, 0, 7, 0, 8, 0, 9, 0, 10, 0];
@@ -459,18 +424,9 @@ fn every_order_of_calls(rt: HostRuntime) {
     }
 }
 
-// A block of 1,024 frames: the left sample is the place in the block, the right one the block.
-fn block(number: i16) -> [Frame; 1_024] {
-    let mut frames = [[0, number]; 1_024];
-    for place in 0..1_024usize {
-        frames[place] = [place as i16, number];
-    }
-    frames
-}
-
-// How many frames of a block are pushed.
+// How many frames are pushed of a block of 1,024, whose left samples are the block's number.
 fn push_block(feeder: &mut Feeder, number: i16) -> usize {
-    offer(feeder, &block(number), FIRST);
+    offer(feeder, &[[number, 1]; 1_024], FIRST);
     push(feeder)
 }
 
@@ -484,69 +440,48 @@ fn blocks_pushed(feeder: &mut Feeder) -> i16 {
     64
 }
 
-// Whether a whole hand comes and is written by one call.
-fn is_hand_written(
-    feeder: &mut Feeder,
-    drainer: &mut Drainer,
-    out: &mut FailAt,
-    calls: u64,
-) -> bool {
-    let popped = pop(drainer);
-    let _moved = push(feeder);
-    let found = written_out(drainer, out, FIRST, true, false);
-    popped == 1_024 && is_written(found, 1_024, 0) && out.calls() == calls
+// Whether a whole hand comes and is written, after so many others, by one call, and ends in a frame of its block.
+fn is_hand_written(ends: &mut (Feeder, Drainer), out: &mut FailAt, number: u8) -> bool {
+    let popped = pop(&mut ends.1);
+    let _moved = push(&mut ends.0);
+    let _fates = written_out(&mut ends.1, out, FIRST, true, false);
+    popped == 1_024
+        && out.calls() == u64::from(number).saturating_add(1)
+        && out.bytes().ends_with(&[number, 0, 1, 0])
 }
 
 // How many hands of 65 are written so, before one that is not.
-fn hands_written(feeder: &mut Feeder, drainer: &mut Drainer, out: &mut FailAt) -> u64 {
-    for number in 0..65u64 {
-        if !is_hand_written(feeder, drainer, out, number + 1) {
+fn hands_written(ends: &mut (Feeder, Drainer), out: &mut FailAt) -> u8 {
+    for number in 0..65u8 {
+        if !is_hand_written(ends, out, number) {
             return number;
         }
     }
     65
 }
 
-// The bytes of the frame at a place of all.
-fn wanted_at(place: usize) -> [u8; 4] {
-    let (number, left) = (place / 1_024 % 256, place % 1_024);
-    [(left % 256) as u8, (left / 256) as u8, number as u8, 0]
-}
-
-// How many frames of 66,560 are as wanted, before one that is not.
-fn frames_as_wanted(bytes: &[u8]) -> usize {
-    for place in 0..66_560usize {
-        let found = bytes.get(4 * place..4 * place + 4);
-        if found.unwrap_or(&[]) != wanted_at(place).as_slice() {
-            return place;
-        }
-    }
-    66_560
-}
-
 // How many blocks the ring takes, and frames of one more; how many hands are written, and frames come after
-// them; how many bytes were written, and how many frames of them are as wanted.
+// them; how many bytes and frames were written.
 fn greatest_ring(alloc: Global) -> Result<String, AllocError> {
     let mut out = FailAt::new(Vec::new(alloc), FailurePoint::Never);
-    let (mut feeder, mut drainer) = ring(alloc, 65_536, 1_024)?;
-    let blocks = blocks_pushed(&mut feeder);
-    let more = push_block(&mut feeder, 64);
-    let hands = hands_written(&mut feeder, &mut drainer, &mut out);
-    let left = pop(&mut drainer);
-    let (bytes, frames) = (out.bytes().len(), frames_as_wanted(out.bytes()));
+    let mut ends = ring(alloc, 65_536, 1_024)?;
+    let blocks = blocks_pushed(&mut ends.0);
+    let more = push_block(&mut ends.0, 64);
+    let hands = hands_written(&mut ends, &mut out);
+    let left = pop(&mut ends.1);
+    let (bytes, written) = (out.bytes().len(), ends.1.totals().written);
     format!(in alloc;
         "{blocks} blocks and {more} frames pushed; {hands} hands written and {left} frames left\n\
-         {bytes} bytes, {frames} frames as wanted"
+         {bytes} bytes, {written} frames written"
     )
 }
 
 // The greatest ring holds 64 blocks and no frame more, and each hand is one write.
 #[test]
 fn the_greatest_ring(rt: HostRuntime) -> Result<(), Fail> {
-    let told = greatest_ring(rt.alloc());
     wants(
-        told,
+        greatest_ring(rt.alloc()),
         "64 blocks and 0 frames pushed; 65 hands written and 0 frames left\n\
-         266240 bytes, 66560 frames as wanted",
+         266240 bytes, 66560 frames written",
     )
 }

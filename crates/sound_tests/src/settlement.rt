@@ -98,45 +98,28 @@ fn settled(
     settled_at::<Brand, Brand, Brand>(alloc, blanks, run, decoded, fates)
 }
 
-// What is settled: the frames decoded, written, discarded and left, and the bytes of a torn one.
-fn answer_told(alloc: Global, answer: Answer) -> Result<String, AllocError> {
+// Adds what is settled: the frames decoded, written, discarded and left, and the bytes of a torn one.
+fn tell_answer(told: &mut String, answer: Answer) -> Result<(), AllocError> {
     match answer {
         Ok(found) => {
             let (decoded, written, discarded) = (found.decoded, found.written, found.discarded);
             let (left, torn) = (found.left, found.torn);
-            format!(in alloc;
+            told.write_fmt(format_args!(
                 "{decoded} decoded: {written} written, {discarded} discarded, {left} left; {torn} bytes torn\n"
-            )
+            ))
         }
-        Err(SettleFault::Mismatch) => String::from_str(alloc, "mismatch\n"),
-        Err(_) => String::from_str(alloc, "another fault\n"),
+        Err(SettleFault::Mismatch) => told.push_str("mismatch\n"),
+        Err(_) => told.push_str("another fault\n"),
     }
 }
 
-// The same for these books: the frames decoded, written and discarded.
-fn book_told(alloc: Global, run: Run<'_>, book: [u64; 3]) -> Result<String, AllocError> {
-    let answer = settled(alloc, run, book[0], book[1], book[2])?;
-    answer_told(alloc, answer)
-}
-
-// The same for each of several books.
+// The same for each of several books: the frames decoded, written and discarded.
 fn told_of(alloc: Global, run: Run<'_>, books: &[[u64; 3]]) -> Result<String, AllocError> {
-    let mut all = String::new(alloc);
+    let mut told = String::new(alloc);
     for book in books {
-        all.push_str(book_told(alloc, run, *book)?.as_str())?;
+        tell_answer(&mut told, settled(alloc, run, book[0], book[1], book[2])?)?;
     }
-    Ok(all)
-}
-
-// Twelve frames through a ring of eight and a hand of three.
-fn run_of(turns: &[Turn]) -> Run<'_> {
-    Run {
-        capacity: 8,
-        hand: 3,
-        frames: 12,
-        point: FailurePoint::Never,
-        turns,
-    }
+    Ok(told)
 }
 
 const PLAYED: Turn = Turn {
@@ -163,78 +146,75 @@ const PAUSED: Turn = Turn {
     reported: true,
 };
 
-#[test]
-fn an_old_cut_is_settled(rt: HostRuntime) -> Result<(), Fail> {
-    let run = run_of(&[PLAYED, CUT_OFF, CUT_OFF]);
-    let books = &[[12, 3, 5], [12, 3, 6], [12, 2, 5], [11, 3, 5]];
-    let told = told_of(rt.alloc(), run, books);
-    wants(
-        told,
-        "12 decoded: 3 written, 5 discarded, 4 left; 0 bytes torn\nmismatch\nmismatch\nmismatch\n",
-    )
-}
+// Twelve frames through a ring of eight and a hand of three.
+const OLD_CUT: Run<'static> = Run {
+    capacity: 8,
+    hand: 3,
+    frames: 12,
+    point: FailurePoint::Never,
+    turns: &[PLAYED, CUT_OFF, CUT_OFF],
+};
 
-#[test]
-fn an_unreported_turn_is_counted(rt: HostRuntime) -> Result<(), Fail> {
-    let run = run_of(&[PLAYED, CUT_OFF, UNREPORTED]);
-    let told = told_of(rt.alloc(), run, &[[12, 3, 3], [12, 3, 5]]);
-    wants(
-        told,
-        "12 decoded: 3 written, 5 discarded, 4 left; 0 bytes torn\nmismatch\n",
-    )
-}
+const ONE_UNREPORTED: Run<'static> = Run {
+    capacity: 8,
+    hand: 3,
+    frames: 12,
+    point: FailurePoint::Never,
+    turns: &[PLAYED, CUT_OFF, UNREPORTED],
+};
 
 // A pause and a turn: a ring of four, a hand of two and three frames.
-fn paused_told(alloc: Global) -> Result<String, AllocError> {
-    let run = Run {
-        capacity: 4,
-        hand: 2,
-        frames: 3,
-        point: FailurePoint::Never,
-        turns: &[PAUSED, PLAYED],
-    };
-    told_of(alloc, run, &[[3, 2, 0]])
-}
+const ONE_PAUSED: Run<'static> = Run {
+    capacity: 4,
+    hand: 2,
+    frames: 3,
+    point: FailurePoint::Never,
+    turns: &[PAUSED, PLAYED],
+};
 
 // A writer that fails within the second of three frames.
-fn torn_told(alloc: Global) -> Result<String, AllocError> {
-    let run = Run {
-        capacity: 8,
-        hand: 3,
-        frames: 3,
-        point: FailurePoint::Byte(6),
-        turns: &[PLAYED],
-    };
-    told_of(alloc, run, &[[3, 1, 2]])
-}
+const TORN: Run<'static> = Run {
+    capacity: 8,
+    hand: 3,
+    frames: 3,
+    point: FailurePoint::Byte(6),
+    turns: &[PLAYED],
+};
+
+// A block through the greatest ring.
+const GREATEST: Run<'static> = Run {
+    capacity: 65_536,
+    hand: 1_024,
+    frames: 1_024,
+    point: FailurePoint::Never,
+    turns: &[PLAYED],
+};
 
 #[test]
-fn kept_and_torn_frames_are_settled(rt: HostRuntime) -> Result<(), Fail> {
+fn books_are_settled(rt: HostRuntime) -> Result<(), Fail> {
+    let alloc = rt.alloc();
     wants(
-        paused_told(rt.alloc()),
+        told_of(
+            alloc,
+            OLD_CUT,
+            &[[12, 3, 5], [12, 3, 6], [12, 2, 5], [11, 3, 5]],
+        ),
+        "12 decoded: 3 written, 5 discarded, 4 left; 0 bytes torn\nmismatch\nmismatch\nmismatch\n",
+    )?;
+    wants(
+        told_of(alloc, ONE_UNREPORTED, &[[12, 3, 3], [12, 3, 5]]),
+        "12 decoded: 3 written, 5 discarded, 4 left; 0 bytes torn\nmismatch\n",
+    )?;
+    wants(
+        told_of(alloc, ONE_PAUSED, &[[3, 2, 0]]),
         "3 decoded: 2 written, 0 discarded, 1 left; 0 bytes torn\n",
     )?;
     wants(
-        torn_told(rt.alloc()),
+        told_of(alloc, TORN, &[[3, 1, 2]]),
         "3 decoded: 1 written, 2 discarded, 0 left; 2 bytes torn\n",
-    )
-}
-
-fn block_told(alloc: Global) -> Result<String, AllocError> {
-    let run = Run {
-        capacity: 65_536,
-        hand: 1_024,
-        frames: 1_024,
-        point: FailurePoint::Never,
-        turns: &[PLAYED],
-    };
-    told_of(alloc, run, &[[1_024, 1_024, 0]])
-}
-
-#[test]
-fn a_block_through_the_greatest_ring_is_settled(rt: HostRuntime) -> Result<(), Fail> {
+    )?;
     wants(
-        block_told(rt.alloc()),
+        told_of(alloc, GREATEST, &[[1_024, 1_024, 0]]),
         "1024 decoded: 1024 written, 0 discarded, 0 left; 0 bytes torn\n",
     )
 }

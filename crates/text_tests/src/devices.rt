@@ -95,7 +95,7 @@ pub fn read_at<M: Media>(media: &mut M, place: u64, buf: &mut [u8]) -> Result<us
 
 /// A call of a writer, and its answer.
 #[derive(Clone, Copy)]
-pub enum Output {
+enum Output {
     Write(&'static str, Result<usize, ErrorKind>),
     Flush(Result<(), ErrorKind>),
     Counts(u64, u64, u64),
@@ -110,7 +110,7 @@ fn takes<W: Sink>(out: &mut W, step: &Output) -> bool {
 }
 
 /// The place of the first call that is answered otherwise.
-pub fn first_untaken<W: Sink>(out: &mut W, steps: &[Output]) -> Option<usize> {
+fn first_untaken<W: Sink>(out: &mut W, steps: &[Output]) -> Option<usize> {
     for (place, step) in steps.iter().enumerate() {
         if !takes(out, step) {
             return Some(place);
@@ -223,23 +223,25 @@ fn follow_full_writer() -> Option<usize> {
     )
 }
 
-fn follow_blocking_writer(alloc: Global) -> Option<usize> {
-    let mut broken = FailAt::would_block(Vec::new(alloc), FailurePoint::Call(1));
-    first_untaken(
-        &mut broken,
+/// Follows a writer that would block at its first call, and says what the device inside counted.
+fn follow_blocking_writer(alloc: Global) -> Result<(Option<usize>, (u64, u64, u64)), AllocError> {
+    let mut writer = blocking(alloc, b"", FailurePoint::Call(1))?;
+    let wrong = first_untaken(
+        &mut writer,
         &[
             Output::Flush(Err(ErrorKind::WouldBlock)),
             Output::Write("ab", Ok(2)),
             Output::Counts(0, 1, 2),
         ],
-    )
+    );
+    Ok((wrong, inner_counts(&writer)))
 }
 
 #[test]
 fn a_counted_writer(rt: HostRuntime) {
     assert!(rt; follow_failing_writer(rt.alloc()) == Ok((None, true)));
     assert!(rt; follow_full_writer().is_none());
-    assert!(rt; follow_blocking_writer(rt.alloc()).is_none());
+    assert!(rt; follow_blocking_writer(rt.alloc()) == Ok((None, (0, 1, 2))));
 }
 
 fn follow_failing_media(alloc: Global) -> Result<Option<usize>, AllocError> {
@@ -276,47 +278,10 @@ fn follow_counted_bytes() -> Option<usize> {
     )
 }
 
-fn follow_blocking_media(alloc: Global) -> Result<Option<usize>, AllocError> {
-    let mut blocked = blocking(alloc, b"abcdef", FailurePoint::Call(1))?;
-    Ok(first_ungiven(
-        &mut blocked,
-        &mut [0; 2],
-        &[
-            Input::Seek(2, Err(ErrorKind::WouldBlock)),
-            Input::Counts(0, 1, 1),
-            Input::Seek(2, Ok(())),
-            Input::ReadHere(2, "cd"),
-        ],
-    ))
-}
-
 #[test]
 fn counted_seeks(rt: HostRuntime) {
     assert!(rt; follow_failing_media(rt.alloc()) == Ok(None));
     assert!(rt; follow_counted_bytes().is_none());
-    assert!(rt; follow_blocking_media(rt.alloc()) == Ok(None));
-}
-
-/// Whether calls are answered so, and the device and the one inside counted this after them.
-pub fn follows(writer: &mut Counting<FailAt>, steps: &[Output], wanted: (u64, u64, u64)) -> bool {
-    first_untaken(writer, steps).is_none()
-        && counts(writer) == wanted
-        && counts(writer.inner()) == wanted
-}
-
-fn follow_flushes(alloc: Global) -> Result<bool, AllocError> {
-    let mut writer = failing(alloc, b"", FailurePoint::Call(3))?;
-    let is_first = follows(&mut writer, &[Output::Flush(Ok(()))], (0, 0, 1));
-    let others = [
-        Output::Write("ab", Ok(2)),
-        Output::Flush(Err(ErrorKind::Other)),
-    ];
-    Ok(is_first && follows(&mut writer, &others, (1, 0, 3)))
-}
-
-#[test]
-fn a_flush_is_handed_on(rt: HostRuntime) {
-    assert!(rt; follow_flushes(rt.alloc()) == Ok(true));
 }
 
 /// Whether a device that does not count its calls has so many bytes.

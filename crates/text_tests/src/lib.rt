@@ -13,8 +13,6 @@ mod lines;
 #[cfg(test)]
 mod long_devices;
 #[cfg(test)]
-mod quotes;
-#[cfg(test)]
 mod script;
 #[cfg(test)]
 mod songs;

@@ -3,18 +3,21 @@ use crate::tables::repeated;
 use mpd_text::{Line, SplitFault, Splitter, any_cut, lines_make_the_stream, pieces_do_not_matter};
 use std::alloc::{AllocError, Global};
 use std::test::Fail;
-use wanted::wants;
+use wanted::{wants, wants_made};
+
+fn text_of(line: &Line) -> &str {
+    match line {
+        Line::Text(text) => text.as_str(),
+        Line::NotText => "!",
+    }
+}
 
 /// Adds the lines with a bar after each, and `!` for a line that is not text.
 fn add_lines(all: &mut String, lines: &[Line]) -> Result<(), AllocError> {
     for line in lines {
-        match line {
-            Line::Text(text) => all.push_str(text.as_str())?,
-            Line::NotText => all.push('!')?,
-        }
-        all.push('|')?;
+        all.write_fmt(format_args!("{}|", text_of(line)))?;
     }
-    all.push('\n')
+    all.push_str("\n")
 }
 
 /// Adds the lines that a piece gives, after `too long: ` where the line after them is.
@@ -61,27 +64,29 @@ fn a_stream_in_pieces(rt: HostRuntime) -> Result<(), Fail> {
     wants(told, "\nping|\nping|\n!|\n|ping\r|\n\n\u{eb}|status|\nopen")
 }
 
-/// A line of 16,384 bytes and one of 16,385 by its carriage return, and whether the lines are told so.
-fn longest_line(alloc: Global) -> Result<bool, AllocError> {
-    let long = repeated(alloc, "x", 16_384)?;
+/// A line of 16,384 bytes and one of 16,385 by its carriage return.
+fn longest_line(alloc: Global) -> Result<String, AllocError> {
+    let long = "x".repeat(alloc, 16_384)?;
     let line = long.as_bytes();
-    let told = fed(alloc, &[line, b"\n", line, b"\r\n"])?;
-    let wanted = format!(in alloc; "\n{long}|\n\ntoo long: \nclosed")?;
-    Ok(told.as_str() == wanted.as_str())
+    fed(alloc, &[line, b"\n", line, b"\r\n"])
 }
 
 /// A line of 16,385 bytes after two others, and one more piece.
 fn line_too_long(alloc: Global) -> Result<String, AllocError> {
-    let long = repeated(alloc, "x", 16_385)?;
-    let stream = format!(in alloc; "ping\nstatus\n{long}")?;
+    let stream = repeated(alloc, "ping\nstatus\n", "x", 16_385, "")?;
     fed(alloc, &[stream.as_bytes(), b"ping\n"])
 }
 
 #[test]
 fn a_line_too_long(rt: HostRuntime) -> Result<(), Fail> {
-    assert!(rt; longest_line(rt.alloc()) == Ok(true));
-    let told = line_too_long(rt.alloc());
-    wants(told, "too long: ping|status|\ntoo long: \nclosed")
+    wants_made(
+        longest_line(rt.alloc()),
+        repeated(rt.alloc(), "\n", "x", 16_384, "|\n\ntoo long: \nclosed"),
+    )?;
+    wants(
+        line_too_long(rt.alloc()),
+        "too long: ping|status|\ntoo long: \nclosed",
+    )
 }
 
 #[test]

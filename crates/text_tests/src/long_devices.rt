@@ -5,6 +5,8 @@ use crate::devices::{counts, end, failing, inner_counts, read, read_at, written}
 use counted_devices::{Counting, FailAt, FailurePoint, Media};
 use std::alloc::{AllocError, Global};
 use std::io::{Cursor, ErrorKind};
+use std::test::Fail;
+use wanted::wants;
 
 /// 40,000 bytes, each known by its place.
 fn pattern(alloc: Global) -> Result<Vec<u8>, AllocError> {
@@ -30,18 +32,15 @@ fn size_of_cursor(bytes: Vec<u8>) -> Result<u64, std::io::Error>
     media.seek_to_end()
 }
 
-fn size_of_pattern(alloc: Global) -> Result<Option<u64>, AllocError> {
-    Ok(size_of(pattern(alloc)?).ok())
-}
-
-fn size_of_cursor_on_pattern(alloc: Global) -> Result<Option<u64>, AllocError> {
-    Ok(size_of_cursor(pattern(alloc)?).ok())
+fn sizes(alloc: Global) -> Result<String, std::io::Error> {
+    let of_device = size_of(pattern(alloc)?)?;
+    let of_cursor = size_of_cursor(pattern(alloc)?)?;
+    Ok(format!(in alloc; "{of_device} {of_cursor}")?)
 }
 
 #[test]
-fn a_long_device_has_all_its_bytes(rt: HostRuntime) {
-    assert!(rt; size_of_pattern(rt.alloc()) == Ok(Some(40_000)));
-    assert!(rt; size_of_cursor_on_pattern(rt.alloc()) == Ok(Some(40_000)));
+fn a_long_device_has_all_its_bytes(rt: HostRuntime) -> Result<(), Fail> {
+    wants(sizes(rt.alloc()), "40000 40000")
 }
 
 /// Whether these bytes stand there twice, with nothing else.
@@ -60,16 +59,6 @@ fn two_long_writes(alloc: Global, bytes: &[u8]) -> Result<bool, AllocError> {
     )
 }
 
-fn long_writes(alloc: Global) -> Result<bool, AllocError> {
-    let bytes = pattern(alloc)?;
-    two_long_writes(alloc, bytes.as_slice())
-}
-
-#[test]
-fn a_long_write_is_handed_on_whole(rt: HostRuntime) {
-    assert!(rt; long_writes(rt.alloc()) == Ok(true));
-}
-
 /// Whether all bytes but the last are held.
 fn holds_all_but_one(held: &[u8], bytes: &[u8]) -> bool {
     held.len() == 39_999 && bytes.starts_with(held)
@@ -85,16 +74,6 @@ fn cut_write(alloc: Global, bytes: &[u8]) -> Result<bool, AllocError> {
     )
 }
 
-fn cut_write_of_pattern(alloc: Global) -> Result<bool, AllocError> {
-    let bytes = pattern(alloc)?;
-    cut_write(alloc, bytes.as_slice())
-}
-
-#[test]
-fn a_write_fails_at_its_byte(rt: HostRuntime) {
-    assert!(rt; cut_write_of_pattern(rt.alloc()) == Ok(true));
-}
-
 /// Reads all bytes twice into this room.
 fn two_long_reads(alloc: Global, bytes: &[u8], room: &mut [u8]) -> Result<bool, AllocError> {
     let mut media = failing(alloc, bytes, FailurePoint::Never)?;
@@ -104,17 +83,6 @@ fn two_long_reads(alloc: Global, bytes: &[u8], room: &mut [u8]) -> Result<bool, 
             && read_at(&mut media, 0, room) == Ok(40_000)
             && inner_counts(&media) == (0, 0, 3),
     )
-}
-
-fn long_reads(alloc: Global) -> Result<bool, AllocError> {
-    let bytes = pattern(alloc)?;
-    let mut room = vec![in alloc; 0; 40_000]?;
-    two_long_reads(alloc, bytes.as_slice(), room.as_mut_slice())
-}
-
-#[test]
-fn a_long_read_is_handed_on_whole(rt: HostRuntime) {
-    assert!(rt; long_reads(rt.alloc()) == Ok(true));
 }
 
 /// How many bytes a read of one byte gives at a place, and which.
@@ -136,12 +104,24 @@ fn last_bytes(alloc: Global, bytes: &[u8]) -> Result<bool, AllocError> {
     )
 }
 
-fn last_bytes_of_pattern(alloc: Global) -> Result<bool, AllocError> {
+fn long_read(alloc: Global, bytes: &[u8]) -> Result<bool, AllocError> {
+    let mut room = vec![in alloc; 0; 40_000]?;
+    two_long_reads(alloc, bytes, room.as_mut_slice())
+}
+
+/// Whether a long write is handed on whole; a write fails at its byte; a long read is handed on whole; and a seek
+/// is, to its place.
+fn long_calls(alloc: Global) -> Result<String, AllocError> {
     let bytes = pattern(alloc)?;
-    last_bytes(alloc, bytes.as_slice())
+    let bytes = bytes.as_slice();
+    let written = two_long_writes(alloc, bytes)?;
+    let is_cut = cut_write(alloc, bytes)?;
+    let read = long_read(alloc, bytes)?;
+    let sought = last_bytes(alloc, bytes)?;
+    format!(in alloc; "{written} {is_cut} {read} {sought}")
 }
 
 #[test]
-fn a_seek_is_handed_on_to_its_place(rt: HostRuntime) {
-    assert!(rt; last_bytes_of_pattern(rt.alloc()) == Ok(true));
+fn long_calls_are_handed_on(rt: HostRuntime) -> Result<(), Fail> {
+    wants(long_calls(rt.alloc()), "true true true true")
 }

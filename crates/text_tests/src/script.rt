@@ -1,17 +1,19 @@
 //! Lines of a script.
 use crate::songs;
-use crate::tables::{Reads, compared, repeated};
+use crate::tables::{Reads, all_agree, read, repeated};
 use script_lines::{JobStep, LimitName, ScriptLine, Step};
 use std::alloc::{AllocError, Global};
 use std::test::Fail;
-use wanted::wants;
+use wanted::{wants, wants_made};
 
-/// Whose line it is, and what follows in brackets.
-pub fn read_head(alloc: Global, line: &str) -> Result<String, AllocError> {
+/// Adds whose line it is, and what follows in brackets.
+pub fn add_head(told: &mut String, line: &str) -> Result<(), AllocError> {
     match ScriptLine::of(line) {
-        ScriptLine::Client(client, text) => format!(in alloc; "client {client} [{text}]"),
-        ScriptLine::Step(text) => format!(in alloc; "step [{text}]"),
-        ScriptLine::Bad => String::from_str(alloc, "neither"),
+        ScriptLine::Client(client, text) => told.write_fmt(format_args!(
+            "client {client} [{text}]"
+        )),
+        ScriptLine::Step(text) => told.write_fmt(format_args!("step [{text}]")),
+        ScriptLine::Bad => told.push_str("neither"),
     }
 }
 
@@ -32,44 +34,41 @@ hello => neither
 
 #[test]
 fn heads(rt: HostRuntime) -> Result<(), Fail> {
-    let told = compared(rt.alloc(), Reads::Head, HEADS);
-    wants(told, "14 lines agree")
+    all_agree(rt.alloc(), Reads::Head, HEADS)
 }
 
-/// What a step says, or that it is bad.
-pub fn read_step(alloc: Global, rest: &str) -> Result<String, AllocError> {
+/// Adds what a step says, or that it is bad.
+pub fn add_step(told: &mut String, alloc: Global, rest: &str) -> Result<(), AllocError> {
     match Step::of_line(alloc, rest)? {
-        Some(Step::Song(song)) => songs::shown(alloc, &song),
-        Some(Step::Limit(name, value)) => format!(in alloc; "{name:?} {value}"),
-        Some(Step::Gone(number)) => format!(in alloc; "gone {number}"),
-        Some(Step::Scanned) => String::from_str(alloc, "scanned"),
-        Some(step) => player_step(alloc, &step),
-        None => String::from_str(alloc, "bad"),
+        Some(step) => add_said(told, &step),
+        None => told.push_str("bad"),
     }
 }
 
-/// What a step of the player says.
-fn player_step(alloc: Global, step: &Step) -> Result<String, AllocError> {
+fn add_said(told: &mut String, step: &Step) -> Result<(), AllocError> {
     match step {
-        Step::Window => String::from_str(alloc, "window"),
-        Step::Job(job) => job_step(alloc, job),
+        Step::Song(song) => songs::add_song(told, song),
+        Step::Limit(name, value) => told.write_fmt(format_args!("{name:?} {value}")),
+        Step::Gone(number) => told.write_fmt(format_args!("gone {number}")),
+        Step::Scanned => told.push_str("scanned"),
+        Step::Window => told.push_str("window"),
+        Step::Job(job) => add_job(told, job),
         Step::JobIn(name, job) => {
-            let told = job_step(alloc, job)?;
-            format!(in alloc; "in {} {told}", name.as_str())
+            told.write_fmt(format_args!("in {} ", name.as_str()))?;
+            add_job(told, job)
         }
-        Step::Turn(written, discarded, failed) => format!(in alloc;
-            "turn {written} {discarded} {failed}"
-        ),
-        _ => String::from_str(alloc, "another"),
+        Step::Turn(written, discarded, failed) => {
+            told.write_fmt(format_args!("turn {written} {discarded} {failed}"))
+        }
     }
 }
 
-/// What a step of the decoder says.
-fn job_step(alloc: Global, step: &JobStep) -> Result<String, AllocError> {
+/// Adds what a step of the decoder says.
+fn add_job(told: &mut String, step: &JobStep) -> Result<(), AllocError> {
     match step {
-        JobStep::Want => String::from_str(alloc, "want"),
-        JobStep::Have(job, count) => format!(in alloc; "have {job} {count}"),
-        JobStep::Failed(job, partner) => format!(in alloc; "failed {job} {partner}"),
+        JobStep::Want => told.push_str("want"),
+        JobStep::Have(job, count) => told.write_fmt(format_args!("have {job} {count}")),
+        JobStep::Failed(job, partner) => told.write_fmt(format_args!("failed {job} {partner}")),
     }
 }
 
@@ -95,9 +94,8 @@ nosuch => bad
 
 #[test]
 fn songs(rt: HostRuntime) -> Result<(), Fail> {
-    let told = compared(rt.alloc(), Reads::Step, SONGS);
-    wants(told, "19 lines agree")?;
-    wants(read_step(rt.alloc(), "song \"a\nb\" 8"), "bad")
+    all_agree(rt.alloc(), Reads::Step, SONGS)?;
+    wants(read(rt.alloc(), Reads::Step, "song \"a\nb\" 8"), "bad")
 }
 
 const LIMITS: &str = "limit max_queue 1 => MaxQueue 1
@@ -142,22 +140,31 @@ window 1 => bad
 window \"\" => bad
 Window => bad";
 
-/// Whether a word is this limit's name, whose greatest value is this.
-fn is_limit(word: &str, name: LimitName, greatest: u32) -> bool {
-    LimitName::of_word(word) == Some(name) && name.greatest() == greatest
+const NAMES: &str = "everyday|history|max_cut|max_id|max_queue|max_version";
+
+/// The limit that a word names, and its greatest value.
+fn add_limit(told: &mut String, word: &str) -> Result<(), AllocError> {
+    match LimitName::of_word(word) {
+        Some(name) => told.write_fmt(format_args!("{name:?} {}|", name.greatest())),
+        None => told.push_str("none"),
+    }
+}
+
+fn greatest(alloc: Global) -> Result<String, AllocError> {
+    let mut told = String::new(alloc);
+    for word in NAMES.split('|') {
+        add_limit(&mut told, word)?;
+    }
+    Ok(told)
 }
 
 #[test]
 fn limits(rt: HostRuntime) -> Result<(), Fail> {
-    let told = compared(rt.alloc(), Reads::Step, LIMITS);
-    wants(told, "41 lines agree")?;
-    assert!(rt; is_limit("everyday", LimitName::Everyday, 1));
-    assert!(rt; is_limit("history", LimitName::History, 4_096));
-    assert!(rt; is_limit("max_cut", LimitName::MaxCut, 4_294_967_295));
-    assert!(rt; is_limit("max_id", LimitName::MaxId, 2_147_483_647));
-    assert!(rt; is_limit("max_queue", LimitName::MaxQueue, 16_384));
-    assert!(rt; is_limit("max_version", LimitName::MaxVersion, 2_147_483_647));
-    Ok(())
+    all_agree(rt.alloc(), Reads::Step, LIMITS)?;
+    wants(
+        greatest(rt.alloc()),
+        "Everyday 1|History 4096|MaxCut 4294967295|MaxId 2147483647|MaxQueue 16384|MaxVersion 2147483647|",
+    )
 }
 
 const JOBS: &str = "want => want
@@ -195,8 +202,7 @@ Failed 1 => bad";
 
 #[test]
 fn jobs(rt: HostRuntime) -> Result<(), Fail> {
-    let told = compared(rt.alloc(), Reads::Step, JOBS);
-    wants(told, "32 lines agree")
+    all_agree(rt.alloc(), Reads::Step, JOBS)
 }
 
 const JOBS_IN: &str = "in k want => in k want
@@ -215,8 +221,7 @@ In k want => bad";
 
 #[test]
 fn jobs_in_a_partition(rt: HostRuntime) -> Result<(), Fail> {
-    let told = compared(rt.alloc(), Reads::Step, JOBS_IN);
-    wants(told, "13 lines agree")
+    all_agree(rt.alloc(), Reads::Step, JOBS_IN)
 }
 
 const TURNS: &str = "turn 0 0 0 => turn 0 0 false
@@ -247,34 +252,33 @@ Turn 0 1 2 => bad";
 
 #[test]
 fn turns(rt: HostRuntime) -> Result<(), Fail> {
-    let told = compared(rt.alloc(), Reads::Step, TURNS);
-    wants(told, "25 lines agree")
+    all_agree(rt.alloc(), Reads::Step, TURNS)
 }
 
-/// Whether the song that a line tells of has this URI, and how many tags; nothing where the line tells of
-/// none.
-fn song_told(alloc: Global, rest: &str, uri: &str) -> Result<Option<(bool, usize)>, AllocError> {
-    match Step::of_line(alloc, rest)? {
-        Some(Step::Song(song)) => Ok(Some((song.uri() == uri, song.tags().len()))),
-        _ => Ok(None),
-    }
-}
-
-/// The same of a URI and a tag's text of so many bytes.
-fn long_song_told(
+/// A URI and another text of so many bytes, with this before and between them.
+fn with_long(
     alloc: Global,
+    before: &str,
     uri: usize,
+    between: &str,
     text: usize,
-) -> Result<Option<(bool, usize)>, AllocError> {
-    let uri = repeated(alloc, "u", uri)?;
-    let text = repeated(alloc, "x", text)?;
-    let rest = format!(in alloc; "song {uri} 8 Album={text}")?;
-    song_told(alloc, rest.as_str(), uri.as_str())
+) -> Result<String, AllocError> {
+    let start = repeated(alloc, before, "u", uri, between)?;
+    repeated(alloc, start.as_str(), "x", text, "")
+}
+
+/// What a step says whose song has a URI and a tag's text of so many bytes.
+fn long_song(alloc: Global, uri: usize, text: usize) -> Result<String, AllocError> {
+    let step = with_long(alloc, "song ", uri, " 8 Album=", text)?;
+    read(alloc, Reads::Step, step.as_str())
 }
 
 #[test]
-fn longest(rt: HostRuntime) {
-    assert!(rt; long_song_told(rt.alloc(), 1_024, 1_024) == Ok(Some((true, 1))));
-    assert!(rt; long_song_told(rt.alloc(), 1_025, 1) == Ok(None));
-    assert!(rt; long_song_told(rt.alloc(), 1, 1_025) == Ok(Some((true, 0))));
+fn longest(rt: HostRuntime) -> Result<(), Fail> {
+    wants_made(
+        long_song(rt.alloc(), 1_024, 1_024),
+        with_long(rt.alloc(), "", 1_024, " 8|Album=", 1_024),
+    )?;
+    wants(long_song(rt.alloc(), 1_025, 1), "bad")?;
+    wants(long_song(rt.alloc(), 1, 1_025), "u 8")
 }

@@ -1,18 +1,22 @@
 //! Songs and tags.
-use crate::tables::repeated;
 use mpd_text::{Song, TAG_NAMES, Tag, TagName};
 use std::alloc::{AllocError, Global};
 use std::test::Fail;
-use wanted::wants;
+use wanted::{wants, wants_made};
 
-/// The URI, the frames, and each tag after a bar.
-pub fn shown(alloc: Global, song: &Song) -> Result<String, AllocError> {
-    let mut all = format!(in alloc; "{} {}", song.uri(), song.frames())?;
+/// Adds the URI, the frames, and each tag after a bar.
+pub fn add_song(told: &mut String, song: &Song) -> Result<(), AllocError> {
+    told.write_fmt(format_args!("{} {}", song.uri(), song.frames()))?;
     for tag in song.tags() {
-        let tag = format!(in alloc; "|{:?}={}", tag.name(), tag.text())?;
-        all.push_str(tag.as_str())?;
+        told.write_fmt(format_args!("|{:?}={}", tag.name(), tag.text()))?;
     }
-    Ok(all)
+    Ok(())
+}
+
+fn shown(alloc: Global, song: &Song) -> Result<String, AllocError> {
+    let mut told = String::new(alloc);
+    add_song(&mut told, song)?;
+    Ok(told)
 }
 
 /// A tag of each name, with this text.
@@ -51,38 +55,38 @@ fn songs(rt: HostRuntime) -> Result<(), Fail> {
     wants(refused, "a newline")
 }
 
-/// What a song of six tags is shown as.
-fn six_tags(alloc: Global, uri: &str, text: &str) -> Result<String, AllocError> {
-    format!(in alloc;
-        "{uri} 4294967295|Title={text}|Artist={text}|Album={text}|Date={text}|Genre={text}|Comment={text}"
-    )
-}
-
-fn are_longest_shown(alloc: Global) -> Result<bool, AllocError> {
-    let uri = repeated(alloc, "u", 1_024)?;
-    let text = repeated(alloc, "x", 1_024)?;
-    let told = made_and_shown(
+fn longest_told(alloc: Global) -> Result<String, AllocError> {
+    let uri = "u".repeat(alloc, 1_024)?;
+    let text = "x".repeat(alloc, 1_024)?;
+    made_and_shown(
         alloc,
         uri.as_str(),
         &TAG_NAMES,
         text.as_str(),
         4_294_967_295,
-    )?;
-    Ok(told.as_str() == six_tags(alloc, uri.as_str(), text.as_str())?.as_str())
+    )
+}
+
+/// What it is to be.
+fn longest(alloc: Global) -> Result<String, AllocError> {
+    let uri = "u".repeat(alloc, 1_024)?;
+    let text = "x".repeat(alloc, 1_024)?;
+    format!(in alloc;
+        "{uri} 4294967295|Title={text}|Artist={text}|Album={text}|Date={text}|Genre={text}|Comment={text}"
+    )
 }
 
 #[test]
-fn the_longest_texts_of_a_song(rt: HostRuntime) {
-    assert!(rt; are_longest_shown(rt.alloc()) == Ok(true));
+fn the_longest_texts_of_a_song(rt: HostRuntime) -> Result<(), Fail> {
+    wants_made(longest_told(rt.alloc()), longest(rt.alloc()))
 }
 
 fn names_in_order(alloc: Global) -> Result<String, AllocError> {
-    let mut all = String::new(alloc);
-    for name in TAG_NAMES {
-        all.push_str(name.text())?;
-        all.push('|')?;
+    let mut told = String::new(alloc);
+    for name in TAG_NAMES.iter() {
+        told.write_fmt(format_args!("{}|", name.text()))?;
     }
-    Ok(all)
+    Ok(told)
 }
 
 #[test]

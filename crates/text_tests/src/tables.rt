@@ -1,6 +1,8 @@
 //! Tables of worked cases, with a line for each.
-use crate::{answers, quotes, script, words};
+use crate::{answers, script, words};
 use std::alloc::{AllocError, Global};
+use std::test::Fail;
+use wanted::wants;
 
 /// What reads the left side of a line of a table.
 #[derive(Clone, Copy)]
@@ -17,40 +19,44 @@ pub enum Reads {
     Step,
 }
 
-/// What is read of a text.
-fn read(alloc: Global, reads: Reads, text: &str) -> Result<String, AllocError> {
+fn add_read(told: &mut String, alloc: Global, reads: Reads, text: &str) -> Result<(), AllocError> {
     match reads {
-        Reads::Number => answers::read_number(alloc, text),
-        Reads::Words => words::read(alloc, text),
-        Reads::Quoted => quotes::read_quoted(alloc, text),
-        Reads::Head => script::read_head(alloc, text),
-        Reads::Step => script::read_step(alloc, text),
+        Reads::Number => answers::add_number(told, text),
+        Reads::Words => words::add_words(told, alloc, text),
+        Reads::Quoted => words::add_quoted(told, alloc, text),
+        Reads::Head => script::add_head(told, text),
+        Reads::Step => script::add_step(told, alloc, text),
     }
 }
 
-/// A line of a table, and what is read of its left side, where that is not its right side.
-fn other(alloc: Global, reads: Reads, line: &str) -> Result<Option<String>, AllocError> {
+/// What is read of a text.
+pub fn read(alloc: Global, reads: Reads, text: &str) -> Result<String, AllocError> {
+    let mut told = String::new(alloc);
+    add_read(&mut told, alloc, reads, text)?;
+    Ok(told)
+}
+
+fn agrees(alloc: Global, reads: Reads, line: &str) -> Result<(), Fail> {
     let (given, wanted) = line.split_once(" => ").unwrap_or((line, "?"));
-    let found = read(alloc, reads, given)?;
-    if found.as_str() == wanted {
-        return Ok(None);
-    }
-    Ok(Some(format!(in alloc; "{line}, and not {found}")?))
+    wants(read(alloc, reads, given), wanted)
 }
 
-/// How many lines of a table say what is read of their left sides, or the first that does not.
-pub fn compared(alloc: Global, reads: Reads, table: &str) -> Result<String, AllocError> {
-    let mut count = 0u32;
+/// Passes where each line of a table says what is read of its left side.
+pub fn all_agree(alloc: Global, reads: Reads, table: &str) -> Result<(), Fail> {
     for line in table.lines() {
-        if let Some(other) = other(alloc, reads, line)? {
-            return Ok(other);
-        }
-        count = count.saturating_add(1);
+        agrees(alloc, reads, line)?;
     }
-    format!(in alloc; "{count} lines agree")
+    Ok(())
 }
 
-/// A text so many times.
-pub fn repeated(alloc: Global, text: &str, count: usize) -> Result<String, AllocError> {
-    text.repeat(alloc, count)
+/// A text so many times, between two others.
+pub fn repeated(
+    alloc: Global,
+    before: &str,
+    text: &str,
+    count: usize,
+    after: &str,
+) -> Result<String, AllocError> {
+    let long = text.repeat(alloc, count)?;
+    format!(in alloc; "{before}{long}{after}")
 }

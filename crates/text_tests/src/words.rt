@@ -1,29 +1,32 @@
-//! A line as words.
-use crate::tables::{Reads, compared, repeated};
-use mpd_text::{WordsFault, one_reading, some_reading, words};
+//! A line as words, and texts in quotes.
+use crate::tables::{Reads, all_agree, read, repeated};
+use mpd_text::{WordsFault, one_reading, quote, some_reading, words, words_read_quotes};
 use std::alloc::{AllocError, Global};
 use std::test::Fail;
-use wanted::wants;
+use wanted::{wants, wants_made};
 
-/// The words with a bar after each.
-fn joined(alloc: Global, words: &[String]) -> Result<String, AllocError> {
-    let mut all = String::new(alloc);
+fn add_each(told: &mut String, words: &[String]) -> Result<(), AllocError> {
     for word in words {
-        all.push_str(word.as_str())?;
-        all.push('|')?;
+        told.write_fmt(format_args!("{word}|"))?;
     }
-    Ok(all)
+    Ok(())
 }
 
-/// The words with a bar after each, or the fault's name.
-pub fn read(alloc: Global, line: &str) -> Result<String, AllocError> {
+/// Adds the words with a bar after each, or the fault's name.
+pub fn add_words(told: &mut String, alloc: Global, line: &str) -> Result<(), AllocError> {
     match words(alloc, line) {
-        Ok(found) => joined(alloc, found.as_slice()),
+        Ok(found) => add_each(told, found.as_slice()),
         Err(WordsFault::NoMemory) => Err(AllocError),
-        Err(fault) => format!(in alloc; "{fault:?}"),
+        Err(fault) => told.write_fmt(format_args!("{fault:?}")),
     }
 }
 
+/// Adds a text in quotes.
+pub fn add_quoted(told: &mut String, alloc: Global, text: &str) -> Result<(), AllocError> {
+    told.push_str(quote(alloc, text)?.as_str())
+}
+
+// The last lines have 65 words, the most, and one more with each fault.
 const FAULTS: &str = "add a.wav => add|a.wav|
 \t find  \"(Artist == \\\"foo\\\")\"  => find|(Artist == \"foo\")|
  \t  =>\u{20}
@@ -36,85 +39,16 @@ add a\"b => BadUnquoted
 add 'a' => BadUnquoted
 ping\r => BadUnquoted
 add a\"b \"x => BadUnquoted
-add \"x\"y a\"b => NoSpaceAfterQuote";
+add \"x\"y a\"b => NoSpaceAfterQuote
+ping x x x x x x x x x x x x x x x x x x x x x x x x x x x x x x x x x x x x x x x x x x x x x x x x x x x x x x x x x x x x x x x x => ping|x|x|x|x|x|x|x|x|x|x|x|x|x|x|x|x|x|x|x|x|x|x|x|x|x|x|x|x|x|x|x|x|x|x|x|x|x|x|x|x|x|x|x|x|x|x|x|x|x|x|x|x|x|x|x|x|x|x|x|x|x|x|x|x|
+ping x x x x x x x x x x x x x x x x x x x x x x x x x x x x x x x x x x x x x x x x x x x x x x x x x x x x x x x x x x x x x x x x x => TooMany
+ping x x x x x x x x x x x x x x x x x x x x x x x x x x x x x x x x x x x x x x x x x x x x x x x x x x x x x x x x x x x x x x x x \"x\"y => TooMany
+ping x x x x x x x x x x x x x x x x x x x x x x x x x x x x x x x x x x x x x x x x x x x x x x x x x x x x x x x x x x x x x x x x a\"b => TooMany
+ping x x x x x x x x x x x x x x x x x x x x x x x x x x x x x x x x x x x x x x x x x x x x x x x x x x x x x x x x x x x x x x x x \" => TooMany";
 
 #[test]
 fn the_first_fault_of_words(rt: HostRuntime) -> Result<(), Fail> {
-    let told = compared(rt.alloc(), Reads::Words, FAULTS);
-    wants(told, "13 lines agree")
-}
-
-/// How many words a line has; 0 where there is a fault.
-fn word_count(alloc: Global, line: &str) -> usize {
-    match words(alloc, line) {
-        Ok(found) => found.len(),
-        Err(_) => 0,
-    }
-}
-
-/// A line of 65 words, and what follows.
-fn long_line(alloc: Global, rest: &str) -> Result<String, AllocError> {
-    let words = repeated(alloc, " x", 64)?;
-    format!(in alloc; "ping{words}{rest}")
-}
-
-fn most_words(alloc: Global) -> Result<usize, AllocError> {
-    let line = long_line(alloc, "")?;
-    Ok(word_count(alloc, line.as_str()))
-}
-
-fn too_many_words(alloc: Global, rest: &str) -> Result<String, AllocError> {
-    let line = long_line(alloc, rest)?;
-    read(alloc, line.as_str())
-}
-
-#[test]
-fn one_word_too_many(rt: HostRuntime) -> Result<(), Fail> {
-    assert!(rt; most_words(rt.alloc()) == Ok(65));
-    for rest in [" x", " \"x\"y", " a\"b", " \""] {
-        wants(too_many_words(rt.alloc(), rest), "TooMany")?;
-    }
-    Ok(())
-}
-
-fn is_last(words: &[String], last: &str) -> bool {
-    match words.last() {
-        Some(word) => word.as_str() == last,
-        None => false,
-    }
-}
-
-/// Whether a line has so many words, and this is the last.
-fn ends_in(alloc: Global, line: &str, count: usize, last: &str) -> bool {
-    match words(alloc, line) {
-        Ok(found) => found.len() == count && is_last(found.as_slice(), last),
-        Err(_) => false,
-    }
-}
-
-/// How long a line of a command of 4 bytes, a space and an argument of 16,379 is, and whether the argument is
-/// read.
-fn long_argument(alloc: Global) -> Result<(usize, bool), AllocError> {
-    let argument = repeated(alloc, "x", 16_379)?;
-    let line = format!(in alloc; "find {argument}")?;
-    let is_read = ends_in(alloc, line.as_str(), 2, argument.as_str());
-    Ok((line.len(), is_read))
-}
-
-/// How long a line of one quoted word of 8,191 characters is, each after a backslash, and whether the word is
-/// read.
-fn long_quoted_word(alloc: Global) -> Result<(usize, bool), AllocError> {
-    let text = repeated(alloc, "\"", 8_191)?;
-    let quoted = repeated(alloc, "\\\"", 8_191)?;
-    let line = format!(in alloc; "\"{quoted}\"")?;
-    let is_read = ends_in(alloc, line.as_str(), 1, text.as_str());
-    Ok((line.len(), is_read))
-}
-
-#[test]
-fn the_longest_line(rt: HostRuntime) {
-    assert!(rt; long_argument(rt.alloc()) == Ok((16_384, true)));
-    assert!(rt; long_quoted_word(rt.alloc()) == Ok((16_384, true)));
+    all_agree(rt.alloc(), Reads::Words, FAULTS)
 }
 
 const SEVERAL_BYTES: &str = "\u{eb}\u{20ac}\u{1f3b5} \u{eb} => \u{eb}\u{20ac}\u{1f3b5}|\u{eb}|
@@ -123,12 +57,62 @@ const SEVERAL_BYTES: &str = "\u{eb}\u{20ac}\u{1f3b5} \u{eb} => \u{eb}\u{20ac}\u{
 
 #[test]
 fn words_of_several_bytes_a_character(rt: HostRuntime) -> Result<(), Fail> {
-    let told = compared(rt.alloc(), Reads::Words, SEVERAL_BYTES);
-    wants(told, "3 lines agree")
+    all_agree(rt.alloc(), Reads::Words, SEVERAL_BYTES)
+}
+
+// The third is the reference's example of a filter, and of the same as an argument.
+const QUOTED: &str = "a\"b\\ => \"a\\\"b\\\\\"
+ => \"\"
+(Artist == \"foo\\'bar\\\"\") => \"(Artist == \\\"foo\\\\'bar\\\\\\\"\\\")\"
+Zo\u{eb}\t\u{1f3b5} => \"Zo\u{eb}\t\u{1f3b5}\"
+1 \"\\\u{1f3b5}\\ => \"1 \\\"\\\\\u{1f3b5}\\\\\"";
+
+#[test]
+fn a_text_in_quotes(rt: HostRuntime) -> Result<(), Fail> {
+    all_agree(rt.alloc(), Reads::Quoted, QUOTED)
+}
+
+/// What is read of a line with a text so many times, between two others.
+fn long_read(
+    alloc: Global,
+    before: &str,
+    text: &str,
+    count: usize,
+    after: &str,
+) -> Result<String, AllocError> {
+    let line = repeated(alloc, before, text, count, after)?;
+    read(alloc, Reads::Words, line.as_str())
+}
+
+/// Lines of 16,384 bytes: a command of 4 bytes, a space and an argument of 16,379; and one quoted word of 8,191
+/// characters, each after a backslash.
+#[test]
+fn the_longest_line(rt: HostRuntime) -> Result<(), Fail> {
+    wants_made(
+        long_read(rt.alloc(), "find ", "x", 16_379, ""),
+        repeated(rt.alloc(), "find|", "x", 16_379, "|"),
+    )?;
+    wants_made(
+        long_read(rt.alloc(), "\"", "\\\"", 8_191, "\""),
+        repeated(rt.alloc(), "", "\"", 8_191, "|"),
+    )
+}
+
+/// A text in quotes, as the table above has it, and a space after it.
+const IN_QUOTES: &str = "\"1 \\\"\\\\\u{1f3b5}\\\\\" ";
+
+#[test]
+fn quoted_texts_are_read_back(rt: HostRuntime) -> Result<(), Fail> {
+    wants_made(
+        long_read(rt.alloc(), "", IN_QUOTES, 65, ""),
+        repeated(rt.alloc(), "", "1 \"\\\u{1f3b5}\\|", 65, ""),
+    )?;
+    wants(long_read(rt.alloc(), "", IN_QUOTES, 66, ""), "TooMany")
 }
 
 #[test]
 fn laws_can_be_called() {
     one_reading();
     some_reading();
+    words_read_quotes();
 }

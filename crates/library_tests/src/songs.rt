@@ -1,0 +1,215 @@
+//! Songs, the lines that they keep, and the library: worked ones, and the greatest one.
+use mpd_text::{Song, Tag, TagName};
+use song_db::{Db, SharedSong};
+use std::alloc::{AllocError, Global};
+use std::test::Fail;
+use wanted::{wants, wants_made};
+
+/// Names of tags and texts.
+pub type Tags = &'static [(TagName, &'static str)];
+
+fn add_tag(
+    tags: &mut Vec<Tag>,
+    alloc: Global,
+    name: TagName,
+    text: &str,
+    times: usize,
+) -> Result<(), AllocError> {
+    let tag = Tag::new(name, text.repeat(alloc, times)?);
+    tags.push(tag).map_err(AllocError::from)
+}
+
+/// A song, whose URI and texts are these so many times. The URI holds no newline.
+pub fn song(
+    alloc: Global,
+    uri: &str,
+    given: Tags,
+    times: usize,
+    frames: u64,
+) -> Result<Song, AllocError> {
+    let mut tags = Vec::new(alloc);
+    for (name, text) in given {
+        add_tag(&mut tags, alloc, *name, text, times)?;
+    }
+    Song::new(uri.repeat(alloc, times)?, tags, frames).ok_or(AllocError)
+}
+
+/// The lines that a clone shows whose first handle is gone.
+fn kept(alloc: Global, uri: &str, given: Tags, times: usize) -> Result<String, AllocError> {
+    let song = song(alloc, uri, given, times, 16_000)?;
+    let clone = SharedSong::new(alloc, song)?.clone()?;
+    String::from_str(alloc, clone.lines())
+}
+
+const TWO_TITLES: Tags = &[
+    (TagName::Artist, "Zo\u{eb}"),
+    (TagName::Title, "Bee"),
+    (TagName::Title, "Wasp"),
+];
+
+const ALL_TAGS: Tags = &[
+    (TagName::Comment, "t"),
+    (TagName::Genre, "t"),
+    (TagName::Date, "t"),
+    (TagName::Album, "t"),
+    (TagName::Artist, "t"),
+    (TagName::Title, "t"),
+];
+
+/// A line for each key, of one text.
+fn all_lines(alloc: Global, text: &str) -> Result<String, AllocError> {
+    format!(in alloc;
+        "file: {text}\nTitle: {text}\nArtist: {text}\nAlbum: {text}\nDate: {text}\nGenre: {text}\nComment: {text}\n"
+    )
+}
+
+fn longest_lines(alloc: Global) -> Result<String, AllocError> {
+    all_lines(alloc, "t".repeat(alloc, 1_024)?.as_str())
+}
+
+#[test]
+fn the_lines_of_a_song(rt: HostRuntime) -> Result<(), Fail> {
+    let alloc = rt.alloc();
+    wants(
+        kept(alloc, "a/b.wav", TWO_TITLES, 1),
+        "file: a/b.wav\nTitle: Bee\nArtist: Zo\u{eb}\n",
+    )?;
+    wants(kept(alloc, "c.wav", &[], 1), "file: c.wav\n")?;
+    wants_made(kept(alloc, "t", ALL_TAGS, 1_024), longest_lines(alloc))
+}
+
+/// Songs of these frames and URIs, each URI so many times.
+fn songs(alloc: Global, given: &[(u64, &str)], times: usize) -> Result<Vec<Song>, AllocError> {
+    let mut songs = Vec::new(alloc);
+    for (frames, uri) in given {
+        songs
+            .push(song(alloc, uri, &[], times, *frames)?)
+            .map_err(AllocError::from)?;
+    }
+    Ok(songs)
+}
+
+/// Adds the frames of the song of a URI.
+fn tell_frames(told: &mut String, db: &Db, uri: &str) -> Result<(), AllocError> {
+    match db.get(uri) {
+        Some(song) => told.write_fmt(format_args!("{} ", song.frames())),
+        None => told.push_str("none "),
+    }
+}
+
+/// The same of a handle that is shared.
+fn tell_shared(told: &mut String, db: &Db, uri: &str) -> Result<(), AllocError> {
+    match db.share(uri)? {
+        Some(shared) => told.write_fmt(format_args!("{} ", shared.song().frames())),
+        None => told.push_str("none "),
+    }
+}
+
+/// Adds how many songs there are, the URIs of the first four, where there are so many, and the frames of
+/// these URIs.
+fn tell(told: &mut String, db: &Db, uris: &[&str]) -> Result<(), AllocError> {
+    told.write_fmt(format_args!("{}: ", db.len()))?;
+    for shared in db.songs().get(..4).unwrap_or(&[]) {
+        told.write_fmt(format_args!("{} ", shared.song().uri()))?;
+    }
+    for uri in uris {
+        tell_frames(told, db, uri)?;
+        tell_shared(told, db, uri)?;
+    }
+    told.push('\n')
+}
+
+/// What is told of a library, and of its image once the library is gone.
+fn told_twice(alloc: Global, db: Db, uris: &[&str]) -> Result<String, AllocError> {
+    let mut told = String::new(alloc);
+    tell(&mut told, &db, uris)?;
+    let image = db.image()?;
+    drop(db);
+    tell(&mut told, &image, uris)?;
+    Ok(told)
+}
+
+/// The same of the library of these songs, or why they are none.
+fn told_of(alloc: Global, songs: Vec<Song>, uris: &[&str]) -> Result<String, AllocError> {
+    match Db::of_songs(alloc, songs) {
+        Ok(db) => told_twice(alloc, db, uris),
+        Err(fault) => format!(in alloc; "{fault:?}"),
+    }
+}
+
+fn four(alloc: Global) -> Result<String, AllocError> {
+    let given = &[
+        (8000, "b.wav"),
+        (16000, "a/z.wav"),
+        (24000, "a.wav"),
+        (4, "B.wav"),
+    ];
+    let uris = &["a.wav", "A.wav", "a.wa", "b.wav", "c.wav"];
+    told_of(alloc, songs(alloc, given, 1)?, uris)
+}
+
+fn two_of_one_uri(alloc: Global) -> Result<String, AllocError> {
+    let given = &[(1, "a.wav"), (2, "b.wav"), (3, "a.wav")];
+    told_of(alloc, songs(alloc, given, 1)?, &[])
+}
+
+/// The longest URI has 1,024 bytes.
+fn longest_uri(alloc: Global) -> Result<String, AllocError> {
+    let longest = "u".repeat(alloc, 1_024)?;
+    let shorter = longest.as_str().get(1..).unwrap_or("");
+    told_of(
+        alloc,
+        songs(alloc, &[(8, "u")], 1_024)?,
+        &[longest.as_str(), shorter],
+    )
+}
+
+#[test]
+fn libraries_and_their_images(rt: HostRuntime) -> Result<(), Fail> {
+    let alloc = rt.alloc();
+    wants(
+        four(alloc),
+        "4: B.wav a.wav a/z.wav b.wav 24000 24000 none none none none 8000 8000 none none \n\
+         4: B.wav a.wav a/z.wav b.wav 24000 24000 none none none none 8000 8000 none none \n",
+    )?;
+    wants(two_of_one_uri(alloc), "TwiceNamed")?;
+    wants(longest_uri(alloc), "1: 8 8 none none \n1: 8 8 none none \n")
+}
+
+fn add_numbered(songs: &mut Vec<Song>, alloc: Global, number: u64) -> Result<(), AllocError> {
+    let uri = format!(in alloc; "{number:06}")?;
+    let song = Song::new(uri, Vec::new(alloc), number).ok_or(AllocError)?;
+    songs.push(song).map_err(AllocError::from)
+}
+
+/// So many songs of the URIs 100000, 099999 and so on, each with its number in frames; the last is the first
+/// in byte order.
+fn numbered(alloc: Global, count: u64) -> Result<Vec<Song>, AllocError> {
+    let mut songs = Vec::new(alloc);
+    for place in 0..count {
+        add_numbered(&mut songs, alloc, 100_000u64.saturating_sub(place))?;
+    }
+    Ok(songs)
+}
+
+fn told_of_numbered(alloc: Global, count: u64) -> Result<String, AllocError> {
+    told_of(
+        alloc,
+        numbered(alloc, count)?,
+        &["000001", "100000", "100001"],
+    )
+}
+
+#[test]
+fn the_greatest_library(rt: HostRuntime) -> Result<(), Fail> {
+    wants(
+        told_of_numbered(rt.alloc(), 100_000),
+        "100000: 000001 000002 000003 000004 1 1 100000 100000 none none \n\
+         100000: 000001 000002 000003 000004 1 1 100000 100000 none none \n",
+    )
+}
+
+#[test]
+fn one_song_too_many(rt: HostRuntime) -> Result<(), Fail> {
+    wants(told_of_numbered(rt.alloc(), 100_001), "TooMany")
+}

@@ -1,0 +1,353 @@
+//! Songs in another order, and in groups.
+use crate::made_songs::{Tags, song};
+use mpd_text::{Answer, Song, TagName};
+use song_db::{Db, Rate, SharedSong};
+use song_groups::{count_groups, distinct, order, push_counts, push_tuples, tuples};
+use std::alloc::{AllocError, Global};
+use std::test::Fail;
+use wanted::{wants, wants_made};
+
+/// The URI of a song, its frames and its tags.
+type Given = (&'static str, u64, Tags);
+
+/// A tag, and whether its texts fall.
+type Order = (Option<TagName>, bool);
+
+/// The labels and the tags of the columns of a list.
+type List = (&'static [&'static str], &'static [Option<TagName>]);
+
+/// The label and the tag of a count.
+type Count = (&'static str, Option<TagName>);
+
+fn library(alloc: Global, given: &[Given]) -> Result<Db, AllocError> {
+    let mut songs = Vec::new(alloc);
+    for (uri, frames, tags) in given {
+        songs
+            .push(song(alloc, uri, tags, *frames)?)
+            .map_err(AllocError::from)?;
+    }
+    Db::of_songs(alloc, songs).ok().ok_or(AllocError)
+}
+
+/// All songs, in byte order of URI.
+fn songs_of<'a>(alloc: Global, db: &'a Db) -> Result<Vec<&'a SharedSong>, AllocError> {
+    let mut songs = Vec::new(alloc);
+    for song in db.songs() {
+        songs.push(song)?;
+    }
+    Ok(songs)
+}
+
+/// Adds the URIs of all songs by a tag.
+fn tell_order(
+    told: &mut Answer,
+    alloc: Global,
+    db: &Db,
+    order_of: &Order,
+) -> Result<(), AllocError> {
+    let mut songs = songs_of(alloc, db)?;
+    order(&mut songs, order_of.0, order_of.1)?;
+    for song in &songs {
+        told.pair("song", song.song().uri())?;
+    }
+    Ok(())
+}
+
+/// Adds the lines of the distinct tuples of all songs.
+fn tell_list(told: &mut Answer, alloc: Global, db: &Db, list: &List) -> Result<(), AllocError> {
+    let songs = songs_of(alloc, db)?;
+    push_tuples(told, list.0, &tuples(alloc, &songs, list.1)?)
+}
+
+/// Adds the lines of the counts of all songs, at the lowest rate.
+fn tell_count(told: &mut Answer, alloc: Global, db: &Db, count: &Count) -> Result<(), AllocError> {
+    let songs = songs_of(alloc, db)?;
+    let found = count_groups(alloc, &songs, count.1, &Rate::lowest())?;
+    push_counts(told, count.0, &found)
+}
+
+/// Adds how many distinct texts that are not empty two tags have.
+fn tell_texts(told: &mut Answer, alloc: Global, db: &Db) -> Result<(), AllocError> {
+    told.pair("artists", distinct(alloc, db.songs(), TagName::Artist)?)?;
+    told.pair("albums", distinct(alloc, db.songs(), TagName::Album)?)
+}
+
+/// What is told of a library: some orders, lists and counts, and how many texts there are.
+fn told_of(
+    alloc: Global,
+    db: &Db,
+    orders: &[Order],
+    lists: &[List],
+    counts: &[Count],
+) -> Result<String, AllocError> {
+    let mut told = Answer::new(alloc);
+    for order in orders {
+        tell_order(&mut told, alloc, db, order)?;
+    }
+    for list in lists {
+        tell_list(&mut told, alloc, db, list)?;
+    }
+    for count in counts {
+        tell_count(&mut told, alloc, db, count)?;
+    }
+    tell_texts(&mut told, alloc, db)?;
+    Ok(told.into_string())
+}
+
+/// The library of the worked rows.
+const ROWS: &[Given] = &[
+    ("a.wav", 8_000, &[(TagName::Artist, "foo'bar\"")]),
+    (
+        "b.wav",
+        16_000,
+        &[(TagName::Title, "Bee"), (TagName::Artist, "Zo\u{eb}")],
+    ),
+    ("c.wav", 24_000, &[]),
+    ("d.wav", 8_000, &[]),
+    ("e.wav", 8_000, &[]),
+    ("s.wav", 4, &[]),
+    ("t.wav", 4, &[]),
+];
+
+const ROWS_TOLD: &str = "song: c.wav
+song: d.wav
+song: e.wav
+song: s.wav
+song: t.wav
+song: b.wav
+song: a.wav
+song: a.wav
+song: b.wav
+song: c.wav
+song: d.wav
+song: e.wav
+song: s.wav
+song: t.wav
+song: a.wav
+song: b.wav
+song: c.wav
+song: d.wav
+song: e.wav
+song: s.wav
+song: t.wav
+AlbumArtist: Zo\u{eb}
+Title: Bee
+Artist:\u{20}
+songs: 5
+playtime: 5
+Artist: Zo\u{eb}
+songs: 1
+playtime: 2
+Artist: foo'bar\"
+songs: 1
+playtime: 1
+Track:\u{20}
+songs: 7
+playtime: 8
+artists: 2
+albums: 0
+";
+
+// A song has no track: a list has no line then, and a count one group.
+fn rows(alloc: Global) -> Result<String, AllocError> {
+    told_of(
+        alloc,
+        &library(alloc, ROWS)?,
+        &[
+            (Some(TagName::Artist), false),
+            (Some(TagName::Artist), true),
+            (None, true),
+        ],
+        &[
+            (
+                &["AlbumArtist", "Title"],
+                &[Some(TagName::Artist), Some(TagName::Title)],
+            ),
+            (&["Track"], &[None]),
+        ],
+        &[("Artist", Some(TagName::Artist)), ("Track", None)],
+    )
+}
+
+fn no_songs(alloc: Global) -> Result<String, AllocError> {
+    told_of(
+        alloc,
+        &library(alloc, &[])?,
+        &[],
+        &[],
+        &[("Artist", Some(TagName::Artist))],
+    )
+}
+
+/// Two artists have an album of one name; one title is there twice; a song has no title, and one no album.
+const ALBUMS: &[Given] = &[
+    (
+        "1.wav",
+        8,
+        &[
+            (TagName::Artist, "A"),
+            (TagName::Album, "X"),
+            (TagName::Title, "One"),
+        ],
+    ),
+    (
+        "2.wav",
+        8,
+        &[
+            (TagName::Artist, "A"),
+            (TagName::Album, "X"),
+            (TagName::Title, "Two"),
+        ],
+    ),
+    (
+        "3.wav",
+        8,
+        &[
+            (TagName::Artist, "A"),
+            (TagName::Album, "Y"),
+            (TagName::Title, "One"),
+        ],
+    ),
+    (
+        "4.wav",
+        8,
+        &[
+            (TagName::Artist, "B"),
+            (TagName::Album, "Y"),
+            (TagName::Title, "One"),
+        ],
+    ),
+    (
+        "5.wav",
+        8,
+        &[
+            (TagName::Artist, "B"),
+            (TagName::Album, "Y"),
+            (TagName::Title, "One"),
+        ],
+    ),
+    ("6.wav", 8, &[(TagName::Artist, "C"), (TagName::Album, "Z")]),
+    (
+        "7.wav",
+        8,
+        &[(TagName::Artist, "D"), (TagName::Title, "One")],
+    ),
+    (
+        "8.wav",
+        8,
+        &[
+            (TagName::Artist, "A"),
+            (TagName::Album, "X"),
+            (TagName::Title, ""),
+        ],
+    ),
+];
+
+const ALBUMS_TOLD: &str = "song: 6.wav
+song: 3.wav
+song: 4.wav
+song: 5.wav
+song: 1.wav
+song: 2.wav
+song: 8.wav
+song: 7.wav
+Artist: A
+Album: X
+Title: One
+Title: Two
+Album: Y
+Title: One
+Artist: B
+Album: Y
+Title: One
+Artist: D
+Album:\u{20}
+Title: One
+artists: 4
+albums: 3
+";
+
+fn albums(alloc: Global) -> Result<String, AllocError> {
+    told_of(
+        alloc,
+        &library(alloc, ALBUMS)?,
+        &[(Some(TagName::Album), true)],
+        &[(
+            &["Artist", "Album", "Title"],
+            &[
+                Some(TagName::Artist),
+                Some(TagName::Album),
+                Some(TagName::Title),
+            ],
+        )],
+        &[],
+    )
+}
+
+#[test]
+fn small_libraries(rt: HostRuntime) -> Result<(), Fail> {
+    wants(rows(rt.alloc()), ROWS_TOLD)?;
+    wants(no_songs(rt.alloc()), "artists: 0\nalbums: 0\n")?;
+    wants(albums(rt.alloc()), ALBUMS_TOLD)
+}
+
+/// Adds the song of a number: with the greatest number of frames, an artist of its own and one title.
+fn add_numbered(songs: &mut Vec<Song>, alloc: Global, number: u32) -> Result<(), AllocError> {
+    let uri = format!(in alloc; "{number:03}.wav")?;
+    let artist = format!(in alloc; "Artist {number:03}")?;
+    let tags = &[(TagName::Artist, artist.as_str()), (TagName::Title, "One")];
+    let song = song(alloc, uri.as_str(), tags, u64::MAX)?;
+    songs.push(song).map_err(AllocError::from)
+}
+
+/// Three hundred songs, each of an artist of its own.
+fn many(alloc: Global) -> Result<Db, AllocError> {
+    let mut songs = Vec::new(alloc);
+    for number in 0..300 {
+        add_numbered(&mut songs, alloc, number)?;
+    }
+    Db::of_songs(alloc, songs).ok().ok_or(AllocError)
+}
+
+fn many_told(alloc: Global) -> Result<String, AllocError> {
+    told_of(
+        alloc,
+        &many(alloc)?,
+        &[(Some(TagName::Artist), true)],
+        &[(
+            &["Artist", "Title"],
+            &[Some(TagName::Artist), Some(TagName::Title)],
+        )],
+        &[
+            ("Artist", Some(TagName::Artist)),
+            ("Title", Some(TagName::Title)),
+        ],
+    )
+}
+
+/// The last artist is first. At 8,000 a second 2^64-1 frames are 2305843009213693951 thousandths, cut; and all
+/// songs are 300 times those thousandths.
+fn many_wanted(alloc: Global) -> Result<String, AllocError> {
+    let mut all = String::new(alloc);
+    for place in 0..300u32 {
+        let number = 299u32.saturating_sub(place);
+        all.write_fmt(format_args!("song: {number:03}.wav\n"))?;
+    }
+    for number in 0..300u32 {
+        all.write_fmt(format_args!("Artist: Artist {number:03}\nTitle: One\n"))?;
+    }
+    for number in 0..300u32 {
+        all.write_fmt(format_args!(
+            "Artist: Artist {number:03}\nsongs: 1\nplaytime: 2305843009213693\n"
+        ))?;
+    }
+    all.push_str(
+        "Title: One\nsongs: 300\nplaytime: 691752902764108185\nartists: 300\nalbums: 0\n",
+    )?;
+    Ok(all)
+}
+
+#[test]
+fn three_hundred_artists(rt: HostRuntime) -> Result<(), Fail> {
+    wants_made(many_told(rt.alloc()), many_wanted(rt.alloc()))
+}

@@ -1,0 +1,288 @@
+//! The tags that clients know: their names, the texts that a song has of them, sets of them, and the lines that
+//! a set shows of a song.
+use crate::made_songs::{Tags, song};
+use known_tags::{
+    KNOWN_TAGS, KnownTag, TagSet, all_tags_show_the_whole_song, each_name_is_read_back,
+    push_shared_with, push_song_with, push_tagtypes,
+};
+use mpd_text::{Answer, Song, TAG_NAMES, TagName};
+use song_db::{Rate, SharedSong, push_song, texts_and_length_are_the_song};
+use std::alloc::{AllocError, Global};
+use std::test::Fail;
+use wanted::wants;
+
+/// The 31 names, in letters of which every second one is large.
+const ODD_WORDS: &str =
+    "aRtIsT aRtIsTsOrT aLbUm aLbUmSoRt aLbUmArTiSt aLbUmArTiStSoRt tItLe tRaCk nAmE \
+     gEnRe dAtE oRiGiNaLdAtE cOmPoSeR cOmPoSeRsOrT pErFoRmEr cOnDuCtOr wOrK eNsEmBlE \
+     mOvEmEnT mOvEmEnTnUmBeR lOcAtIoN gRoUpInG cOmMeNt dIsC lAbEl \
+     mUsIcBrAiNz_aRtIsTiD mUsIcBrAiNz_aLbUmId mUsIcBrAiNz_aLbUmArTiStId \
+     mUsIcBrAiNz_tRaCkId mUsIcBrAiNz_rElEaSeTrAcKiD mUsIcBrAiNz_wOrKiD ";
+
+/// For each of them its name, the tag that is read for it, and the tag that it is.
+const READ: &str = "Artist:Artist:Artist ArtistSort:Artist:- Album:Album:Album AlbumSort:Album:- \
+     AlbumArtist:Artist:- AlbumArtistSort:Artist:- Title:Title:Title Track:-:- \
+     Name:-:- Genre:Genre:Genre Date:Date:Date OriginalDate:-:- Composer:-:- \
+     ComposerSort:-:- Performer:-:- Conductor:-:- Work:-:- Ensemble:-:- Movement:-:- \
+     MovementNumber:-:- Location:-:- Grouping:-:- Comment:Comment:Comment Disc:-:- \
+     Label:-:- MUSICBRAINZ_ARTISTID:-:- MUSICBRAINZ_ALBUMID:-:- \
+     MUSICBRAINZ_ALBUMARTISTID:-:- MUSICBRAINZ_TRACKID:-:- \
+     MUSICBRAINZ_RELEASETRACKID:-:- MUSICBRAINZ_WORKID:-:- ";
+
+/// For each of them the text of a song that has a text for each of the six tags.
+const TEXTS: &str =
+    "Zoë Zoë One One Zoë Zoë Bee - - Pop 1999 - - - - - - - - - - - first - - - - - \
+     - - - ";
+
+fn shown(name: Option<TagName>) -> &'static str {
+    match name {
+        Some(name) => name.text(),
+        None => "-",
+    }
+}
+
+/// Adds what a word names.
+fn tell_named(told: &mut String, word: &str) -> Result<(), AllocError> {
+    match KnownTag::of_word(word) {
+        Some(tag) => {
+            told.write_fmt(format_args!(
+                "{}:{}:{} ",
+                tag.text(),
+                shown(tag.read_as()),
+                shown(tag.base())
+            ))
+        }
+        None => told.push_str("none "),
+    }
+}
+
+/// What each of some words names.
+fn named_told(alloc: Global, words: &str) -> Result<String, AllocError> {
+    let mut told = String::new(alloc);
+    for word in words.split_whitespace() {
+        tell_named(&mut told, word)?;
+    }
+    Ok(told)
+}
+
+/// What each name names, in their order.
+fn names_told(alloc: Global) -> Result<String, AllocError> {
+    let mut told = String::new(alloc);
+    for tag in KNOWN_TAGS.iter() {
+        tell_named(&mut told, tag.text())?;
+    }
+    Ok(told)
+}
+
+#[test]
+fn names(rt: HostRuntime) -> Result<(), Fail> {
+    each_name_is_read_back();
+    wants(named_told(rt.alloc(), ODD_WORDS), READ)?;
+    wants(names_told(rt.alloc()), READ)?;
+    let others = "Nosuch Art_ist Artis Artists any file MUSICBRAINZ_ARTIS\u{212a} Zo\u{eb}";
+    wants(
+        named_told(rt.alloc(), others),
+        "none none none none none none none none ",
+    )
+}
+
+fn tell_text(told: &mut String, tag: KnownTag, song: &Song) -> Result<(), AllocError> {
+    let text = tag.text_in(song);
+    told.write_fmt(format_args!("{} ", if text.is_empty() { "-" } else { text }))
+}
+
+/// The text of each known tag in a song.
+fn texts_told(alloc: Global, given: Tags) -> Result<String, AllocError> {
+    let song = song(alloc, "b.wav", given, 16_000)?;
+    let mut told = String::new(alloc);
+    for tag in KNOWN_TAGS.iter() {
+        tell_text(&mut told, *tag, &song)?;
+    }
+    Ok(told)
+}
+
+const SIX_TAGS: Tags = &[
+    (TagName::Comment, "first"),
+    (TagName::Genre, "Pop"),
+    (TagName::Date, "1999"),
+    (TagName::Artist, "Zo\u{eb}"),
+    (TagName::Title, "Bee"),
+    (TagName::Album, "One"),
+    (TagName::Comment, "second"),
+];
+
+#[test]
+fn a_song_has_texts_of_six_tags(rt: HostRuntime) -> Result<(), Fail> {
+    wants(texts_told(rt.alloc(), SIX_TAGS), TEXTS)
+}
+
+/// Adds a sign for each tag, `+` where the set has it.
+fn tell_held(told: &mut String, set: TagSet) -> Result<(), AllocError> {
+    for name in TAG_NAMES.iter() {
+        told.push(if set.holds(*name) { '+' } else { '-' })?;
+    }
+    told.push(' ')
+}
+
+/// Adds what sets hold to which this one tag was added, and from which it was taken away.
+fn tell_one(told: &mut String, name: TagName) -> Result<(), AllocError> {
+    let only = TagSet::empty().with(name);
+    let others = TagSet::all().without(name);
+    tell_held(told, only)?;
+    tell_held(told, others)?;
+    let is_whole = !others.is_all() && others.with(name).is_all();
+    let is_empty = only != others && only.without(name) == TagSet::empty();
+    told.write_fmt(format_args!("{is_whole} {is_empty}\n"))
+}
+
+fn all_told(alloc: Global) -> Result<String, AllocError> {
+    let mut told = String::new(alloc);
+    for name in TAG_NAMES.iter() {
+        tell_one(&mut told, *name)?;
+    }
+    Ok(told)
+}
+
+#[test]
+fn one_tag_joins_and_leaves(rt: HostRuntime) -> Result<(), Fail> {
+    wants(
+        all_told(rt.alloc()),
+        "+----- -+++++ true true\n-+---- +-++++ true true\n--+--- ++-+++ true true\n\
+         ---+-- +++-++ true true\n----+- ++++-+ true true\n-----+ +++++- true true\n",
+    )
+}
+
+/// The known tags that these words name.
+fn named(alloc: Global, words: &str) -> Result<Vec<KnownTag>, AllocError> {
+    let mut named = Vec::new(alloc);
+    for word in words.split_whitespace() {
+        if let Some(tag) = KnownTag::of_word(word) {
+            named.push(tag)?;
+        }
+    }
+    Ok(named)
+}
+
+/// The lines of `tagtypes` of a set, and those of a song with the tags of the set, by itself and shared.
+fn set_told(alloc: Global, song: Song, set: TagSet) -> Result<String, AllocError> {
+    let mut answer = Answer::new(alloc);
+    push_tagtypes(&mut answer, set)?;
+    push_song_with(&mut answer, &song, &Rate::lowest(), set)?;
+    let shared = SharedSong::new(alloc, song)?;
+    push_shared_with(&mut answer, &shared, &Rate::lowest(), set)?;
+    Ok(answer.into_string())
+}
+
+/// A song with a title and an artist, 2 seconds long at 8,000 frames a second.
+fn bee(alloc: Global) -> Result<Song, AllocError> {
+    let tags = &[(TagName::Artist, "Zo\u{eb}"), (TagName::Title, "Bee")];
+    song(alloc, "b.wav", tags, 16_000)
+}
+
+fn bee_told(alloc: Global, set: TagSet) -> Result<String, AllocError> {
+    set_told(alloc, bee(alloc)?, set)
+}
+
+fn enabled_told(alloc: Global, words: &str) -> Result<String, AllocError> {
+    let named = named(alloc, words)?;
+    bee_told(alloc, TagSet::empty().enable(&named))
+}
+
+fn disabled_told(alloc: Global, words: &str) -> Result<String, AllocError> {
+    let named = named(alloc, words)?;
+    bee_told(alloc, TagSet::all().disable(&named))
+}
+
+/// The lines that show the whole song.
+fn whole_told(alloc: Global) -> Result<String, AllocError> {
+    let mut answer = Answer::new(alloc);
+    push_song(&mut answer, &bee(alloc)?, &Rate::lowest())?;
+    Ok(answer.into_string())
+}
+
+/// The longest song, which has no tags.
+fn longest_told(alloc: Global) -> Result<String, AllocError> {
+    set_told(alloc, song(alloc, "l.wav", &[], u64::MAX)?, TagSet::empty())
+}
+
+/// All 31 names.
+const ALL_WORDS: &str =
+    "Artist ArtistSort Album AlbumSort AlbumArtist AlbumArtistSort Title Track Name \
+     Genre Date OriginalDate Composer ComposerSort Performer Conductor Work Ensemble \
+     Movement MovementNumber Location Grouping Comment Disc Label \
+     MUSICBRAINZ_ARTISTID MUSICBRAINZ_ALBUMID MUSICBRAINZ_ALBUMARTISTID \
+     MUSICBRAINZ_TRACKID MUSICBRAINZ_RELEASETRACKID MUSICBRAINZ_WORKID ";
+
+const WHOLE: &str = "file: b.wav
+Title: Bee
+Artist: Zo\u{eb}
+Time: 2
+duration: 2.000
+";
+
+/// All tags that a song can have, and the whole song twice.
+const ALL: &str = "tagtype: Title
+tagtype: Artist
+tagtype: Album
+tagtype: Date
+tagtype: Genre
+tagtype: Comment
+file: b.wav
+Title: Bee
+Artist: Zo\u{eb}
+Time: 2
+duration: 2.000
+file: b.wav
+Title: Bee
+Artist: Zo\u{eb}
+Time: 2
+duration: 2.000
+";
+
+const NONE: &str = "file: b.wav
+Time: 2
+duration: 2.000
+file: b.wav
+Time: 2
+duration: 2.000
+";
+
+#[test]
+fn all_and_none(rt: HostRuntime) -> Result<(), Fail> {
+    all_tags_show_the_whole_song();
+    texts_and_length_are_the_song();
+    let alloc = rt.alloc();
+    wants(whole_told(alloc), WHOLE)?;
+    wants(bee_told(alloc, TagSet::all()), ALL)?;
+    wants(bee_told(alloc, TagSet::empty()), NONE)?;
+    wants(enabled_told(alloc, ALL_WORDS), ALL)?;
+    wants(disabled_told(alloc, ALL_WORDS), NONE)
+}
+
+#[test]
+fn names_join_and_leave(rt: HostRuntime) -> Result<(), Fail> {
+    let alloc = rt.alloc();
+    wants(
+        enabled_told(alloc, "Artist AlbumArtist Title Name Composer Performer"),
+        "tagtype: Title\ntagtype: Artist\nfile: b.wav\nTitle: Bee\nArtist: Zo\u{eb}\nTime: 2\nduration: 2.000\n\
+         file: b.wav\nTitle: Bee\nArtist: Zo\u{eb}\nTime: 2\nduration: 2.000\n",
+    )?;
+    wants(
+        disabled_told(alloc, "genre ALBUM comment AlbumSort title"),
+        "tagtype: Artist\ntagtype: Date\nfile: b.wav\nArtist: Zo\u{eb}\nTime: 2\nduration: 2.000\n\
+         file: b.wav\nArtist: Zo\u{eb}\nTime: 2\nduration: 2.000\n",
+    )?;
+    let others = "AlbumArtist ArtistSort AlbumSort";
+    wants(enabled_told(alloc, others), NONE)?;
+    wants(disabled_told(alloc, others), ALL)
+}
+
+#[test]
+fn the_longest_song(rt: HostRuntime) -> Result<(), Fail> {
+    // 18,446,744,073,709,551,615 frames, 8,000 a second, are 2,305,843,009,213,693.951875 seconds.
+    wants(
+        longest_told(rt.alloc()),
+        "file: l.wav\nTime: 2305843009213694\nduration: 2305843009213693.951\n\
+         file: l.wav\nTime: 2305843009213694\nduration: 2305843009213693.951\n",
+    )
+}
