@@ -42,7 +42,7 @@ ok 3 2 flips
  0
 ";
 
-/// Ranges are the callers to cut.
+/// A range past the end is refused: to cut it is for the caller.
 const RANGES: &str = "remove 3 3
 remove 2 4
 remove 4 4

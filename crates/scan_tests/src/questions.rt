@@ -40,8 +40,8 @@ fn small(alloc: Global) -> Result<Db, AllocError> {
     library(alloc, songs)
 }
 
-/// The song of a number: in a folder of a thousand, with the greatest number of frames and an artist of
-/// hundred.
+/// The song of a number: one of a thousand in its folder, with the greatest number of frames and one of a hundred
+/// artists.
 fn numbered(alloc: Global, number: u64) -> Result<Song, AllocError> {
     let (folder, artist) = (number / 1_000, number % 100);
     let line = format!(in alloc; "{folder:03}/{number:06}.wav;Artist {artist:02}")?;

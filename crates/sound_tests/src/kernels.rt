@@ -42,6 +42,27 @@ fn volumes_at_each_length(rt: HostRuntime) {
     }
 }
 
+// Whether frames that all differ, each twice what it is at half the volume, stay in their places.
+fn stay_in_place(count: usize) -> bool {
+    let mut frames = [[0i16; 2]; 1_024];
+    let mut halves = [[0i16; 2]; 1_024];
+    for place in 0..1_024usize {
+        let half = place as i16;
+        frames[place] = [half * 2, half * -2];
+        halves[place] = [half, half * -1];
+    }
+    let count = count.min(1_024);
+    gain(&mut frames[..count], 50);
+    &frames[..count] == &halves[..count]
+}
+
+#[test]
+fn frames_stay_in_place_at_each_length(rt: HostRuntime) {
+    for step in 0..70usize {
+        assert!(rt; stay_in_place(length_at(step)), "step {step}");
+    }
+}
+
 // Whether so many frames of a block at the end of the greatest fade, which is 3,600 seconds at 192,000 frames a
 // second, are the other song but for what is rounded off, and the others stay.
 fn are_faded(count: usize) -> bool {
