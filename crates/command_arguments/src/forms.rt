@@ -132,7 +132,7 @@ impl Form for VolumeChange {
 }
 
 /// How loudness is made alike. Songs are played as they are.
-#[derive(Clone, Copy, Debug, PartialEq, Eq)]
+#[derive(Clone, Copy, PartialEq, Eq)]
 pub enum ReplayGain {
     Off,
 }
@@ -219,7 +219,7 @@ fn same_word(word: &str, other: &str) -> bool
 }
 
 /// Songs of an answer: those from a place on, up to another place without it. The start is not above the end.
-#[derive(Clone, Copy, Debug, PartialEq, Eq)]
+#[derive(Clone, Copy, PartialEq, Eq)]
 pub struct Window {
     pub start: u32,
     pub end: u32,
@@ -258,7 +258,7 @@ fn without_slash(word: &str) -> &str
 }
 
 /// Where a song is put into the queue.
-#[derive(Clone, Copy, Debug, PartialEq, Eq)]
+#[derive(Clone, Copy, PartialEq, Eq)]
 pub enum Place {
     /// At this place.
     At(u32),

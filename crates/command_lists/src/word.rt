@@ -3,7 +3,7 @@ ghost use Rattle.std.specs.Prelude.{◌≡◌};
 ghost use Rattle.command_lists.specs.Words.{text_of, word_of, after_blanks as after_blanks_lem, before_blanks as before_blanks_lem};
 
 /// How a command list is answered.
-#[derive(Clone, Copy, Debug, PartialEq, Eq)]
+#[derive(Clone, Copy, PartialEq, Eq)]
 pub enum ListForm {
     /// Once, at its end.
     Plain,

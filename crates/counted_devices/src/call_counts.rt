@@ -6,7 +6,7 @@ use std::io;
 use std::io::ErrorKind;
 
 /// How the calls of a device ended so far. A count stops at its greatest value, 2^64-1.
-#[derive(Clone, Copy, Debug, PartialEq, Eq)]
+#[derive(Clone, Copy, PartialEq, Eq)]
 pub struct CallCounts {
     /// Errors, without those of calls that would block, and writes that took no byte of some.
     pub failures: u64,

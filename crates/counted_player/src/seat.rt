@@ -9,7 +9,7 @@ use std::marker::Model;
 use std::sync::ledger::{Blank, Book};
 
 /// All four seats are given.
-#[derive(Clone, Copy, Debug, PartialEq, Eq)]
+#[derive(Clone, Copy, PartialEq, Eq)]
 pub struct NoSeat;
 
 /// A seat. Contracts see its number and how many events it made.

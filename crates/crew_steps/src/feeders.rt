@@ -11,7 +11,7 @@ use std::sync::Wait;
 use std::thread;
 
 /// What came of moving frames into rings.
-#[derive(Clone, Copy, Debug, PartialEq, Eq)]
+#[derive(Clone, Copy, PartialEq, Eq)]
 pub struct Pushed {
     /// Whether some went.
     pub moves: bool,

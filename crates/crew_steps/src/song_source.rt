@@ -3,7 +3,7 @@ use counted_devices::Media;
 use std::alloc::Global;
 
 /// Why a song's file is not had.
-#[derive(Clone, Copy, Debug, PartialEq, Eq)]
+#[derive(Clone, Copy, PartialEq, Eq)]
 pub enum SongFault {
     /// It cannot be opened.
     Unopened,

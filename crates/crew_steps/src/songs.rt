@@ -16,7 +16,7 @@ use std::alloc::Global;
 use wave::{WaveFault, read_head};
 
 /// Why a job has no frames.
-#[derive(Clone, Copy, Debug, PartialEq, Eq)]
+#[derive(Clone, Copy, PartialEq, Eq)]
 pub(crate) enum NoFrames {
     /// There was no memory: the same job is tried again.
     NoMemory,

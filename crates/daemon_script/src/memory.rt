@@ -1,7 +1,7 @@
 //! What a line found of memory.
 
 /// What a line of a script found of memory.
-#[derive(Clone, Copy, Debug, PartialEq, Eq)]
+#[derive(Clone, Copy, PartialEq, Eq)]
 pub enum Memory {
     Ample,
     /// None for its client's connect: the line was not run.

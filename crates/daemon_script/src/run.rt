@@ -22,7 +22,7 @@ pub const MAX_READS: u64 = 1 << 32;
 const PIECE: usize = 16_384;
 
 /// Why a run ended early.
-#[derive(Clone, Copy, Debug, PartialEq, Eq)]
+#[derive(Clone, Copy, PartialEq, Eq)]
 pub enum ScriptFault {
     /// The input failed, or was read [`MAX_READS`] times.
     ReadFault,

@@ -7,7 +7,7 @@ use std::alloc::{AllocFailed, Global};
 use std::marker::Model;
 
 /// What of a song is compared.
-#[derive(Clone, Copy, Debug, PartialEq, Eq)]
+#[derive(Clone, Copy, PartialEq, Eq)]
 pub enum Field {
     /// The text of a tag; empty where the song has none of the name.
     Tag(TagName),
@@ -20,7 +20,7 @@ pub enum Field {
 }
 
 /// How a text of a song is compared with the one that is wanted.
-#[derive(Clone, Copy, Debug, PartialEq, Eq)]
+#[derive(Clone, Copy, PartialEq, Eq)]
 pub enum Test {
     /// They are the same, written `==`.
     Equals,

@@ -10,7 +10,7 @@ use mpd_text::{Song, TAG_NAMES, Tag, TagName};
 use std::alloc::{AllocError, Global};
 
 /// Whether the case of letters counts.
-#[derive(Clone, Copy, Debug, PartialEq, Eq)]
+#[derive(Clone, Copy, PartialEq, Eq)]
 pub enum Case {
     /// It does, as in `find`.
     Heeded,

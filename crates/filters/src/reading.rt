@@ -16,7 +16,7 @@ use mpd_text::Text;
 use std::alloc::{AllocError, AllocFailed, Global};
 
 /// Why words are no filter: the first cause from the left.
-#[derive(Debug, Drop)]
+#[derive(Drop)]
 pub enum FilterFault {
     /// It goes wrong after so many bytes: the length of the longest start with which some filter begins.
     Syntax(usize),

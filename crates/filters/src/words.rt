@@ -7,7 +7,7 @@ use known_tags::KnownTag;
 use mpd_text::TagName;
 
 /// Which words name what a filter compares.
-#[derive(Clone, Copy, Debug, PartialEq, Eq)]
+#[derive(Clone, Copy, PartialEq, Eq)]
 pub enum Vocabulary {
     /// The six tags of songs, `file` and `any`. A name is ASCII letters.
     Base,

@@ -10,7 +10,7 @@ use output_ring::{Drainer, FeederEnd, Totals};
 use std::sync::ledger::Ledger;
 
 /// What became of all frames of one output.
-#[derive(Clone, Copy, PartialEq, Eq, Debug)]
+#[derive(Clone, Copy, PartialEq, Eq)]
 pub struct Settled {
     /// Frames that the feeder took.
     pub decoded: u64,
@@ -23,7 +23,7 @@ pub struct Settled {
 }
 
 /// Why an output was not settled.
-#[derive(Clone, Copy, PartialEq, Eq, Debug)]
+#[derive(Clone, Copy, PartialEq, Eq)]
 pub enum SettleFault {
     /// The feeder's end has no token, so what it sent is not known.
     Unsettled,

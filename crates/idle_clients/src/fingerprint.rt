@@ -81,7 +81,7 @@ impl Model for Readings {
 }
 
 /// Which outputs are enabled in the partition of a number.
-#[derive(Clone, Copy, Debug, PartialEq, Eq)]
+#[derive(Clone, Copy, PartialEq, Eq)]
 pub struct EnabledAt {
     pub place: u8,
     pub enabled: [bool; 8],
@@ -106,7 +106,7 @@ impl Model for PlayingFingerprint {
 }
 
 /// The modes of a player, and the seconds of a fade.
-#[derive(Clone, Copy, Debug, PartialEq, Eq)]
+#[derive(Clone, Copy, PartialEq, Eq)]
 pub struct Options {
     pub modes: Modes,
     pub crossfade: u32,

@@ -6,7 +6,7 @@ use idle_notes::Subsystems;
 use std::alloc::{AllocError, Global};
 
 /// What a client that waited is told.
-#[derive(Clone, Copy, Debug, PartialEq, Eq)]
+#[derive(Clone, Copy, PartialEq, Eq)]
 pub struct Notice {
     pub client: u32,
     /// The subsystems that changed, of those that it waited for.

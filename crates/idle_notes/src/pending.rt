@@ -6,7 +6,7 @@ use crate::sets::Subsystems;
 
 /// What changed since a client's last notice, and what the client waits for, if it waits. Nothing here takes
 /// memory.
-#[derive(Clone, Copy, Debug, PartialEq, Eq)]
+#[derive(Clone, Copy, PartialEq, Eq)]
 pub struct Pending {
     waiting: Option<Subsystems>,
     changed: Subsystems,

@@ -9,7 +9,7 @@ use mpd_text::Answer;
 use std::alloc::AllocError;
 
 /// A set of subsystems.
-#[derive(Clone, Copy, Debug, PartialEq, Eq)]
+#[derive(Clone, Copy, PartialEq, Eq)]
 pub struct Subsystems {
     pub database: bool,
     pub update: bool,

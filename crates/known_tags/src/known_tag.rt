@@ -6,7 +6,7 @@ ghost use Rattle.known_tags.specs.KnownTags.{text_of, tag_of, base_of, read_of, 
 use mpd_text::{Song, Tag, TagName};
 
 /// A tag that clients know, in the order of the reference. Songs have six of them alone.
-#[derive(Clone, Copy, Debug, PartialEq, Eq)]
+#[derive(Clone, Copy, PartialEq, Eq)]
 pub enum KnownTag {
     /// Shown as `Artist`.
     Artist,

@@ -9,7 +9,7 @@ use mpd_text::TagName;
 use std::marker::Model;
 
 /// A set of the six tags of songs. A clause sees its tags, in the order in which answers show them.
-#[derive(Clone, Copy, Debug, PartialEq, Eq)]
+#[derive(Clone, Copy, PartialEq, Eq)]
 pub struct TagSet {
     pub(crate) bits: u8,
 }

@@ -19,7 +19,7 @@ use std::alloc::{AllocError, Global};
 use transitions::{Asked, Entries, Read, ShelfWrite, Transition};
 
 /// What refuses a command before its sticker is looked at.
-#[derive(Clone, Copy, Debug, PartialEq, Eq)]
+#[derive(Clone, Copy, PartialEq, Eq)]
 pub enum Refusal {
     /// The name of the playlist, which can be none's.
     ListName,

@@ -21,7 +21,7 @@ pub enum Entry {
 }
 
 /// What the system says of a path, where links are followed.
-#[derive(Clone, Copy, Debug, PartialEq, Eq)]
+#[derive(Clone, Copy, PartialEq, Eq)]
 pub struct Seen {
     /// What it is.
     pub kind: Kind,

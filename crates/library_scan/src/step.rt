@@ -10,7 +10,7 @@ pub const MAX_URI: usize = 1_024;
 pub const MAX_DEPTH: usize = 16;
 
 /// What the system says of a path, where links are followed.
-#[derive(Clone, Copy, Debug, PartialEq, Eq)]
+#[derive(Clone, Copy, PartialEq, Eq)]
 pub enum Kind {
     /// A folder.
     Folder,
@@ -23,7 +23,7 @@ pub enum Kind {
 }
 
 /// What a scan does with a path.
-#[derive(Clone, Copy, Debug, PartialEq, Eq)]
+#[derive(Clone, Copy, PartialEq, Eq)]
 pub enum Step {
     /// Passes over it without a word.
     Skip,

@@ -3,7 +3,7 @@
 use mpd_command::CommandSet;
 
 /// A client, and which commands it may give.
-#[derive(Clone, Copy, Debug, PartialEq, Eq)]
+#[derive(Clone, Copy, PartialEq, Eq)]
 pub struct Asker {
     /// Its number, by which the player knows it.
     pub client: u32,

@@ -3,7 +3,7 @@ ghost use Rattle.std.specs.Prelude.{◌≡◌};
 ghost use Rattle.mpd_command.specs.Names.{fewest};
 
 /// Which commands clients may give, as the settings say.
-#[derive(Clone, Copy, Debug, PartialEq, Eq)]
+#[derive(Clone, Copy, PartialEq, Eq)]
 pub struct CommandSet {
     /// Whether `kill` may be run.
     pub kill: bool,

@@ -80,7 +80,7 @@ fn starts() -> &'static [usize]
 }
 
 /// The name of a command: its place among all names.
-#[derive(Clone, Copy, Debug, PartialEq, Eq)]
+#[derive(Clone, Copy, PartialEq, Eq)]
 pub struct Name {
     place: usize,
 }

@@ -26,7 +26,7 @@ const LISTENER: Token = Token(0);
 const WAKER: Token = Token(65);
 
 /// Why nothing is served.
-#[derive(Clone, Copy, Debug, PartialEq, Eq)]
+#[derive(Clone, Copy, PartialEq, Eq)]
 pub enum ServeFault {
     /// The address cannot be listened at, or the sockets cannot be waited for.
     ListenFault,
@@ -53,7 +53,7 @@ pub fn bind<N: Net>(rt: &N, address: &str) -> Result<TcpListener, ServeFault> {
 }
 
 /// Whether a client may wait to be let in.
-#[derive(Clone, Copy, Debug, PartialEq, Eq)]
+#[derive(Clone, Copy, PartialEq, Eq)]
 enum ListenerState {
     /// None waits.
     Idle,

@@ -1,7 +1,7 @@
 //! Why a session is closed, and what its turns answer.
 
 /// Why a session is closed.
-#[derive(Clone, Copy, Debug, PartialEq, Eq)]
+#[derive(Clone, Copy, PartialEq, Eq)]
 pub enum End {
     /// By an answer: the player took the client out.
     Left,
@@ -22,7 +22,7 @@ pub enum End {
 }
 
 /// What a turn leaves.
-#[derive(Clone, Copy, Debug, PartialEq, Eq)]
+#[derive(Clone, Copy, PartialEq, Eq)]
 pub enum Goes {
     /// All lines that came are run, and more may come.
     On,
@@ -31,7 +31,7 @@ pub enum Goes {
 }
 
 /// Why a turn did not do all that it was to do.
-#[derive(Clone, Copy, Debug, PartialEq, Eq)]
+#[derive(Clone, Copy, PartialEq, Eq)]
 pub enum SessionFault {
     /// The reader failed, which closes the session.
     ReadFault,

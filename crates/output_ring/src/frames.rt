@@ -4,21 +4,21 @@ use pcm_mix::Frame;
 /// The cut of a block: how often its output had been moved, and then the number of the cut, which every
 /// manual start, seek and stop raises. The moves are compared first. Frames of an earlier cut are heard no
 /// more.
-#[derive(Clone, Copy, PartialEq, Eq, PartialOrd, Ord, Debug)]
+#[derive(Clone, Copy, PartialEq, Eq, PartialOrd, Ord)]
 pub struct Cut {
     pub moves: u64,
     pub number: u64,
 }
 
 /// A frame with the cut of its block.
-#[derive(Clone, Copy, PartialEq, Eq, Debug)]
+#[derive(Clone, Copy, PartialEq, Eq)]
 pub struct CutFrame {
     pub frame: Frame,
     pub cut: Cut,
 }
 
 /// What an output is told at its turn.
-#[derive(Clone, Copy, PartialEq, Eq, Debug)]
+#[derive(Clone, Copy, PartialEq, Eq)]
 pub struct Live {
     /// Frames of an earlier cut are discarded.
     pub cut: Cut,
@@ -31,14 +31,14 @@ pub struct Live {
 }
 
 /// How many frames were written and how many discarded.
-#[derive(Clone, Copy, PartialEq, Eq, Debug)]
+#[derive(Clone, Copy, PartialEq, Eq)]
 pub struct Fates {
     pub written: u64,
     pub discarded: u64,
 }
 
 /// The fates of all frames so far.
-#[derive(Clone, Copy, PartialEq, Eq, Debug)]
+#[derive(Clone, Copy, PartialEq, Eq)]
 pub struct Totals {
     pub written: u64,
     pub discarded: u64,
@@ -48,7 +48,7 @@ pub struct Totals {
 
 /// The writer failed. The frame in which it did and the rest of the hand are discarded, and so is all that
 /// comes later.
-#[derive(Clone, Copy, PartialEq, Eq, Debug)]
+#[derive(Clone, Copy, PartialEq, Eq)]
 pub struct WriteFault {
     pub fates: Fates,
     /// Bytes, 0 to 3, that were written of the frame in which the writer failed.

@@ -14,7 +14,7 @@ pub const MAX_CLIENTS: usize = 64;
 pub const MAX_OWN: u64 = (1 << 63) - 1;
 
 /// The limits of a player, each at least 1.
-#[derive(Clone, Copy, Debug, PartialEq, Eq)]
+#[derive(Clone, Copy, PartialEq, Eq)]
 pub struct Limits {
     /// The most entries of the queue.
     pub max_queue: u32,

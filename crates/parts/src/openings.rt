@@ -12,7 +12,7 @@ use std::alloc::Global;
 use std::marker::Model;
 
 /// The greatest numbers of a partition.
-#[derive(Clone, Copy, Debug, PartialEq, Eq)]
+#[derive(Clone, Copy, PartialEq, Eq)]
 pub struct Greatest {
     /// The most entries of the queue.
     pub max_queue: u32,
@@ -25,7 +25,7 @@ pub struct Greatest {
 }
 
 /// What a new partition is opened with: versions are at least 1, and cuts below 2^63.
-#[derive(Clone, Copy, Debug, PartialEq, Eq)]
+#[derive(Clone, Copy, PartialEq, Eq)]
 pub struct Openings {
     greatest: Greatest,
     random_start: u64,

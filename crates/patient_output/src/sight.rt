@@ -10,7 +10,7 @@ pub const MOST_BYTES: u64 = 65_536;
 pub const MOST_WAITING: u64 = 8_192;
 
 /// What is seen of an output's path at a moment.
-#[derive(Clone, Copy, Debug, PartialEq, Eq)]
+#[derive(Clone, Copy, PartialEq, Eq)]
 pub struct Sight {
     /// How many bytes wait for the path.
     pub waiting: u64,

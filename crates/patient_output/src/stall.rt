@@ -3,7 +3,7 @@ use crate::sight::Sight;
 
 /// For how long an output was held up while its path took nothing, as far as it was looked. Moments are milliseconds
 /// since any one of them.
-#[derive(Clone, Copy, Debug, PartialEq, Eq)]
+#[derive(Clone, Copy, PartialEq, Eq)]
 pub struct Stall {
     /// How many bytes the path had taken when it was last seen to take some, or the output not to be held up.
     taken: u64,

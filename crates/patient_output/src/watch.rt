@@ -8,7 +8,7 @@ use crate::sight::Sight;
 use crate::stall::Stall;
 
 /// How an output stands.
-#[derive(Clone, Copy, Debug, PartialEq, Eq)]
+#[derive(Clone, Copy, PartialEq, Eq)]
 pub enum Mode {
     /// It plays, as far as is known.
     Plays,
@@ -17,7 +17,7 @@ pub enum Mode {
 }
 
 /// What is done where an output asks whether it may go on.
-#[derive(Clone, Copy, Debug, PartialEq, Eq)]
+#[derive(Clone, Copy, PartialEq, Eq)]
 pub enum Step {
     /// It goes on.
     Opens,
@@ -60,7 +60,7 @@ pub fn decide(mode: Mode, sight: Sight, stood: u64, patience: u64, ended: bool) 
 }
 
 /// How an output stands, and for how long its path took nothing.
-#[derive(Clone, Copy, Debug, PartialEq, Eq)]
+#[derive(Clone, Copy, PartialEq, Eq)]
 pub struct Watch {
     mode: Mode,
     stall: Stall,

@@ -3,7 +3,7 @@
 use crate::modes::Modes;
 
 /// What the end of a song leads to.
-#[derive(Clone, Copy, Debug, PartialEq, Eq)]
+#[derive(Clone, Copy, PartialEq, Eq)]
 pub struct Ending {
     /// The modes from then on: what was on for one song is off.
     pub modes: Modes,

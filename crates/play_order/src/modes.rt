@@ -19,7 +19,7 @@ pub enum Consume {
 }
 
 /// How the player goes through the queue.
-#[derive(Clone, Copy, Debug, PartialEq, Eq)]
+#[derive(Clone, Copy, PartialEq, Eq)]
 pub struct Modes {
     /// Whether the order begins anew at its end.
     pub repeat: bool,
@@ -30,7 +30,7 @@ pub struct Modes {
 }
 
 /// The rank that an entry drew: in a random order the lower comes first.
-#[derive(Clone, Copy, Debug, PartialEq, Eq)]
+#[derive(Clone, Copy, PartialEq, Eq)]
 pub struct Rank {
     pub id: u32,
     pub rank: u32,

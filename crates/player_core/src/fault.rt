@@ -2,7 +2,7 @@
 use std::alloc::AllocError;
 
 /// Why a step is refused. Where both apply, the first here is answered.
-#[derive(Clone, Copy, Debug, PartialEq, Eq)]
+#[derive(Clone, Copy, PartialEq, Eq)]
 pub enum PlayerFault {
     /// A number of cuts, starts or jobs would be above the greatest.
     CutsAtLimit,

@@ -1,7 +1,7 @@
 //! What a player keeps.
 
 /// Whether songs are played (MPD protocol reference, `status`).
-#[derive(Clone, Copy, Debug, PartialEq, Eq)]
+#[derive(Clone, Copy, PartialEq, Eq)]
 pub enum Playback {
     Stop,
     Play,
@@ -9,7 +9,7 @@ pub enum Playback {
 }
 
 /// A fade that is fixed: another song is mixed into the last frames of the current one.
-#[derive(Clone, Copy, Debug, PartialEq, Eq)]
+#[derive(Clone, Copy, PartialEq, Eq)]
 pub struct Fade {
     /// The id of the other song.
     pub partner: u32,
@@ -18,7 +18,7 @@ pub struct Fade {
 }
 
 /// The part of a fade that a job has.
-#[derive(Clone, Copy, Debug, PartialEq, Eq)]
+#[derive(Clone, Copy, PartialEq, Eq)]
 pub struct FadePart {
     /// The id of the other song.
     pub partner: u32,
@@ -29,7 +29,7 @@ pub struct FadePart {
 }
 
 /// Frames that the decoder is asked for.
-#[derive(Clone, Copy, Debug, PartialEq, Eq)]
+#[derive(Clone, Copy, PartialEq, Eq)]
 pub struct Job {
     /// From 1, and one more for each job.
     pub number: u64,
@@ -43,7 +43,7 @@ pub struct Job {
 }
 
 /// What an output is told at its turn.
-#[derive(Clone, Copy, Debug, PartialEq, Eq)]
+#[derive(Clone, Copy, PartialEq, Eq)]
 pub struct Live {
     /// Frames of blocks of this cut and later ones are to be heard.
     pub cut: u64,

@@ -2,7 +2,7 @@
 use player_core::{Job, Live};
 
 /// What the frames of a have are fed with.
-#[derive(Clone, Copy, Debug, PartialEq, Eq)]
+#[derive(Clone, Copy, PartialEq, Eq)]
 pub struct Feed {
     /// The cut that they belong to.
     pub cut: u64,
@@ -13,7 +13,7 @@ pub struct Feed {
 }
 
 /// What an output does with its frames.
-#[derive(Clone, Copy, Debug, PartialEq, Eq)]
+#[derive(Clone, Copy, PartialEq, Eq)]
 pub struct Heard {
     /// How often the output was moved from one partition to another.
     pub moves: u64,
@@ -21,7 +21,7 @@ pub struct Heard {
 }
 
 /// What an event answers to a part of the daemon that is no client.
-#[derive(Clone, Copy, Debug, PartialEq, Eq)]
+#[derive(Clone, Copy, PartialEq, Eq)]
 pub enum Report {
     Nothing,
     /// The number of the scan that is to be made, if one is.

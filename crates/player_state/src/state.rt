@@ -13,7 +13,7 @@ use song_queue::Queue;
 use std::alloc::{AllocError, Global};
 
 /// A client that is connected.
-#[derive(Clone, Copy, Debug, PartialEq, Eq)]
+#[derive(Clone, Copy, PartialEq, Eq)]
 pub struct Client {
     pub number: u32,
     /// The partition that it is in, by its number.

@@ -16,7 +16,7 @@ pub const MAX_CLIENT: u32 = 9;
 pub const MAX_URI: usize = 1_024;
 
 /// A step of the decoder in a partition.
-#[derive(Clone, Copy, Debug, PartialEq, Eq)]
+#[derive(Clone, Copy, PartialEq, Eq)]
 pub enum JobStep {
     /// The partition is asked for a job.
     Want,

@@ -6,7 +6,7 @@ use known_tags::KnownTag;
 use std::alloc::{AllocError, Global};
 
 /// By which tag songs are ordered, and whether from the greatest text down.
-#[derive(Clone, Copy, Debug, PartialEq, Eq)]
+#[derive(Clone, Copy, PartialEq, Eq)]
 pub struct SortBy {
     pub tag: KnownTag,
     pub falling: bool,

@@ -30,7 +30,7 @@ use std::thread::Threads;
 use std::time::Clock;
 
 /// What the settings are read for.
-#[derive(Clone, Copy, Debug, PartialEq, Eq)]
+#[derive(Clone, Copy, PartialEq, Eq)]
 pub enum Purpose {
     /// Serves until a client ends the daemon.
     Serve,

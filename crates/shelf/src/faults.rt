@@ -7,7 +7,7 @@ use std::alloc::{AllocError, AllocFailed};
 
 /// Why a call of a shelf is refused. The first cause in this order is answered; want of memory comes last and
 /// may take the place of another.
-#[derive(Debug, Clone, Copy, PartialEq, Eq, Drop)]
+#[derive(Clone, Copy, Debug, PartialEq, Eq, Drop)]
 pub enum ShelfFault {
     /// No stored playlist has the name.
     NoSuchList,
@@ -24,7 +24,7 @@ pub enum ShelfFault {
 }
 
 /// A key of a map from texts to texts, and the text that it has.
-#[derive(Debug, Drop)]
+#[derive(Drop)]
 pub struct Entry {
     /// A sticker's name, or the URI that has it.
     pub key: String,

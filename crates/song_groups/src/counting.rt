@@ -17,7 +17,7 @@ use song_search::{Count, millis_of};
 use std::alloc::{AllocError, Global};
 
 /// The songs that have one text of a tag.
-#[derive(Clone, Copy, Debug)]
+#[derive(Clone, Copy)]
 pub struct Group<'a> {
     /// The text, which may be empty.
     pub text: &'a str,

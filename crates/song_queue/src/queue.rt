@@ -19,7 +19,7 @@ use std::marker::Model;
 use std::ops::Range;
 
 /// Why a call is refused. Where several apply, the first here is answered.
-#[derive(Clone, Copy, Debug, PartialEq, Eq)]
+#[derive(Clone, Copy, PartialEq, Eq)]
 pub enum QueueFault {
     /// No entry has the id.
     NoSuchSong,

@@ -70,7 +70,7 @@ pub fn text_of_tag(tags: &[Tag], name: TagName) -> &str
 }
 
 /// How many songs there are, and how many whole seconds they play.
-#[derive(Clone, Copy, Debug, PartialEq, Eq)]
+#[derive(Clone, Copy, PartialEq, Eq)]
 pub struct Count {
     /// How many songs.
     pub songs: usize,

@@ -7,7 +7,7 @@ use known_tags::TagSet;
 use mpd_command::Name;
 
 /// How a line comes.
-#[derive(Clone, Copy, Debug, PartialEq, Eq)]
+#[derive(Clone, Copy, PartialEq, Eq)]
 pub enum Stand {
     Alone,
     /// In a list of this form, at this place from 0.

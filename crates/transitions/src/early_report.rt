@@ -7,7 +7,7 @@ use player_state::{Heard, Report};
 
 /// A report that is known before the event's effect. It holds no job and no feed, which the effect makes, so
 /// that a transition, which is moved often, has a fifth of a report's bytes.
-#[derive(Clone, Copy, Debug, PartialEq, Eq)]
+#[derive(Clone, Copy, PartialEq, Eq)]
 pub enum EarlyReport {
     Nothing,
     /// The number of the scan that is to be made, if one is.

@@ -6,7 +6,7 @@ use known_tags::TagSet;
 use std::marker::Model;
 
 /// What becomes of a client after a reply.
-#[derive(Clone, Copy, Debug, PartialEq, Eq)]
+#[derive(Clone, Copy, PartialEq, Eq)]
 pub enum Next {
     /// Its next line may come.
     Goes,
@@ -33,7 +33,7 @@ impl Next {
 }
 
 /// What an event does to the client that it comes from.
-#[derive(Clone, Copy, Debug, PartialEq, Eq)]
+#[derive(Clone, Copy, PartialEq, Eq)]
 pub enum Move {
     Stay,
     /// It waits for changes of these.

@@ -5,7 +5,7 @@ ghost use Rattle.wave.specs.Formats.{layout_of, depth_of, channels_of, aligned, 
 use pcm_mix::{Channels, Depth};
 
 /// How samples lie in the data.
-#[derive(Clone, Copy, Debug, PartialEq, Eq)]
+#[derive(Clone, Copy, PartialEq, Eq)]
 pub struct Layout {
     /// Bits of a sample.
     pub depth: Depth,

@@ -7,7 +7,7 @@ use crate::format::Layout;
 use mpd_text::Tag;
 
 /// How the samples of a file lie, how many frames there are and where, and the file's tags.
-#[derive(Debug, Drop)]
+#[derive(Drop)]
 pub struct Head {
     pub(crate) layout: Layout,
     pub(crate) frames: u64,

@@ -9,7 +9,7 @@ use std::fmt::Display;
 use std::marker::Model;
 
 /// The errors that are sent (MPD protocol reference, Failure responses).
-#[derive(Clone, Copy, Debug, PartialEq, Eq)]
+#[derive(Clone, Copy, PartialEq, Eq)]
 pub enum ErrorNumber {
     /// A wrong number of arguments, or one of a wrong form: 2.
     Argument,

@@ -7,7 +7,7 @@ use std::marker::Model;
 use std::sync::ArcStr;
 
 /// A text of its own. A clause sees its bytes, which are UTF-8.
-#[derive(Debug, Drop)]
+#[derive(Drop)]
 pub struct Text {
     string: String,
 }

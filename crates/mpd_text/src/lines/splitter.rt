@@ -14,7 +14,7 @@ use std::marker::Model;
 pub const MAX_LINE: usize = 16_384;
 
 /// A line without its newline, and without one carriage return before it.
-#[derive(Debug, Drop)]
+#[derive(Drop)]
 pub enum Line {
     /// The line, which is UTF-8.
     Text(String),
@@ -23,7 +23,7 @@ pub enum Line {
 }
 
 /// Why a piece of a stream gave no lines.
-#[derive(Debug, Drop)]
+#[derive(Drop)]
 pub enum SplitFault {
     /// A line has more than 16,384 bytes: the lines of the piece before it. The splitter is closed from
     /// then on.

@@ -22,7 +22,7 @@ pub enum TagName {
 }
 
 /// A tag with its text. A clause sees the pair of them.
-#[derive(Debug, Drop)]
+#[derive(Drop)]
 pub struct Tag {
     name: TagName,
     text: String,
@@ -62,7 +62,7 @@ impl Tag {
 
 /// A song: where it lies in the library, its tags in order, and its length in frames. A clause sees these
 /// three. The URI of a song holds no newline, so that an answer can show it on a line.
-#[derive(Debug, Drop)]
+#[derive(Drop)]
 pub struct Song {
     uri: String,
     tags: Vec<Tag>,
