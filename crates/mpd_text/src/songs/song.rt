@@ -22,10 +22,16 @@ pub enum TagName {
 }
 
 /// A tag with its text. A clause sees the pair of them.
-#[derive(Drop)]
 pub struct Tag {
     name: TagName,
     text: String,
+}
+
+// Written out, so that a proof goes through one call where it lets one go (docs/DECISIONS.md).
+impl Drop for Tag {
+    fn drop(self) {
+        let Tag { name: _, text: _ } = self;
+    }
 }
 
 impl Model for Tag {
@@ -62,11 +68,21 @@ impl Tag {
 
 /// A song: where it lies in the library, its tags in order, and its length in frames. A clause sees these
 /// three. The URI of a song holds no newline, so that an answer can show it on a line.
-#[derive(Drop)]
 pub struct Song {
     uri: String,
     tags: Vec<Tag>,
     frames: u64,
+}
+
+// Written out, so that a proof goes through one call where it lets one go (docs/DECISIONS.md).
+impl Drop for Song {
+    fn drop(self) {
+        let Song {
+            uri: _,
+            tags: _,
+            frames: _,
+        } = self;
+    }
 }
 
 impl Model for Song {
