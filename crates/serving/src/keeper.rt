@@ -4,7 +4,7 @@ use crate::restoring::KEEPER;
 use crate::state_file::write_state;
 use command_lists::ListForm;
 use counted_player::{Ledgers, Seat};
-use held_player::News;
+use held_player::{AnsweredList, News};
 use house::House;
 use kept_state::{Kept, KeptPlayback, kept_of, state_text};
 use mpd_command::{CommandSet, Request};
@@ -107,30 +107,7 @@ fn keep<'h, L: Ledgers, R: Wait + Clock + Copy>(
         has_failed: false,
         plays: false,
     };
-    if keeper
-        .house
-        .notice(rt, &mut keeper.seat, News::Comes(KEEPER))
-        .is_err()
-    {
-        tell(
-            host,
-            "the state is not kept: the player takes no client for it",
-        );
-        return;
-    }
-    for _ in rt.forever() {
-        // Asked before the last look, so that this sees all that was done until the end.
-        let has_ended = house.has_ended(rt);
-        let next = moment_after(rt, Duration::from_millis(PAUSE));
-        let is_kept = keeper.look();
-        if has_ended {
-            return;
-        }
-        rest(rt, house, &next);
-        if is_kept {
-            keeper.await_change();
-        }
-    }
+    keeper.keep();
 }
 
 /// Rests until the moment of the next look, or until the daemon ends. The clock ends the rest, since sleeps last
@@ -163,6 +140,34 @@ struct Keeper<'h, L: Ledgers, R: Wait + Clock + Copy> {
 }
 
 impl<'h, L: Ledgers, R: Wait + Clock + Copy> Keeper<'h, L, R> {
+    /// Comes to the player, and keeps its state until the daemon has ended.
+    fn keep(&mut self) {
+        if self
+            .house
+            .notice(self.rt, &mut self.seat, News::Comes(KEEPER))
+            .is_err()
+        {
+            tell(
+                self.host,
+                "the state is not kept: the player takes no client for it",
+            );
+            return;
+        }
+        for _ in self.rt.forever() {
+            // Asked before the last look, so that this sees all that was done until the end.
+            let has_ended = self.house.has_ended(self.rt);
+            let next = moment_after(self.rt, Duration::from_millis(PAUSE));
+            let is_kept = self.look();
+            if has_ended {
+                return;
+            }
+            rest(self.rt, self.house, &next);
+            if is_kept {
+                self.await_change();
+            }
+        }
+    }
+
     /// Looks at the player, and writes its state where that is another than the one that was written last.
     /// False where there was no memory for it, or it could not be written.
     fn look(&mut self) -> bool {
@@ -200,46 +205,26 @@ impl<'h, L: Ledgers, R: Wait + Clock + Copy> Keeper<'h, L, R> {
     /// The state as it is now. An output that is off for its path alone is kept as one that is on; since the daemon
     /// may switch it off or on while it is asked, it is looked at before and after.
     fn state(&mut self) -> Result<String, AllocError> {
-        let alloc = self.host.alloc();
         let before = self.gates.off_for_paths();
-        let answers = self.ask()?;
-        let mut kept = kept_of(alloc, answers.as_str())?;
+        let mut kept = self.kept()?;
         switch_back(&mut kept, before);
         switch_back(&mut kept, self.gates.off_for_paths());
-        self.plays = match &kept.song {
-            Some(song) => matches!(&song.playback, KeptPlayback::Play(_)),
-            None => false,
-        };
-        state_text(alloc, &kept)
+        self.plays = is_played(&kept);
+        state_text(self.host.alloc(), &kept)
     }
 
-    /// What the player answers to the questions, all at one moment.
-    fn ask(&mut self) -> Result<String, AllocError> {
+    /// What is kept by the player's answers to the questions, all given at one moment.
+    fn kept(&mut self) -> Result<Kept, AllocError> {
         let alloc = self.host.alloc();
-        let mut requests = Vec::new(alloc);
-        for line in QUESTIONS.lines() {
-            requests.push(Request::of_line(alloc, line, CommandSet::base())?)?;
+        let requests = questions(alloc)?;
+        let (seat, shelf) = (&mut self.seat, &mut self.shelf);
+        match self
+            .house
+            .list(self.rt, seat, shelf, KEEPER, ListForm::Plain, requests)
+        {
+            Ok(answered) => kept_of(alloc, text_of(alloc, &answered)?.as_str()),
+            Err(_) => Err(AllocError),
         }
-        let Ok(answered) = self.house.list(
-            self.rt,
-            &mut self.seat,
-            &mut self.shelf,
-            KEEPER,
-            ListForm::Plain,
-            requests,
-        )
-        else {
-            return Err(AllocError);
-        };
-        let mut text = String::new(alloc);
-        for outcome in answered.answers().outcomes() {
-            // An answer that is none must not be taken for that of an empty player.
-            if outcome.reply().next() != Next::Goes || outcome.reply().is_refusal() {
-                return Err(AllocError);
-            }
-            text.push_str(outcome.reply().text())?;
-        }
-        Ok(text)
     }
 
     /// Idles until what is kept may have changed or the daemon has ended; while a song is played, no longer
@@ -290,6 +275,36 @@ impl<'h, L: Ledgers, R: Wait + Clock + Copy> Keeper<'h, L, R> {
             Ok(answered) => Some(answered.reply().next()),
             Err(_) => None,
         }
+    }
+}
+
+/// What the player is asked, as requests.
+fn questions(alloc: Global) -> Result<Vec<Request>, AllocError> {
+    let mut requests = Vec::new(alloc);
+    for line in QUESTIONS.lines() {
+        requests.push(Request::of_line(alloc, line, CommandSet::base())?)?;
+    }
+    Ok(requests)
+}
+
+/// What was answered to the questions.
+fn text_of(alloc: Global, answered: &AnsweredList) -> Result<String, AllocError> {
+    let mut text = String::new(alloc);
+    for outcome in answered.answers().outcomes() {
+        // An answer that is none must not be taken for that of an empty player.
+        if outcome.reply().next() != Next::Goes || outcome.reply().is_refusal() {
+            return Err(AllocError);
+        }
+        text.push_str(outcome.reply().text())?;
+    }
+    Ok(text)
+}
+
+/// Whether a song is played, by what is kept.
+fn is_played(kept: &Kept) -> bool {
+    match &kept.song {
+        Some(song) => matches!(&song.playback, KeptPlayback::Play(_)),
+        None => false,
     }
 }
 
