@@ -1,11 +1,9 @@
 //! Channels, and the messages that wait for those who listen.
-use idle_notes::{
-    ChannelFault, Channels, Message, channel_names_are_each_once, clients_stay_apart,
-    hears_where_one_listens, is_channel_name,
-};
+use idle_notes::{ChannelFault, Channels, Message, is_channel_name};
 use std::alloc::{AllocError, Global};
+use std::mem;
 use std::test::Fail;
-use wanted::wants;
+use wanted::{Told, wants};
 
 /// A call.
 #[derive(Clone, Copy)]
@@ -20,131 +18,159 @@ enum Step {
     Channels,
     /// What is asked of a client and a channel.
     Ask(u32, &'static str),
+    /// How many messages wait for a client, and the last of them.
+    Last(u32),
+    Quietly(Quiet),
+}
+
+/// A step that tells nothing.
+#[derive(Clone, Copy)]
+enum Quiet {
+    /// A client subscribes to each of these channels.
+    SubscribeToAll(u32, &'static [&'static str]),
+    /// A channel is sent so many messages.
+    SendOften(&'static str, u32),
+    Leave(u32),
+    /// An image is taken.
+    Keep,
+    /// The channels and the image change places.
+    Back,
 }
 
 /// Adds how a call ended.
-fn add_end(told: &mut String, end: Result<(), ChannelFault>) -> Result<(), AllocError> {
+fn add_end(told: &mut Told, end: Result<(), ChannelFault>) {
     match end {
-        Ok(()) => told.push_str("ok"),
-        Err(fault) => told.write_fmt(format_args!("{fault:?}")),
+        Ok(()) => told.add("ok"),
+        Err(fault) => told.add(format_args!("{fault:?}")),
     }
 }
 
-fn add_messages(told: &mut String, messages: &[Message]) -> Result<(), AllocError> {
+fn add_messages(told: &mut Told, messages: &[Message]) {
     for message in messages {
         let (channel, text) = (message.channel.as_str(), message.text.as_str());
-        told.write_fmt(format_args!("{channel}={text} "))?;
+        told.add(format_args!("{channel}={text} "));
     }
-    Ok(())
 }
 
-fn add_read(told: &mut String, channels: &mut Channels, client: u32) -> Result<(), AllocError> {
-    add_messages(told, &channels.read(client))
+fn add_read(told: &mut Told, channels: &mut Channels, client: u32) {
+    add_messages(told, &channels.read(client));
 }
 
-fn add_texts(told: &mut String, texts: &[&str]) -> Result<(), AllocError> {
-    for text in texts {
-        told.write_fmt(format_args!("{text} "))?;
+fn add_names(told: &mut Told, alloc: Global, channels: &Channels) {
+    let Ok(names) = channels.channels(alloc) else {
+        return told.fail();
+    };
+    for name in names.as_slice() {
+        told.add(format_args!("{name} "));
     }
-    Ok(())
 }
 
-fn add_names(told: &mut String, alloc: Global, channels: &Channels) -> Result<(), AllocError> {
-    add_texts(told, channels.channels(alloc)?.as_slice())
-}
-
-fn add_asked(
-    told: &mut String,
-    channels: &Channels,
-    client: u32,
-    name: &str,
-) -> Result<(), AllocError> {
+fn add_asked(told: &mut Told, channels: &Channels, client: u32, name: &str) {
     let listens = channels.listens(client, name);
     let count = channels.count_of(client);
     let waits = channels.has_messages(client);
     let hears = channels.hears(name);
     let room = channels.has_room(name);
-    told.write_fmt(format_args!(
+    told.add(format_args!(
         "listens {listens}, names {count}, waits {waits}, heard {hears}, room {room}"
-    ))
+    ));
 }
 
-fn add_left(told: &mut String, channels: &mut Channels, client: u32) -> Result<(), AllocError> {
-    channels.leave(client);
-    told.push_str("gone")
+/// Adds how many messages wait for a client, and the last of them.
+fn add_last(told: &mut Told, channels: &Channels, client: u32) {
+    let messages = channels.messages(client);
+    let count = messages.len();
+    match messages.last() {
+        Some(message) => {
+            let text = message.text.as_str();
+            told.add(format_args!("{count}: {text}"));
+        }
+        None => told.add("none"),
+    }
 }
 
-/// Adds what a call answers.
+/// Takes a step that tells nothing, of channels and the image that is kept of them.
+fn quietly(told: &mut Told, channels: &mut Channels, kept: &mut Channels, step: Quiet) {
+    match step {
+        Quiet::SubscribeToAll(client, names) => {
+            for name in names {
+                let _ = channels.subscribe(client, name);
+            }
+        }
+        Quiet::SendOften(name, count) => {
+            for _ in 0..count {
+                let _ = channels.send(name, "again");
+            }
+        }
+        Quiet::Leave(client) => channels.leave(client),
+        Quiet::Keep => match channels.image() {
+            Ok(image) => *kept = image,
+            Err(_) => told.fail(),
+        },
+        Quiet::Back => mem::swap(channels, kept),
+    }
+}
+
+/// Adds what a call answers, on a line.
 fn add_answer(
-    told: &mut String,
+    told: &mut Told,
     alloc: Global,
     channels: &mut Channels,
+    kept: &mut Channels,
     step: &Step,
-) -> Result<(), AllocError> {
+) {
     match step {
         Step::Subscribe(client, name) => add_end(told, channels.subscribe(*client, name)),
         Step::Unsubscribe(client, name) => add_end(told, channels.unsubscribe(*client, name)),
         Step::Send(name, text) => add_end(told, channels.send(name, text)),
         Step::Messages(client) => add_messages(told, channels.messages(*client)),
         Step::Read(client) => add_read(told, channels, *client),
-        Step::Leave(client) => add_left(told, channels, *client),
+        Step::Leave(client) => {
+            channels.leave(*client);
+            told.add("gone");
+        }
         Step::Channels => add_names(told, alloc, channels),
         Step::Ask(client, name) => add_asked(told, channels, *client, name),
+        Step::Last(client) => add_last(told, channels, *client),
+        Step::Quietly(step) => return quietly(told, channels, kept, *step),
     }
+    told.add("\n");
 }
 
-/// Adds what these calls answer, a line for each.
-fn add_answers(
-    told: &mut String,
-    alloc: Global,
-    channels: &mut Channels,
-    steps: &[Step],
-) -> Result<(), AllocError> {
+/// What new channels answer to these calls, with a line for each that is not quiet.
+fn answers(alloc: Global, steps: &[Step]) -> Result<String, AllocError> {
+    let mut told = Told::new(alloc);
+    let mut channels = Channels::new(alloc);
+    let mut kept = Channels::new(alloc);
     for step in steps {
-        add_answer(told, alloc, channels, step)?;
-        told.push_str("\n")?;
+        add_answer(&mut told, alloc, &mut channels, &mut kept, step);
     }
-    Ok(())
+    told.into_text()
 }
 
-fn answers(alloc: Global, channels: &mut Channels, steps: &[Step]) -> Result<String, AllocError> {
-    let mut told = String::new(alloc);
-    add_answers(&mut told, alloc, channels, steps)?;
-    Ok(told)
-}
+/// Who listens.
+const LISTENERS: &[Step] = &[
+    Step::Channels,
+    Step::Ask(1, "news"),
+    Step::Subscribe(1, "news"),
+    Step::Subscribe(1, "news"),
+    Step::Subscribe(2, "alarm"),
+    Step::Subscribe(2, "news"),
+    Step::Subscribe(1, "Zebra"),
+    Step::Channels,
+    Step::Ask(1, "news"),
+    Step::Ask(1, "alarm"),
+    Step::Unsubscribe(1, "alarm"),
+    Step::Unsubscribe(3, "news"),
+    Step::Unsubscribe(1, "news"),
+    Step::Unsubscribe(1, "news"),
+    Step::Channels,
+    Step::Leave(2),
+    Step::Channels,
+    Step::Ask(2, "news"),
+];
 
-fn answers_from_new(alloc: Global, steps: &[Step]) -> Result<String, AllocError> {
-    answers(alloc, &mut Channels::new(alloc), steps)
-}
-
-#[test]
-fn who_listens(rt: HostRuntime) -> Result<(), Fail> {
-    let told = answers_from_new(
-        rt.alloc(),
-        &[
-            Step::Channels,
-            Step::Ask(1, "news"),
-            Step::Subscribe(1, "news"),
-            Step::Subscribe(1, "news"),
-            Step::Subscribe(2, "alarm"),
-            Step::Subscribe(2, "news"),
-            Step::Subscribe(1, "Zebra"),
-            Step::Channels,
-            Step::Ask(1, "news"),
-            Step::Ask(1, "alarm"),
-            Step::Unsubscribe(1, "alarm"),
-            Step::Unsubscribe(3, "news"),
-            Step::Unsubscribe(1, "news"),
-            Step::Unsubscribe(1, "news"),
-            Step::Channels,
-            Step::Leave(2),
-            Step::Channels,
-            Step::Ask(2, "news"),
-        ],
-    );
-    wants(
-        told,
-        "
+const LISTENERS_TOLD: &str = "
 listens false, names 0, waits false, heard false, room false
 ok
 Already
@@ -162,40 +188,33 @@ Zebra alarm news
 gone
 Zebra 
 listens false, names 0, waits false, heard false, room false
-",
-    )
-}
+";
 
-#[test]
-fn who_is_sent_a_message(rt: HostRuntime) -> Result<(), Fail> {
-    let told = answers_from_new(
-        rt.alloc(),
-        &[
-            Step::Send("news", "lost"),
-            Step::Subscribe(1, "news"),
-            Step::Subscribe(2, "news"),
-            Step::Subscribe(3, "alarm"),
-            Step::Send("news", "one"),
-            Step::Send("alarm", "two"),
-            Step::Send("new", "lost"),
-            Step::Unsubscribe(1, "news"),
-            Step::Send("news", "three"),
-            Step::Messages(1),
-            Step::Read(1),
-            Step::Read(1),
-            Step::Messages(2),
-            Step::Messages(2),
-            Step::Leave(2),
-            Step::Messages(2),
-            Step::Send("news", "lost"),
-            Step::Read(3),
-            Step::Ask(3, "alarm"),
-            Step::Read(4),
-        ],
-    );
-    wants(
-        told,
-        "Nobody
+/// Who is sent a message.
+const MESSAGES: &[Step] = &[
+    Step::Send("news", "lost"),
+    Step::Subscribe(1, "news"),
+    Step::Subscribe(2, "news"),
+    Step::Subscribe(3, "alarm"),
+    Step::Send("news", "one"),
+    Step::Send("alarm", "two"),
+    Step::Send("new", "lost"),
+    Step::Unsubscribe(1, "news"),
+    Step::Send("news", "three"),
+    Step::Messages(1),
+    Step::Read(1),
+    Step::Read(1),
+    Step::Messages(2),
+    Step::Messages(2),
+    Step::Leave(2),
+    Step::Messages(2),
+    Step::Send("news", "lost"),
+    Step::Read(3),
+    Step::Ask(3, "alarm"),
+    Step::Read(4),
+];
+
+const MESSAGES_TOLD: &str = "Nobody
 ok
 ok
 ok
@@ -215,44 +234,26 @@ Nobody
 alarm=two 
 listens true, names 1, waits false, heard true, room true
 
-",
-    )
-}
+";
 
-const SIXTEEN: [&str; 16] = [
+const SIXTEEN: &[&str] = &[
     "a", "b", "c", "d", "e", "f", "g", "h", "i", "j", "k", "l", "m", "n", "o", "p",
 ];
 
-fn subscribe_to_all(channels: &mut Channels, client: u32) {
-    for name in SIXTEEN.iter() {
-        let _ = channels.subscribe(client, name);
-    }
-}
+/// A client may have sixteen channels, and no more.
+const SEVENTEEN: &[Step] = &[
+    Step::Quietly(Quiet::SubscribeToAll(1, SIXTEEN)),
+    Step::Subscribe(1, "q"),
+    Step::Subscribe(1, "p"),
+    Step::Subscribe(2, "q"),
+    Step::Ask(1, "q"),
+    Step::Unsubscribe(1, "a"),
+    Step::Subscribe(1, "q"),
+    Step::Subscribe(1, "a"),
+    Step::Channels,
+];
 
-fn seventeen(alloc: Global) -> Result<String, AllocError> {
-    let mut channels = Channels::new(alloc);
-    subscribe_to_all(&mut channels, 1);
-    answers(
-        alloc,
-        &mut channels,
-        &[
-            Step::Subscribe(1, "q"),
-            Step::Subscribe(1, "p"),
-            Step::Subscribe(2, "q"),
-            Step::Ask(1, "q"),
-            Step::Unsubscribe(1, "a"),
-            Step::Subscribe(1, "q"),
-            Step::Subscribe(1, "a"),
-            Step::Channels,
-        ],
-    )
-}
-
-#[test]
-fn sixteen_channels_and_no_more(rt: HostRuntime) -> Result<(), Fail> {
-    wants(
-        seventeen(rt.alloc()),
-        "TooMany
+const SEVENTEEN_TOLD: &str = "TooMany
 Already
 ok
 listens false, names 16, waits false, heard true, room true
@@ -260,138 +261,70 @@ ok
 ok
 TooMany
 b c d e f g h i j k l m n o p q 
-",
-    )
-}
+";
 
-/// Sends so many messages to a channel.
-fn send_often(channels: &mut Channels, name: &str, count: u32) {
-    for _ in 0..count {
-        let _ = channels.send(name, "again");
-    }
-}
+/// Sixty-four messages may wait for a client, and no more.
+const SIXTY_FOUR: &[Step] = &[
+    Step::Quietly(Quiet::SubscribeToAll(1, &["news"])),
+    Step::Quietly(Quiet::SendOften("news", 63)),
+    Step::Send("news", "last"),
+    Step::Ask(1, "news"),
+    Step::Send("news", "lost"),
+    Step::Send("other", "lost"),
+    Step::Last(1),
+    Step::Last(2),
+];
 
-/// Adds how many messages wait for a client, and the last of them.
-fn add_last(told: &mut String, channels: &Channels, client: u32) -> Result<(), AllocError> {
-    let messages = channels.messages(client);
-    let count = messages.len();
-    match messages.last() {
-        Some(message) => {
-            let text = message.text.as_str();
-            told.write_fmt(format_args!("{count}: {text}\n"))
-        }
-        None => told.push_str("none\n"),
-    }
-}
-
-/// What is answered to the steps, and then the last message of each of two clients.
-fn then_last(alloc: Global, channels: &mut Channels, steps: &[Step]) -> Result<String, AllocError> {
-    let mut told = String::new(alloc);
-    add_answers(&mut told, alloc, channels, steps)?;
-    add_last(&mut told, channels, 1)?;
-    add_last(&mut told, channels, 2)?;
-    Ok(told)
-}
-
-/// The same where a client has 63 messages before.
-fn after_sixty_three(alloc: Global, steps: &[Step]) -> Result<String, AllocError> {
-    let mut channels = Channels::new(alloc);
-    let _ = channels.subscribe(1, "news");
-    send_often(&mut channels, "news", 63);
-    then_last(alloc, &mut channels, steps)
-}
-
-#[test]
-fn sixty_four_messages_and_no_more(rt: HostRuntime) -> Result<(), Fail> {
-    let told = after_sixty_three(
-        rt.alloc(),
-        &[
-            Step::Send("news", "last"),
-            Step::Ask(1, "news"),
-            Step::Send("news", "lost"),
-            Step::Send("other", "lost"),
-        ],
-    );
-    wants(
-        told,
-        "ok
+const SIXTY_FOUR_TOLD: &str = "ok
 listens true, names 1, waits true, heard true, room false
 NoRoom
 Nobody
 64: last
 none
-",
-    )
-}
+";
 
-#[test]
-fn a_full_listener_misses_what_another_is_sent(rt: HostRuntime) -> Result<(), Fail> {
-    let told = after_sixty_three(
-        rt.alloc(),
-        &[
-            Step::Send("news", "last"),
-            Step::Subscribe(2, "news"),
-            Step::Send("news", "for two"),
-            Step::Messages(2),
-        ],
-    );
-    wants(
-        told,
-        "ok
+/// A listener for whom so many wait misses what another is sent.
+const FULL_LISTENER: &[Step] = &[
+    Step::Quietly(Quiet::SubscribeToAll(1, &["news"])),
+    Step::Quietly(Quiet::SendOften("news", 63)),
+    Step::Send("news", "last"),
+    Step::Subscribe(2, "news"),
+    Step::Send("news", "for two"),
+    Step::Messages(2),
+    Step::Last(1),
+    Step::Last(2),
+];
+
+const FULL_LISTENER_TOLD: &str = "ok
 ok
 ok
 news=for two 
 64: last
 1: for two
-",
-    )
-}
+";
 
-/// What channels answer to the first steps; to the second when an image of them was taken; and the image to the
-/// last.
-fn answers_of_image(
-    alloc: Global,
-    before: &[Step],
-    after: &[Step],
-    asked: &[Step],
-) -> Result<String, AllocError> {
-    let mut channels = Channels::new(alloc);
-    let mut told = answers(alloc, &mut channels, before)?;
-    let mut image = channels.image()?;
-    add_answers(&mut told, alloc, &mut channels, after)?;
-    add_answers(&mut told, alloc, &mut image, asked)?;
-    Ok(told)
-}
+/// An image of channels stays.
+const IMAGE: &[Step] = &[
+    Step::Subscribe(1, "news"),
+    Step::Subscribe(1, "Zebra"),
+    Step::Subscribe(2, "news"),
+    Step::Send("news", "one"),
+    Step::Quietly(Quiet::Keep),
+    Step::Subscribe(3, "alarm"),
+    Step::Unsubscribe(1, "Zebra"),
+    Step::Send("news", "two"),
+    Step::Read(1),
+    Step::Leave(2),
+    Step::Quietly(Quiet::Back),
+    Step::Channels,
+    Step::Ask(1, "Zebra"),
+    Step::Messages(1),
+    Step::Ask(3, "alarm"),
+    Step::Send("news", "three"),
+    Step::Read(2),
+];
 
-#[test]
-fn an_image_of_channels_stays(rt: HostRuntime) -> Result<(), Fail> {
-    let told = answers_of_image(
-        rt.alloc(),
-        &[
-            Step::Subscribe(1, "news"),
-            Step::Subscribe(1, "Zebra"),
-            Step::Subscribe(2, "news"),
-            Step::Send("news", "one"),
-        ],
-        &[
-            Step::Subscribe(3, "alarm"),
-            Step::Unsubscribe(1, "Zebra"),
-            Step::Send("news", "two"),
-            Step::Read(1),
-            Step::Leave(2),
-        ],
-        &[
-            Step::Channels,
-            Step::Ask(1, "Zebra"),
-            Step::Messages(1),
-            Step::Ask(3, "alarm"),
-            Step::Send("news", "three"),
-            Step::Read(2),
-        ],
-    );
-    wants(
-        told,
-        "ok
+const IMAGE_TOLD: &str = "ok
 ok
 ok
 ok
@@ -406,95 +339,87 @@ news=one
 listens false, names 0, waits false, heard false, room false
 ok
 news=one news=three 
-",
-    )
-}
+";
 
-/// What an image answers of a client with as many channels and messages as it may have, when its source was left.
-fn full_image(alloc: Global) -> Result<String, AllocError> {
-    let mut channels = Channels::new(alloc);
-    subscribe_to_all(&mut channels, 1);
-    send_often(&mut channels, "p", 64);
-    let mut image = channels.image()?;
-    channels.leave(1);
-    then_last(
-        alloc,
-        &mut image,
-        &[
-            Step::Subscribe(1, "q"),
-            Step::Send("a", "lost"),
-            Step::Channels,
-        ],
-    )
-}
+/// So does one of a client with as many channels and messages as it may have, when its source was left.
+const FULL_IMAGE: &[Step] = &[
+    Step::Quietly(Quiet::SubscribeToAll(1, SIXTEEN)),
+    Step::Quietly(Quiet::SendOften("p", 64)),
+    Step::Quietly(Quiet::Keep),
+    Step::Quietly(Quiet::Leave(1)),
+    Step::Quietly(Quiet::Back),
+    Step::Subscribe(1, "q"),
+    Step::Send("a", "lost"),
+    Step::Channels,
+    Step::Last(1),
+    Step::Last(2),
+];
 
-#[test]
-fn an_image_of_sixty_four_messages(rt: HostRuntime) -> Result<(), Fail> {
-    wants(
-        full_image(rt.alloc()),
-        "TooMany
+const FULL_IMAGE_TOLD: &str = "TooMany
 NoRoom
 a b c d e f g h i j k l m n o p 
 64: again
 none
-",
-    )
-}
+";
 
-fn add_if_proper(told: &mut String, text: &str) -> Result<(), AllocError> {
-    if is_channel_name(text) {
-        told.push_str(text)?;
-    }
-    told.push_str("|")
-}
+/// Calls, and what they tell.
+const ROWS: &[(&[Step], &str)] = &[
+    (LISTENERS, LISTENERS_TOLD),
+    (MESSAGES, MESSAGES_TOLD),
+    (SEVENTEEN, SEVENTEEN_TOLD),
+    (SIXTY_FOUR, SIXTY_FOUR_TOLD),
+    (FULL_LISTENER, FULL_LISTENER_TOLD),
+    (IMAGE, IMAGE_TOLD),
+    (FULL_IMAGE, FULL_IMAGE_TOLD),
+];
+
+const NAMES: &[&str] = &[
+    "a",
+    "",
+    "z",
+    "A",
+    "Z",
+    "0",
+    "9",
+    "_",
+    "-",
+    ".",
+    ":",
+    "a.b-c_d:9",
+    " ",
+    "a b",
+    "a/b",
+    "@",
+    "[",
+    "`",
+    "{",
+    "/",
+    ";",
+    "\u{e9}",
+    "a\n",
+    ",",
+    "^",
+];
 
 /// Those of these texts that are names of channels, with a bar after each text.
-fn proper(alloc: Global, texts: &[&str]) -> Result<String, AllocError> {
-    let mut told = String::new(alloc);
-    for text in texts {
-        add_if_proper(&mut told, text)?;
+fn proper(alloc: Global) -> Result<String, AllocError> {
+    let mut told = Told::new(alloc);
+    for text in NAMES.iter() {
+        if is_channel_name(text) {
+            told.add(text);
+        }
+        told.add("|");
     }
-    Ok(told)
+    told.into_text()
 }
 
 #[test]
-fn names_of_channels(rt: HostRuntime) -> Result<(), Fail> {
-    let told = proper(
-        rt.alloc(),
-        &[
-            "a",
-            "",
-            "z",
-            "A",
-            "Z",
-            "0",
-            "9",
-            "_",
-            "-",
-            ".",
-            ":",
-            "a.b-c_d:9",
-            " ",
-            "a b",
-            "a/b",
-            "@",
-            "[",
-            "`",
-            "{",
-            "/",
-            ";",
-            "\u{e9}",
-            "a\n",
-            ",",
-            "^",
-        ],
-    );
-    wants(told, "a||z|A|Z|0|9|_|-|.|:|a.b-c_d:9||||||||||||||")
-}
-
-#[test]
-fn laws_of_channels_can_be_called() {
-    channel_names_are_each_once();
-    clients_stay_apart();
-    hears_where_one_listens();
+fn channels_and_their_names(rt: HostRuntime) -> Result<(), Fail> {
+    for (steps, tells) in ROWS.iter() {
+        wants(answers(rt.alloc(), steps), tells)?;
+    }
+    wants(
+        proper(rt.alloc()),
+        "a||z|A|Z|0|9|_|-|.|:|a.b-c_d:9||||||||||||||",
+    )
 }

@@ -4,6 +4,8 @@
 #[cfg(test)]
 mod channels;
 #[cfg(test)]
+mod laws;
+#[cfg(test)]
 mod list_lines;
 #[cfg(test)]
 mod notices;

@@ -1,159 +1,144 @@
 //! The lines of a client's command list.
-use command_lists::{
-    CommandList, ListCollector, ListForm, ListLine, Taken, any_cut, lines_are_parts,
-    parts_are_taken, words_are_alone,
-};
+use command_lists::{CommandList, ListCollector, ListForm, ListLine, Taken};
 use std::alloc::{AllocError, Global};
 use std::test::Fail;
-use wanted::wants;
-
-fn line_text(line: &ListLine) -> &str {
-    match line {
-        ListLine::Text(text) => text.as_str(),
-        ListLine::NotText => "(no text)",
-    }
-}
+use wanted::{Told, wants};
 
 /// Adds the form of a list, and each line after a bar.
-fn add_list(told: &mut String, list: &CommandList) -> Result<(), AllocError> {
-    told.push_str(match list.form {
+fn add_list(told: &mut Told, list: &CommandList) {
+    told.add(match list.form {
         ListForm::Plain => "plain",
         ListForm::ListOk => "ok",
-    })?;
+    });
     for line in list.lines.items() {
-        told.write_fmt(format_args!("|{}", line_text(line)))?;
-    }
-    Ok(())
-}
-
-/// Adds what a line is taken as.
-fn add_taken(
-    told: &mut String,
-    alloc: Global,
-    collector: &mut ListCollector,
-    line: Option<&str>,
-) -> Result<(), AllocError> {
-    match collector.take(alloc, line)? {
-        Taken::Alone => told.push_str("alone"),
-        Taken::Begun => told.push_str("begun"),
-        Taken::Collected => told.push_str("collected"),
-        Taken::Ended(list) => add_list(told, &list),
-        Taken::TooLarge => told.push_str("too large"),
+        match line {
+            ListLine::Text(text) => told.add(format_args!("|{}", text.as_str())),
+            ListLine::NotText => told.add("|(no text)"),
+        }
     }
 }
 
-fn is_open(collector: &ListCollector) -> &'static str {
-    if collector.is_open() { " open\n" } else { "\n" }
+/// Adds what a line was taken as.
+fn add_taken(told: &mut Told, taken: Result<Taken, AllocError>) {
+    match taken {
+        Ok(Taken::Alone) => told.add("alone"),
+        Ok(Taken::Begun) => told.add("begun"),
+        Ok(Taken::Collected) => told.add("collected"),
+        Ok(Taken::Ended(list)) => add_list(told, &list),
+        Ok(Taken::TooLarge) => told.add("too large"),
+        Err(_) => told.fail(),
+    }
 }
 
 /// Adds what a line is taken as, and whether a list is open after it. `?` stands for a line that is no text, and
 /// at `!` the open list is dropped.
-fn add_line(
-    told: &mut String,
-    alloc: Global,
-    collector: &mut ListCollector,
-    line: &str,
-) -> Result<(), AllocError> {
+fn add_line(told: &mut Told, alloc: Global, collector: &mut ListCollector, line: &str) {
     if line == "!" {
         collector.drop_list();
     }
     let line = if line == "?" { None } else { Some(line) };
-    add_taken(told, alloc, collector, line)?;
-    told.push_str(is_open(collector))
+    add_taken(told, collector.take(alloc, line));
+    told.add(if collector.is_open() { " open\n" } else { "\n" });
 }
 
 fn session(alloc: Global, lines: &str) -> Result<String, AllocError> {
     let mut collector = ListCollector::new();
-    let mut told = String::new(alloc);
+    let mut told = Told::new(alloc);
     for line in lines.lines() {
-        add_line(&mut told, alloc, &mut collector, line)?;
+        add_line(&mut told, alloc, &mut collector, line);
     }
-    Ok(told)
+    told.into_text()
 }
 
-#[test]
-fn a_list_is_collected_to_its_end(rt: HostRuntime) -> Result<(), Fail> {
-    wants(
-        session(
-            rt.alloc(),
-            "ping\ncommand_list_begin\nadd \"a b\"\n?\n\ncommand_list_begin\n\tcommand_list_end \nping\n command_list_ok_begin\ncommand_list_end\n",
-        ),
-        "alone\nbegun open\ncollected open\ncollected open\ncollected open\ncollected open\nplain|add \"a b\"|(no text)||command_list_begin\nalone\nbegun open\nok\n",
-    )
-}
+/// A list is collected to its end.
+const COLLECTED: &str = "ping
+command_list_begin
+add \"a b\"
+?
 
-#[test]
-fn other_lines_begin_and_end_no_list(rt: HostRuntime) -> Result<(), Fail> {
-    wants(
-        session(
-            rt.alloc(),
-            "command_list_end\n\"command_list_begin\"\ncommand_list_begin x\nCommand_list_begin\ncommand_list_ok_begin\ncommand_list_end x\n!\ncommand_list_end\n",
-        ),
-        "alone\nalone\nalone\nalone\nbegun open\ncollected open\nalone\nalone\n",
-    )
-}
+command_list_begin
+\tcommand_list_end 
+ping
+ command_list_ok_begin
+command_list_end
+";
 
-fn fill(
-    alloc: Global,
-    collector: &mut ListCollector,
-    count: u32,
-    line: &str,
-) -> Result<(), AllocError> {
-    for _ in 0..count {
-        let _taken = collector.take(alloc, Some(line))?;
-    }
-    Ok(())
-}
+const COLLECTED_TOLD: &str = "alone
+begun open
+collected open
+collected open
+collected open
+collected open
+plain|add \"a b\"|(no text)||command_list_begin
+alone
+begun open
+ok
+";
+
+/// Other lines begin and end no list.
+const OTHERS: &str = "command_list_end
+\"command_list_begin\"
+command_list_begin x
+Command_list_begin
+command_list_ok_begin
+command_list_end x
+!
+command_list_end
+";
+
+const OTHERS_TOLD: &str = "alone
+alone
+alone
+alone
+begun open
+collected open
+alone
+alone
+";
+
+/// Lines, and what each is taken as.
+const SESSIONS: &[(&str, &str)] = &[(COLLECTED, COLLECTED_TOLD), (OTHERS, OTHERS_TOLD)];
 
 /// Adds whether a list with so many lines is too large with one more, and with its end; and then what the one
 /// more is taken as.
-fn add_full(
-    told: &mut String,
-    alloc: Global,
-    count: u32,
-    line: &str,
-    more: &str,
-) -> Result<(), AllocError> {
+fn add_full(told: &mut Told, alloc: Global, count: u32, line: &str, more: &str) {
     let mut collector = ListCollector::new();
-    add_line(told, alloc, &mut collector, "command_list_begin")?;
-    fill(alloc, &mut collector, count, line)?;
+    add_line(told, alloc, &mut collector, "command_list_begin");
+    for _ in 0..count {
+        if collector.take(alloc, Some(line)).is_err() {
+            told.fail();
+        }
+    }
     let before = collector.is_too_large_with(Some(more));
     let end = collector.is_too_large_with(Some("command_list_end"));
-    told.write_fmt(format_args!("{before} {end} "))?;
-    add_line(told, alloc, &mut collector, more)
+    told.add(format_args!("{before} {end} "));
+    add_line(told, alloc, &mut collector, more);
 }
 
 /// What is told of lists of 127 lines and one more, of a byte more, and of 128 and an empty line more.
 fn full_lists(alloc: Global) -> Result<String, AllocError> {
-    let mut told = String::new(alloc);
     let longer = "x".repeat(alloc, 16_384)?;
     let line = longer.as_str().get(..16_383).unwrap_or("");
-    add_full(&mut told, alloc, 127, line, line)?;
-    add_full(&mut told, alloc, 127, line, longer.as_str())?;
-    add_full(&mut told, alloc, 128, line, "")?;
-    Ok(told)
+    let mut told = Told::new(alloc);
+    add_full(&mut told, alloc, 127, line, line);
+    add_full(&mut told, alloc, 127, line, longer.as_str());
+    add_full(&mut told, alloc, 128, line, "");
+    told.into_text()
 }
 
-// 128 lines of 16,383 bytes have 2,097,152 bytes with their newlines.
-#[test]
-fn the_largest_list(rt: HostRuntime) -> Result<(), Fail> {
-    wants(
-        full_lists(rt.alloc()),
-        "begun open
+/// 128 lines of 16,383 bytes have 2,097,152 bytes with their newlines.
+const FULL_LISTS_TOLD: &str = "begun open
 false false collected open
 begun open
 true false too large
 begun open
 true false too large
-",
-    )
-}
+";
 
 #[test]
-fn laws_of_lists_can_be_called(_rt: HostRuntime) -> Result<(), Fail> {
-    words_are_alone();
-    any_cut();
-    parts_are_taken();
-    lines_are_parts();
-    Ok(())
+fn lists_of_lines(rt: HostRuntime) -> Result<(), Fail> {
+    for (lines, tells) in SESSIONS.iter() {
+        wants(session(rt.alloc(), lines), tells)?;
+    }
+    wants(full_lists(rt.alloc()), FULL_LISTS_TOLD)
 }

@@ -48,20 +48,22 @@ fn only(subsystem: Subsystem) -> Subsystems {
     Subsystems::none().with(subsystem)
 }
 
-fn both(first: Subsystem, second: Subsystem) -> Subsystems {
-    only(first).union(only(second))
+fn changed_lines(alloc: Global) -> Result<String, AllocError> {
+    let mut answer = Answer::new(alloc);
+    let set = Subsystems::none()
+        .with(Subsystem::Mixer)
+        .with(Subsystem::Playlist);
+    set.push_lines(&mut answer)?;
+    Ok(answer.into_string())
 }
 
-fn all() -> Subsystems {
-    Subsystems::all()
+fn is_read_back(subsystem: Subsystem) -> bool {
+    Subsystem::of_word(subsystem.text()) == Some(subsystem) && only(subsystem).has(subsystem)
 }
 
-fn of_all(subsystem: Subsystem) -> Subsystems {
-    all().meet(only(subsystem))
-}
-
+/// A notice clears what it does not name, and names in one order; and each name is read back.
 #[test]
-fn a_notice_clears_what_it_does_not_name(rt: HostRuntime) {
+fn notices_and_their_names(rt: HostRuntime) -> Result<(), Fail> {
     let queue = only(Subsystem::Playlist);
     let volume = only(Subsystem::Mixer);
     let wrong = first_wrong(&[
@@ -72,42 +74,19 @@ fn a_notice_clears_what_it_does_not_name(rt: HostRuntime) {
         Step::Note(volume),
         Step::Notice(Some(volume)),
         Step::NothingChanged,
-        Step::Note(both(Subsystem::Playlist, Subsystem::Mixer)),
-        Step::Wait(of_all(Subsystem::Playlist), Some(queue)),
-        Step::Wait(all(), None),
+        Step::Note(queue.union(volume)),
+        Step::Wait(Subsystems::all().meet(queue), Some(queue)),
+        Step::Wait(Subsystems::all(), None),
         Step::Cancel,
         Step::IsWaiting(false),
     ]);
     assert_eq!(rt; wrong, None);
-}
-
-fn changed_lines(alloc: Global) -> Result<String, AllocError> {
-    let mut answer = Answer::new(alloc);
-    let set = Subsystems::none()
-        .with(Subsystem::Mixer)
-        .with(Subsystem::Playlist);
-    set.push_lines(&mut answer)?;
-    Ok(answer.into_string())
-}
-
-#[test]
-fn a_notice_names_in_one_order(rt: HostRuntime) -> Result<(), Fail> {
-    let told = changed_lines(rt.alloc());
-    wants(told, "changed: playlist\nchanged: mixer\n")
-}
-
-fn is_read_back(subsystem: Subsystem) -> bool {
-    Subsystem::of_word(subsystem.text()) == Some(subsystem) && only(subsystem).has(subsystem)
-}
-
-fn has_name(word: &str) -> bool {
-    Subsystem::of_word(word).is_some()
-}
-
-#[test]
-fn each_name_is_read_back(rt: HostRuntime) {
     for subsystem in SUBSYSTEMS.iter() {
         assert!(rt; is_read_back(*subsystem), "{subsystem:?}");
     }
-    assert!(rt; !has_name("PLAYER"));
+    assert!(rt; Subsystem::of_word("PLAYER").is_none());
+    wants(
+        changed_lines(rt.alloc()),
+        "changed: playlist\nchanged: mixer\n",
+    )
 }

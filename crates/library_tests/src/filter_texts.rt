@@ -4,7 +4,7 @@ use filters::{Case, Filter, FilterFault, Pair, Test, Vocabulary, one_answer};
 use mpd_text::{TagName, Text};
 use std::alloc::{AllocError, Global};
 use std::test::Fail;
-use wanted::wants;
+use wanted::{Told, wants};
 
 /// A song: its URI, its tags, and how often the URI and each text are repeated.
 type Given = (&'static str, Tags, usize);
@@ -30,66 +30,39 @@ const LONG_SONG: &[Given] = &[(
 )];
 
 /// Adds the URI of a song that meets a filter, and a space. What is repeated is added once.
-fn tell_song(
-    told: &mut String,
-    alloc: Global,
-    given: &Given,
-    filter: &Filter,
-    case: Case,
-) -> Result<(), AllocError> {
+fn tell_song(told: &mut Told, alloc: Global, given: &Given, filter: &Filter, case: Case) {
     let (uri, tags, times) = *given;
-    let song = song(alloc, uri, tags, times, 8_000)?;
-    if filter.matches(&song, case)? {
-        return told.write_fmt(format_args!("{uri} "));
+    let Ok(song) = song(alloc, uri, tags, times, 8_000) else {
+        return told.fail();
+    };
+    match filter.matches(&song, case) {
+        Ok(true) => told.add(format_args!("{uri} ")),
+        Ok(false) => {}
+        Err(_) => told.fail(),
     }
-    Ok(())
-}
-
-fn tell_songs(
-    told: &mut String,
-    alloc: Global,
-    songs: &[Given],
-    filter: &Filter,
-    case: Case,
-) -> Result<(), AllocError> {
-    for given in songs {
-        tell_song(told, alloc, given, filter, case)?;
-    }
-    Ok(())
 }
 
 /// Adds the songs that meet a filter, or its fault.
 fn tell_found(
-    told: &mut String,
+    told: &mut Told,
     alloc: Global,
     songs: &[Given],
     filter: Result<Filter, FilterFault>,
     case: Case,
-) -> Result<(), AllocError> {
+) {
     match filter {
-        Ok(filter) => tell_songs(told, alloc, songs, &filter, case),
-        Err(FilterFault::Syntax(at)) => told.write_fmt(format_args!("bad filter at byte {at}")),
-        Err(FilterFault::UnknownTag(word)) => {
-            told.write_fmt(format_args!("unknown tag {}", word.as_str()))
+        Ok(filter) => {
+            for given in songs {
+                tell_song(told, alloc, given, &filter, case);
+            }
         }
-        Err(FilterFault::TooDeep) => told.push_str("filter too deep"),
-        Err(FilterFault::NoMemory) => told.push_str("no memory"),
+        Err(FilterFault::Syntax(at)) => told.add(format_args!("bad filter at byte {at}")),
+        Err(FilterFault::UnknownTag(word)) => {
+            told.add(format_args!("unknown tag {}", word.as_str()));
+        }
+        Err(FilterFault::TooDeep) => told.add("filter too deep"),
+        Err(FilterFault::NoMemory) => told.add("no memory"),
     }
-}
-
-/// Adds a line of a table again, with what is found by the filter on its left side.
-fn tell_line(
-    told: &mut String,
-    alloc: Global,
-    line: &str,
-    vocabulary: Vocabulary,
-    case: Case,
-) -> Result<(), AllocError> {
-    let (text, _) = line.split_once(" => ").unwrap_or((line, ""));
-    told.write_fmt(format_args!("{text} => "))?;
-    let filter = Filter::parse(alloc, text, vocabulary);
-    tell_found(told, alloc, SONGS, filter, case)?;
-    told.push('\n')
 }
 
 /// The lines of a table again, with what is found by the filters on their left sides.
@@ -99,11 +72,15 @@ fn told_of(
     vocabulary: Vocabulary,
     case: Case,
 ) -> Result<String, AllocError> {
-    let mut told = String::new(alloc);
+    let mut told = Told::new(alloc);
     for line in table.lines() {
-        tell_line(&mut told, alloc, line, vocabulary, case)?;
+        let (text, _) = line.split_once(" => ").unwrap_or((line, ""));
+        told.add(format_args!("{text} => "));
+        let filter = Filter::parse(alloc, text, vocabulary);
+        tell_found(&mut told, alloc, SONGS, filter, case);
+        told.add("\n");
     }
-    Ok(told)
+    told.into_text()
 }
 
 const FAULTS: &str = " => bad filter at byte 0
@@ -185,23 +162,14 @@ const KNOWN: &str = "(MUSICBRAINZ_ALBUMID == 'x') =>\u{20}
 (Track1 == 'x') => bad filter at byte 6
 ";
 
-#[test]
-fn songs_that_meet_texts(rt: HostRuntime) -> Result<(), Fail> {
-    one_answer();
-    let alloc = rt.alloc();
-    let base = Vocabulary::Base;
-    wants(told_of(alloc, FAULTS, base, Case::Heeded), FAULTS)?;
-    wants(told_of(alloc, DEPTHS, base, Case::Heeded), DEPTHS)?;
-    wants(told_of(alloc, FOUND, base, Case::Heeded), FOUND)?;
-    wants(
-        told_of(alloc, FOUND_IN_ANY_CASE, base, Case::Ignored),
-        FOUND_IN_ANY_CASE,
-    )?;
-    wants(
-        told_of(alloc, KNOWN, Vocabulary::Known, Case::Heeded),
-        KNOWN,
-    )
-}
+/// The tables, with what their filters know and how they compare.
+const TABLES: &[(&str, Vocabulary, Case)] = &[
+    (FAULTS, Vocabulary::Base, Case::Heeded),
+    (DEPTHS, Vocabulary::Base, Case::Heeded),
+    (FOUND, Vocabulary::Base, Case::Heeded),
+    (FOUND_IN_ANY_CASE, Vocabulary::Base, Case::Ignored),
+    (KNOWN, Vocabulary::Known, Case::Heeded),
+];
 
 fn add_pair(
     pairs: &mut Vec<Pair>,
@@ -234,26 +202,20 @@ fn pairs(alloc: Global, words: &[(&str, &str)], times: usize) -> Result<Vec<Pair
     Ok(pairs)
 }
 
-/// Adds what is found by pairs, and a bar.
-fn tell_pairs(
-    told: &mut String,
-    alloc: Global,
-    songs: &[Given],
-    compared: &Compared,
-) -> Result<(), AllocError> {
-    let (words, times, test, vocabulary, case) = *compared;
-    let pairs = pairs(alloc, words, times)?;
-    let filter = Filter::of_pairs(alloc, pairs.as_slice(), test, vocabulary);
-    tell_found(told, alloc, songs, filter, case)?;
-    told.push('|')
-}
-
+/// What is found by pairs, with a bar after each.
 fn told_of_pairs(alloc: Global, songs: &[Given], all: &[Compared]) -> Result<String, AllocError> {
-    let mut told = String::new(alloc);
-    for compared in all {
-        tell_pairs(&mut told, alloc, songs, compared)?;
+    let mut told = Told::new(alloc);
+    for (words, times, test, vocabulary, case) in all {
+        match pairs(alloc, words, *times) {
+            Ok(pairs) => {
+                let filter = Filter::of_pairs(alloc, pairs.as_slice(), *test, *vocabulary);
+                tell_found(&mut told, alloc, songs, filter, *case);
+            }
+            Err(_) => told.fail(),
+        }
+        told.add("|");
     }
-    Ok(told)
+    told.into_text()
 }
 
 const PAIRS: &[Compared] = &[
@@ -327,19 +289,16 @@ const LONG_PAIR: &[Compared] = &[(
     Case::Ignored,
 )];
 
-#[test]
-fn songs_that_meet_pairs(rt: HostRuntime) -> Result<(), Fail> {
-    let alloc = rt.alloc();
-    wants(
-        told_of_pairs(alloc, SONGS, PAIRS),
+/// Songs, the pairs that they are compared with, and what is found.
+const ALL_PAIRS: &[(&[Given], &[Compared], &str)] = &[
+    (
+        SONGS,
+        PAIRS,
         "a.wav b.wav d d/c.wav dd.wav |b.wav |b.wav |d/c.wav |unknown tag foo|unknown tag filename|",
-    )?;
-    wants(
-        told_of_pairs(alloc, SONGS, KNOWN_PAIRS),
-        "b.wav ||unknown tag Art_ist|",
-    )?;
-    wants(told_of_pairs(alloc, LONG_SONG, LONG_PAIR), "dd |")
-}
+    ),
+    (SONGS, KNOWN_PAIRS, "b.wav ||unknown tag Art_ist|"),
+    (LONG_SONG, LONG_PAIR, "dd |"),
+];
 
 /// Comparisons of the long song with a text that is repeated so many times.
 const LONG: &[(&str, &str, usize, Case)] = &[
@@ -356,28 +315,35 @@ const LONG: &[(&str, &str, usize, Case)] = &[
 ];
 
 /// Adds whether the long song meets a comparison with a text that is repeated so many times.
-fn tell_long(
-    told: &mut String,
-    alloc: Global,
-    with: &str,
-    text: String,
-    case: Case,
-) -> Result<(), AllocError> {
-    let filter = format!(in alloc; "({with} '{text}')")?;
+fn tell_long(told: &mut Told, alloc: Global, with: &str, text: &str, times: usize, case: Case) {
+    let Ok(text) = text.repeat(alloc, times) else {
+        return told.fail();
+    };
+    let Ok(filter) = format!(in alloc; "({with} '{text}')") else {
+        return told.fail();
+    };
     let filter = Filter::parse(alloc, filter.as_str(), Vocabulary::Base);
-    tell_found(told, alloc, LONG_SONG, filter, case)?;
-    told.push('|')
+    tell_found(told, alloc, LONG_SONG, filter, case);
+    told.add("|");
 }
 
 fn told_of_long(alloc: Global) -> Result<String, AllocError> {
-    let mut told = String::new(alloc);
+    let mut told = Told::new(alloc);
     for (with, text, times, case) in LONG {
-        tell_long(&mut told, alloc, with, text.repeat(alloc, *times)?, *case)?;
+        tell_long(&mut told, alloc, with, text, *times, *case);
     }
-    Ok(told)
+    told.into_text()
 }
 
 #[test]
-fn texts_of_1024_bytes(rt: HostRuntime) -> Result<(), Fail> {
-    wants(told_of_long(rt.alloc()), "dd ||dd ||dd ||dd |dd |dd |")
+fn songs_that_meet_filters(rt: HostRuntime) -> Result<(), Fail> {
+    one_answer();
+    let alloc = rt.alloc();
+    for (table, vocabulary, case) in TABLES {
+        wants(told_of(alloc, table, *vocabulary, *case), table)?;
+    }
+    for (songs, pairs, wanted) in ALL_PAIRS {
+        wants(told_of_pairs(alloc, songs, pairs), wanted)?;
+    }
+    wants(told_of_long(alloc), "dd ||dd ||dd ||dd |dd |dd |")
 }

@@ -3,7 +3,7 @@ use mpd_text::{Song, Tag, TagName};
 use song_db::{Db, SharedSong};
 use std::alloc::{AllocError, Global};
 use std::test::Fail;
-use wanted::{wants, wants_made};
+use wanted::{Told, wants, wants_made};
 
 /// Names of tags and texts.
 pub type Tags = &'static [(TagName, &'static str)];
@@ -56,15 +56,12 @@ const ALL_TAGS: Tags = &[
     (TagName::Title, "t"),
 ];
 
-/// A line for each key, of one text.
-fn all_lines(alloc: Global, text: &str) -> Result<String, AllocError> {
+/// A line for each key, of the longest text.
+fn longest_lines(alloc: Global) -> Result<String, AllocError> {
+    let text = "t".repeat(alloc, 1_024)?;
     format!(in alloc;
         "file: {text}\nTitle: {text}\nArtist: {text}\nAlbum: {text}\nDate: {text}\nGenre: {text}\nComment: {text}\n"
     )
-}
-
-fn longest_lines(alloc: Global) -> Result<String, AllocError> {
-    all_lines(alloc, "t".repeat(alloc, 1_024)?.as_str())
 }
 
 #[test]
@@ -89,69 +86,60 @@ fn songs(alloc: Global, given: &[(u64, &str)], times: usize) -> Result<Vec<Song>
     Ok(songs)
 }
 
-/// Adds the frames of the song of a URI.
-fn tell_frames(told: &mut String, db: &Db, uri: &str) -> Result<(), AllocError> {
+/// Adds the frames of the song of a URI, and the same of a handle that is shared.
+fn tell_frames(told: &mut Told, db: &Db, uri: &str) {
     match db.get(uri) {
-        Some(song) => told.write_fmt(format_args!("{} ", song.frames())),
-        None => told.push_str("none "),
+        Some(song) => told.add(format_args!("{} ", song.frames())),
+        None => told.add("none "),
     }
-}
-
-/// The same of a handle that is shared.
-fn tell_shared(told: &mut String, db: &Db, uri: &str) -> Result<(), AllocError> {
-    match db.share(uri)? {
-        Some(shared) => told.write_fmt(format_args!("{} ", shared.song().frames())),
-        None => told.push_str("none "),
+    match db.share(uri) {
+        Ok(Some(shared)) => told.add(format_args!("{} ", shared.song().frames())),
+        Ok(None) => told.add("none "),
+        Err(_) => told.fail(),
     }
 }
 
 /// Adds how many songs there are, the URIs of the first four, where there are so many, and the frames of
 /// these URIs.
-fn tell(told: &mut String, db: &Db, uris: &[&str]) -> Result<(), AllocError> {
-    told.write_fmt(format_args!("{}: ", db.len()))?;
+fn tell(told: &mut Told, db: &Db, uris: &[&str]) {
+    told.add(format_args!("{}: ", db.len()));
     for shared in db.songs().get(..4).unwrap_or(&[]) {
-        told.write_fmt(format_args!("{} ", shared.song().uri()))?;
+        told.add(format_args!("{} ", shared.song().uri()));
     }
     for uri in uris {
-        tell_frames(told, db, uri)?;
-        tell_shared(told, db, uri)?;
+        tell_frames(told, db, uri);
     }
-    told.push('\n')
+    told.add("\n");
 }
 
-/// What is told of a library, and of its image once the library is gone.
-fn told_twice(alloc: Global, db: Db, uris: &[&str]) -> Result<String, AllocError> {
-    let mut told = String::new(alloc);
-    tell(&mut told, &db, uris)?;
-    let image = db.image()?;
-    drop(db);
-    tell(&mut told, &image, uris)?;
-    Ok(told)
-}
-
-/// The same of the library of these songs, or why they are none.
-fn told_of(alloc: Global, songs: Vec<Song>, uris: &[&str]) -> Result<String, AllocError> {
+/// What is told of the library of these songs, and of its image once the library is gone; or why they are none.
+fn told_of(
+    alloc: Global,
+    songs: Result<Vec<Song>, AllocError>,
+    uris: &[&str],
+) -> Result<String, AllocError> {
+    let songs = songs?;
+    let mut told = Told::new(alloc);
     match Db::of_songs(alloc, songs) {
-        Ok(db) => told_twice(alloc, db, uris),
-        Err(fault) => format!(in alloc; "{fault:?}"),
+        Ok(db) => {
+            tell(&mut told, &db, uris);
+            let image = db.image()?;
+            drop(db);
+            tell(&mut told, &image, uris);
+        }
+        Err(fault) => told.add(format_args!("{fault:?}")),
     }
+    told.into_text()
 }
 
-fn four(alloc: Global) -> Result<String, AllocError> {
-    let given = &[
-        (8000, "b.wav"),
-        (16000, "a/z.wav"),
-        (24000, "a.wav"),
-        (4, "B.wav"),
-    ];
-    let uris = &["a.wav", "A.wav", "a.wa", "b.wav", "c.wav"];
-    told_of(alloc, songs(alloc, given, 1)?, uris)
-}
+const FOUR: &[(u64, &str)] = &[
+    (8000, "b.wav"),
+    (16000, "a/z.wav"),
+    (24000, "a.wav"),
+    (4, "B.wav"),
+];
 
-fn two_of_one_uri(alloc: Global) -> Result<String, AllocError> {
-    let given = &[(1, "a.wav"), (2, "b.wav"), (3, "a.wav")];
-    told_of(alloc, songs(alloc, given, 1)?, &[])
-}
+const TWO_OF_ONE_URI: &[(u64, &str)] = &[(1, "a.wav"), (2, "b.wav"), (3, "a.wav")];
 
 /// The longest URI has 1,024 bytes.
 fn longest_uri(alloc: Global) -> Result<String, AllocError> {
@@ -159,21 +147,9 @@ fn longest_uri(alloc: Global) -> Result<String, AllocError> {
     let shorter = longest.as_str().get(1..).unwrap_or("");
     told_of(
         alloc,
-        songs(alloc, &[(8, "u")], 1_024)?,
+        songs(alloc, &[(8, "u")], 1_024),
         &[longest.as_str(), shorter],
     )
-}
-
-#[test]
-fn libraries_and_their_images(rt: HostRuntime) -> Result<(), Fail> {
-    let alloc = rt.alloc();
-    wants(
-        four(alloc),
-        "4: B.wav a.wav a/z.wav b.wav 24000 24000 none none none none 8000 8000 none none \n\
-         4: B.wav a.wav a/z.wav b.wav 24000 24000 none none none none 8000 8000 none none \n",
-    )?;
-    wants(two_of_one_uri(alloc), "TwiceNamed")?;
-    wants(longest_uri(alloc), "1: 8 8 none none \n1: 8 8 none none \n")
 }
 
 fn add_numbered(songs: &mut Vec<Song>, alloc: Global, number: u64) -> Result<(), AllocError> {
@@ -192,24 +168,30 @@ fn numbered(alloc: Global, count: u64) -> Result<Vec<Song>, AllocError> {
     Ok(songs)
 }
 
-fn told_of_numbered(alloc: Global, count: u64) -> Result<String, AllocError> {
-    told_of(
-        alloc,
-        numbered(alloc, count)?,
-        &["000001", "100000", "100001"],
-    )
-}
+const NUMBERED_URIS: &[&str] = &["000001", "100000", "100001"];
 
+// The greatest library has 100,000 songs.
 #[test]
-fn the_greatest_library(rt: HostRuntime) -> Result<(), Fail> {
+fn libraries_and_their_images(rt: HostRuntime) -> Result<(), Fail> {
+    let alloc = rt.alloc();
+    let uris = &["a.wav", "A.wav", "a.wa", "b.wav", "c.wav"];
     wants(
-        told_of_numbered(rt.alloc(), 100_000),
+        told_of(alloc, songs(alloc, FOUR, 1), uris),
+        "4: B.wav a.wav a/z.wav b.wav 24000 24000 none none none none 8000 8000 none none \n\
+         4: B.wav a.wav a/z.wav b.wav 24000 24000 none none none none 8000 8000 none none \n",
+    )?;
+    wants(
+        told_of(alloc, songs(alloc, TWO_OF_ONE_URI, 1), &[]),
+        "TwiceNamed",
+    )?;
+    wants(longest_uri(alloc), "1: 8 8 none none \n1: 8 8 none none \n")?;
+    wants(
+        told_of(alloc, numbered(alloc, 100_000), NUMBERED_URIS),
         "100000: 000001 000002 000003 000004 1 1 100000 100000 none none \n\
          100000: 000001 000002 000003 000004 1 1 100000 100000 none none \n",
+    )?;
+    wants(
+        told_of(alloc, numbered(alloc, 100_001), NUMBERED_URIS),
+        "TooMany",
     )
-}
-
-#[test]
-fn one_song_too_many(rt: HostRuntime) -> Result<(), Fail> {
-    wants(told_of_numbered(rt.alloc(), 100_001), "TooMany")
 }

@@ -5,7 +5,7 @@ use std::alloc::{AllocError, Global};
 use std::fs;
 use std::io::Cursor;
 use std::test::Fail;
-use wanted::{wants, wants_made};
+use wanted::{Told, wants, wants_made};
 use wave::{Head, Reader, chunks_are_those_of_the_bytes, read_head};
 
 /// 24 bits, one channel, a title, and a data size past the file's end.
@@ -57,87 +57,65 @@ fn device(alloc: Global, digits: &str, point: FailurePoint) -> Result<FailAt, Al
 /// Frames from one on, and the most that are read of them.
 type Range = (u64, usize);
 
-/// Adds the frames that are read from a place on, or the fault's name.
-fn tell_frames<M: Media>(
-    told: &mut String,
-    alloc: Global,
-    reader: &mut Reader<M>,
-    range: Range,
-) -> Result<(), AllocError> {
-    match reader.frames_at(alloc, range.0, range.1) {
-        Ok(frames) => told.write_fmt(format_args!(" {frames:?}")),
-        Err(fault) => told.write_fmt(format_args!(" {fault:?}")),
+/// Adds the frames that are read of each range, or the fault's name.
+fn tell_ranges<M: Media>(told: &mut Told, alloc: Global, reader: &mut Reader<M>, ranges: &[Range]) {
+    for (place, most) in ranges {
+        match reader.frames_at(alloc, *place, *most) {
+            Ok(frames) => told.add(format_args!(" {frames:?}")),
+            Err(fault) => told.add(format_args!(" {fault:?}")),
+        }
     }
-}
-
-fn tell_ranges<M: Media>(
-    told: &mut String,
-    alloc: Global,
-    reader: &mut Reader<M>,
-    ranges: &[Range],
-) -> Result<(), AllocError> {
-    for range in ranges {
-        tell_frames(told, alloc, reader, *range)?;
-    }
-    Ok(())
 }
 
 /// Adds channels, bits and frames, and each tag after a bar.
-fn tell_head(told: &mut String, head: &Head) -> Result<(), AllocError> {
+fn tell_head(told: &mut Told, head: &Head) {
     let (channels, bits, frames) = (head.channels(), head.bits(), head.frames());
-    told.write_fmt(format_args!("{channels} {bits} {frames}"))?;
+    told.add(format_args!("{channels} {bits} {frames}"));
     for tag in head.tags() {
-        told.write_fmt(format_args!("|{} {}", tag.name().text(), tag.text()))?;
+        told.add(format_args!("|{} {}", tag.name().text(), tag.text()));
     }
-    Ok(())
 }
 
-/// Adds the head of a file and some frames.
-fn tell_read<M: Media + Drop>(
-    told: &mut String,
-    alloc: Global,
-    reader: Reader<M>,
-    ranges: &[Range],
-) -> Result<(), AllocError> {
-    let mut reader = reader;
-    tell_head(told, reader.head())?;
-    tell_ranges(told, alloc, &mut reader, ranges)
-}
-
-/// The same, or the fault's name.
+/// Adds the head of a file and some frames, or the fault's name.
 fn tell_file<M: Media + Drop>(
-    told: &mut String,
+    told: &mut Told,
     alloc: Global,
     media: M,
     rate: u32,
     ranges: &[Range],
-) -> Result<(), AllocError> {
+) {
     let mut media = media;
     match read_head(alloc, &mut media, rate) {
-        Ok(head) => tell_read(told, alloc, Reader::new(media, head), ranges),
-        Err(fault) => told.write_fmt(format_args!("{fault:?}")),
+        Ok(head) => {
+            let mut reader = Reader::new(media, head);
+            tell_head(told, reader.head());
+            tell_ranges(told, alloc, &mut reader, ranges);
+        }
+        Err(fault) => told.add(format_args!("{fault:?}")),
     }
 }
 
 /// Adds a line of a table again, with what is read of the file on its left side.
-fn tell_line(told: &mut String, alloc: Global, line: &str) -> Result<(), AllocError> {
+fn tell_line(told: &mut Told, alloc: Global, line: &str) {
     let Some((file, _)) = line.split_once(" => ") else {
-        return told.write_fmt(format_args!("{line}\n"));
+        return told.add(format_args!("{line}\n"));
     };
-    told.write_fmt(format_args!("{file} => "))?;
+    told.add(format_args!("{file} => "));
     let (rate, digits) = file.split_once(": ").unwrap_or(("", file));
-    let media = device(alloc, digits, FailurePoint::Never)?;
-    tell_file(told, alloc, media, number(rate).unwrap_or(0), &[(0, 5)])?;
-    told.push('\n')
+    match device(alloc, digits, FailurePoint::Never) {
+        Ok(media) => tell_file(told, alloc, media, number(rate).unwrap_or(0), &[(0, 5)]),
+        Err(_) => told.fail(),
+    }
+    told.add("\n");
 }
 
 /// The lines of a table again, with what is read of the files on their left sides.
 fn told_of(alloc: Global, table: &str) -> Result<String, AllocError> {
-    let mut told = String::new(alloc);
+    let mut told = Told::new(alloc);
     for line in table.lines() {
-        tell_line(&mut told, alloc, line)?;
+        tell_line(&mut told, alloc, line);
     }
-    Ok(told)
+    told.into_text()
 }
 
 /// Files, a line for each: the rate, the bytes in hexadecimal digits, and what is read of them. A line with
@@ -214,39 +192,19 @@ const REAL: &str = "# sox -D -t raw -r 8000 -e signed -b 16 -c 2 IN OUT.wav
 8000: 52494646ffffffff57415645666d74201000000001000100401f0000803e0000020010004c4953541a000000494e464f495346540e0000004c61766635392e32372e3130300064617461fffffffffbff00000700 => 1 16 3 [[-5, -5], [0, 0], [7, 7]]
 ";
 
-#[test]
-fn files(rt: HostRuntime) -> Result<(), Fail> {
-    chunks_are_those_of_the_bytes();
-    wants(told_of(rt.alloc(), FILES), FILES)?;
-    wants(told_of(rt.alloc(), REAL), REAL)
-}
-
-/// Adds what is read of the first file on a device in memory.
-fn tell_first(told: &mut String, alloc: Global) -> Result<(), AllocError> {
-    let media = device(alloc, FIRST, FailurePoint::Never)?;
-    tell_file(told, alloc, media, 8_000, RANGES)
-}
-
-/// The same on a device of unknown bytes.
-fn tell_unknown(told: &mut String, alloc: Global) -> Result<(), AllocError> {
-    let media = Counting::new(Cursor::new(bytes(alloc, FIRST)?));
-    tell_file(told, alloc, media, 8_000, &[(0, 5)])
-}
-
-/// The same on a device whose first call would block.
-fn tell_blocked(told: &mut String, alloc: Global) -> Result<(), AllocError> {
-    let media = FailAt::would_block(bytes(alloc, FIRST)?, FailurePoint::Call(1));
-    tell_file(told, alloc, media, 8_000, &[(0, 5)])
-}
-
+/// What is read of the first file on a device in memory, on one of unknown bytes, and on one whose first call
+/// would block.
 fn devices_told(alloc: Global) -> Result<String, AllocError> {
-    let mut told = String::new(alloc);
-    tell_first(&mut told, alloc)?;
-    told.push('\n')?;
-    tell_unknown(&mut told, alloc)?;
-    told.push('\n')?;
-    tell_blocked(&mut told, alloc)?;
-    Ok(told)
+    let mut told = Told::new(alloc);
+    let in_memory = device(alloc, FIRST, FailurePoint::Never)?;
+    tell_file(&mut told, alloc, in_memory, 8_000, RANGES);
+    told.add("\n");
+    let unknown = Counting::new(Cursor::new(bytes(alloc, FIRST)?));
+    tell_file(&mut told, alloc, unknown, 8_000, &[(0, 5)]);
+    told.add("\n");
+    let blocked = FailAt::would_block(bytes(alloc, FIRST)?, FailurePoint::Call(1));
+    tell_file(&mut told, alloc, blocked, 8_000, &[(0, 5)]);
+    told.into_text()
 }
 
 const RANGES: &[Range] = &[
@@ -261,34 +219,37 @@ const RANGES: &[Range] = &[
 
 const HIGH: &str = "1 24 2|Title Hi [[1, 1], [-1, -1]]";
 
+// The last device is a file on the disk.
 #[test]
-fn devices(rt: HostRuntime) -> Result<(), Fail> {
+fn files_and_devices(rt: HostRuntime) -> Result<(), Fail> {
+    chunks_are_those_of_the_bytes();
+    wants(told_of(rt.alloc(), FILES), FILES)?;
+    wants(told_of(rt.alloc(), REAL), REAL)?;
     wants(
         devices_told(rt.alloc()),
         "1 24 2|Title Hi [[1, 1]] [[-1, -1]] [[-1, -1]] [] [] [[1, 1], [-1, -1]] []\n\
          1 24 2|Title Hi [[1, 1], [-1, -1]]\nReadFault",
-    )
-}
-
-#[test]
-fn a_file(rt: HostRuntime) -> Result<(), Fail> {
+    )?;
     let name = "wave_of_this_test.wav";
     let bytes = bytes(rt.alloc(), FIRST).expect(&rt, "no memory");
     fs::write(&rt, name, bytes.as_slice()).expect(&rt, "no file");
     let media = Counting::new(fs::open(&rt, name).expect(&rt, "no file"));
-    let mut told = String::new(rt.alloc());
-    tell_file(&mut told, rt.alloc(), media, 8_000, &[(0, 5)]).expect(&rt, "no memory");
+    let mut told = Told::new(rt.alloc());
+    tell_file(&mut told, rt.alloc(), media, 8_000, &[(0, 5)]);
     fs::remove_file(&rt, name).expect(&rt, "no file");
-    wants(Ok::<String, AllocError>(told), HIGH)
+    wants(told.into_text(), HIGH)
 }
 
-/// Adds to digits each of some others, so many times.
+/// Digits that are each of some others, so many times.
 fn digits(alloc: Global, parts: &[(&str, usize)]) -> Result<String, AllocError> {
-    let mut digits = String::new(alloc);
+    let mut digits = Told::new(alloc);
     for (part, times) in parts {
-        digits.push_str(part.repeat(alloc, *times)?.as_str())?;
+        match part.repeat(alloc, *times) {
+            Ok(part) => digits.add(part.as_str()),
+            Err(_) => digits.fail(),
+        }
     }
-    Ok(digits)
+    digits.into_text()
 }
 
 /// Where the samples of a file begin, how long a frame is, how many frames and tags there are, and how many
@@ -323,15 +284,6 @@ const TOO_LONG_TEXT: &[(&str, usize)] = &[
     ("61", 1_025),
     ("00 64617461 06000000 000100 ffffff", 1),
 ];
-
-// The calls are the file's size, and a seek and a read for each of eleven: the first twelve bytes, three
-// headers and the format for the samples, three headers, the list's kind, an item's header and its text for
-// the tags.
-#[test]
-fn places_and_calls(rt: HostRuntime) -> Result<(), Fail> {
-    wants(places_told(rt.alloc(), LONGEST_TEXT), "1088 3 2 1 23")?;
-    wants(places_told(rt.alloc(), TOO_LONG_TEXT), "1090 3 2 0 23")
-}
 
 /// How many frames a file has; of a block of 1,024, how many calls its reading took, and whether its samples
 /// are all 1 and -1.
@@ -374,49 +326,43 @@ const HIGHEST: &str =
     "52494646 00000000 57415645 666d7420 10000000 0100 0200 00ee0200 00941100 0600 1800
     64617461 e02e0000";
 
-// The calls are one seek and one read.
-#[test]
-fn a_block_at_the_lowest_and_highest_rate(rt: HostRuntime) -> Result<(), Fail> {
-    let alloc = rt.alloc();
-    wants(block_of_file_told(alloc, LOWEST, 8_000), "2000 2 true")?;
-    wants(block_of_file_told(alloc, HIGHEST, 192_000), "2000 2 true")
-}
-
-/// Adds what is read twice of the frames, and how many calls failed.
-fn tell_reader(told: &mut String, alloc: Global, reader: Reader<FailAt>) -> Result<(), AllocError> {
-    let mut reader = reader;
-    tell_ranges(told, alloc, &mut reader, &[(0, 2), (0, 2)])?;
-    told.write_fmt(format_args!(" {}\n", reader.media().failures()))
-}
-
-/// The same of the file with the longest text where a call fails, or the fault of its head.
-fn tell_failing(
-    told: &mut String,
-    alloc: Global,
-    digits: &str,
-    call: u64,
-) -> Result<(), AllocError> {
-    let mut media = device(alloc, digits, FailurePoint::Call(call))?;
+/// Adds what is read twice of the frames of a file where a call fails, or the fault of its head, and how many
+/// calls failed.
+fn tell_failing(told: &mut Told, alloc: Global, digits: &str, call: u64) {
+    let Ok(mut media) = device(alloc, digits, FailurePoint::Call(call)) else {
+        return told.fail();
+    };
     match read_head(alloc, &mut media, 8_000) {
-        Ok(head) => tell_reader(told, alloc, Reader::new(media, head)),
-        Err(fault) => told.write_fmt(format_args!("{fault:?} {}\n", media.failures())),
+        Ok(head) => {
+            let mut reader = Reader::new(media, head);
+            tell_ranges(told, alloc, &mut reader, &[(0, 2), (0, 2)]);
+            told.add(format_args!(" {}\n", reader.media().failures()));
+        }
+        Err(fault) => told.add(format_args!("{fault:?} {}\n", media.failures())),
     }
 }
 
-/// The same for each of some calls.
+/// The same of the file with the longest text, for each of some calls.
 fn failing_told(alloc: Global, first: u64, last: u64) -> Result<String, AllocError> {
     let digits = digits(alloc, LONGEST_TEXT)?;
-    let mut told = String::new(alloc);
+    let mut told = Told::new(alloc);
     for call in first..=last {
-        tell_failing(&mut told, alloc, digits.as_str(), call)?;
+        tell_failing(&mut told, alloc, digits.as_str(), call);
     }
-    Ok(told)
+    told.into_text()
 }
 
-// The head takes 23 calls, as above, and the frames a seek and a read.
+// The calls of a head are the file's size, and a seek and a read for each of eleven: the first twelve bytes,
+// three headers and the format for the samples, three headers, the list's kind, an item's header and its text
+// for the tags. Those of frames, at the lowest and the highest rate, are one seek and one read. Then each call
+// fails in turn: the 23 of the head, and the two of the frames.
 #[test]
-fn each_call_fails_in_turn(rt: HostRuntime) -> Result<(), Fail> {
+fn places_and_calls(rt: HostRuntime) -> Result<(), Fail> {
     let alloc = rt.alloc();
+    wants(places_told(alloc, LONGEST_TEXT), "1088 3 2 1 23")?;
+    wants(places_told(alloc, TOO_LONG_TEXT), "1090 3 2 0 23")?;
+    wants(block_of_file_told(alloc, LOWEST, 8_000), "2000 2 true")?;
+    wants(block_of_file_told(alloc, HIGHEST, 192_000), "2000 2 true")?;
     wants_made(
         failing_told(alloc, 1, 23),
         "ReadFault 1\n".repeat(alloc, 23),

@@ -1,6 +1,6 @@
 //! Tests of the order of play and of the player.
 //!
-//! A test gives one text of steps and wants one text, so that it is cheap to prove: see player_tests.
+//! A test gives texts of steps and wants a text of each, so that it is cheap to prove: see player_tests.
 #![tactic(auto)]
 
 #[cfg(test)]

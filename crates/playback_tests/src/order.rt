@@ -1,9 +1,10 @@
 //! Worked rows of the order of play. The ids that random orders give are those of `rand_pcg` in Rust, seeded
 //! with 0.
-use crate::course::{count_in_random_order, told};
+use crate::course::told;
 use std::test::Fail;
 use wanted::wants;
 
+/// A random order has each song once.
 const RANDOM: &str = "add 1
 add 1
 add 1
@@ -55,11 +56,7 @@ next 3
 none, current none, single off, consume off, 5 left
 ";
 
-#[test]
-fn a_random_order_has_each_song_once(rt: HostRuntime) -> Result<(), Fail> {
-    wants(told(rt.alloc(), RANDOM), RANDOM_TELLS)
-}
-
+/// Two songs in random order.
 const TWO: &str = "add 1
 add 1
 random-at 1
@@ -101,11 +98,7 @@ open
 2
 ";
 
-#[test]
-fn two_songs_in_random_order(rt: HostRuntime) -> Result<(), Fail> {
-    wants(told(rt.alloc(), TWO), TWO_TELL)
-}
-
+/// A deletion renews a round.
 const RENEWED: &str = "add 2
 random
 modes 1 1 0 0
@@ -123,11 +116,7 @@ delete-current 1 2
 none
 ";
 
-#[test]
-fn a_deletion_renews_a_round(rt: HostRuntime) -> Result<(), Fail> {
-    wants(told(rt.alloc(), RENEWED), RENEWED_TELL)
-}
-
+/// The next song in each mode.
 const IN_EACH_MODE: &str = "add 2
 peek 2
 modes 1 0 0 0
@@ -166,11 +155,7 @@ end 2
 none, current none, single off, consume on, 0 left
 ";
 
-#[test]
-fn the_next_song_in_each_mode(rt: HostRuntime) -> Result<(), Fail> {
-    wants(told(rt.alloc(), IN_EACH_MODE), IN_EACH_MODE_TELLS)
-}
-
+/// The greatest priority comes first, and is consumed.
 const BY_PRIORITY: &str = "add 3
 prio 5 0
 prio 9 1
@@ -198,11 +183,7 @@ delete 2 1
 bad index
 ";
 
-#[test]
-fn the_greatest_priority_first_and_consumed(rt: HostRuntime) -> Result<(), Fail> {
-    wants(told(rt.alloc(), BY_PRIORITY), BY_PRIORITY_TELLS)
-}
-
+/// `single` and `consume` at an end.
 const AT_AN_END: &str = "add 3
 modes 1 0 1 0
 end 2
@@ -223,11 +204,7 @@ next 1
 3, current none, single oneshot, consume off, 2 left
 ";
 
-#[test]
-fn single_and_consume_at_an_end(rt: HostRuntime) -> Result<(), Fail> {
-    wants(told(rt.alloc(), AT_AN_END), AT_AN_END_TELLS)
-}
-
+/// Shuffles of a range.
 const SHUFFLES: &str = "add 5
 shuffle 5 5
 shuffle 3 4
@@ -242,15 +219,7 @@ ids
  1 4 2 3 5
 ";
 
-#[test]
-fn a_shuffle_of_a_range(rt: HostRuntime) -> Result<(), Fail> {
-    wants(told(rt.alloc(), SHUFFLES), SHUFFLES_TELL)?;
-    wants(
-        told(rt.alloc(), "add 5\nshuffle 0 5\nids"),
-        "ids\n 4 1 2 3 5\n",
-    )
-}
-
+/// A copy of a queue.
 const COPY: &str = "add 3
 prio 5 1
 keep
@@ -275,11 +244,6 @@ version 4, parity true, changed 1 3, ids 1 2 3 4
 queue 2
 version 4, parity true, changed 1 3 4, ids 1 2 3 4 5
 ";
-
-#[test]
-fn a_copy_of_a_queue(rt: HostRuntime) -> Result<(), Fail> {
-    wants(told(rt.alloc(), COPY), COPY_TELLS)
-}
 
 /// The order of `RANDOM`, whose second half is asked of an image when its source has lost all songs.
 const IMAGE: &str = "add 5
@@ -329,11 +293,7 @@ next 3
 none, current none, single off, consume off, 5 left
 ";
 
-#[test]
-fn an_image_of_a_round_stays(rt: HostRuntime) -> Result<(), Fail> {
-    wants(told(rt.alloc(), IMAGE), IMAGE_TELLS)
-}
-
+/// An image of a full round.
 const FULL_IMAGE: &str = "add 16384
 random
 open
@@ -357,16 +317,31 @@ add 1
 full
 ";
 
-#[test]
-fn an_image_of_a_full_round(rt: HostRuntime) -> Result<(), Fail> {
-    wants(told(rt.alloc(), FULL_IMAGE), FULL_IMAGE_TELLS)
-}
-
 /// So many as the queue takes are tried by the benchmark, since each `next` there goes over them all.
+const EACH_OF_A_THOUSAND_ONCE: &str = "add 1000
+random
+count 1000";
+
+/// Steps, and what they tell.
+const ROWS: &[(&str, &str)] = &[
+    (RANDOM, RANDOM_TELLS),
+    (TWO, TWO_TELL),
+    (RENEWED, RENEWED_TELL),
+    (IN_EACH_MODE, IN_EACH_MODE_TELLS),
+    (BY_PRIORITY, BY_PRIORITY_TELLS),
+    (AT_AN_END, AT_AN_END_TELLS),
+    (SHUFFLES, SHUFFLES_TELL),
+    ("add 5\nshuffle 0 5\nids", "ids\n 4 1 2 3 5\n"),
+    (COPY, COPY_TELLS),
+    (IMAGE, IMAGE_TELLS),
+    (FULL_IMAGE, FULL_IMAGE_TELLS),
+    (EACH_OF_A_THOUSAND_ONCE, "count 1000\n1000\n"),
+];
+
 #[test]
-fn each_of_a_thousand_once(rt: HostRuntime) {
-    match count_in_random_order(rt.alloc(), 1000) {
-        Ok(count) => assert_eq!(rt; count, 1000),
-        Err(_) => panic!(rt; "no memory"),
+fn orders_of_play(rt: HostRuntime) -> Result<(), Fail> {
+    for (steps, tells) in ROWS.iter() {
+        wants(told(rt.alloc(), steps), tells)?;
     }
+    Ok(())
 }

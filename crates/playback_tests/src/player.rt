@@ -6,6 +6,7 @@ use wanted::wants;
 
 const MANY: u32 = 4294967295;
 
+/// A job is accepted once.
 const JOBS: &str = "add b
 play
 want
@@ -35,11 +36,7 @@ none
 pause 1 at 13024, 1 starts, 2 cuts, next 0, 1 entries, no error
 ";
 
-#[test]
-fn a_job_is_accepted_once(rt: HostRuntime) -> Result<(), Fail> {
-    wants(told(rt.alloc(), MANY, JOBS), JOBS_TELL)
-}
-
+/// `single` repeats, or stops once.
 const SINGLE: &str = "add s
 add t
 repeat 1
@@ -61,11 +58,7 @@ feed 1
 stop 1 at 4, 2 starts, 1 cuts, next 2, 2 entries, no error
 ";
 
-#[test]
-fn single_repeats_or_stops_once(rt: HostRuntime) -> Result<(), Fail> {
-    wants(told(rt.alloc(), MANY, SINGLE), SINGLE_TELLS)
-}
-
+/// A failure stops with a text.
 const FAILURE: &str = "add a
 add b
 play 0
@@ -87,11 +80,7 @@ stop 2 at 0, 3 starts, 4 cuts, next 1, 2 entries, Failed to decode b.wav
 stop 2 at 0, 3 starts, 4 cuts, next 1, 2 entries, no error
 ";
 
-#[test]
-fn a_failure_stops_with_a_text(rt: HostRuntime) -> Result<(), Fail> {
-    wants(told(rt.alloc(), MANY, FAILURE), FAILURE_TELLS)
-}
-
+/// The greatest number of cuts.
 const LIMIT: &str = "add a
 play
 play 0
@@ -107,11 +96,7 @@ job 1 1 0 1024
 limit
 ";
 
-#[test]
-fn the_greatest_number_of_cuts(rt: HostRuntime) -> Result<(), Fail> {
-    wants(told(rt.alloc(), 1, LIMIT), LIMIT_TELLS)
-}
-
+/// Deletions of the current song.
 const DELETIONS: &str = "add a
 add b
 add c
@@ -137,11 +122,6 @@ stop 1 at 0, 3 starts, 5 cuts, next 0, 1 entries, no error
 bad index
 stop 0 at 0, 3 starts, 5 cuts, next 0, 0 entries, no error
 ";
-
-#[test]
-fn deletions_of_the_current_song(rt: HostRuntime) -> Result<(), Fail> {
-    wants(told(rt.alloc(), MANY, DELETIONS), DELETIONS_TELL)
-}
 
 const FADES: &str = "crossfade 1
 add c
@@ -179,11 +159,7 @@ job 6 3 0 4 fade 2 0 4
 job 7 3 0 4
 ";
 
-#[test]
-fn fades(rt: HostRuntime) -> Result<(), Fail> {
-    wants(told(rt.alloc(), MANY, FADES), FADES_TELL)
-}
-
+/// `consume` once, and in each order.
 const ORDERS: &str = "random 1
 add a
 add b
@@ -212,11 +188,7 @@ play 4 at 0, 4 starts, 4 cuts, next 0, 1 entries, no error
 stop 0 at 0, 4 starts, 5 cuts, next 0, 1 entries, no error
 ";
 
-#[test]
-fn consume_once_and_in_each_order(rt: HostRuntime) -> Result<(), Fail> {
-    wants(told(rt.alloc(), MANY, ORDERS), ORDERS_TELL)
-}
-
+/// An image of a player that failed stays.
 const FAILED_IMAGE: &str = "add a
 add b
 play 1
@@ -246,6 +218,7 @@ feed 3
 play 1 at 1024, 2 starts, 3 cuts, next 2, 2 entries, no error
 ";
 
+/// An image of a player within a fade stays.
 const FADING_IMAGE: &str = "crossfade 1
 add c
 add a
@@ -269,8 +242,23 @@ feed 2
 job 3 1 17024 1024 fade 2 1024 8000
 ";
 
+/// The greatest number of cuts, steps, and what they tell.
+const ROWS: &[(u32, &str, &str)] = &[
+    (MANY, JOBS, JOBS_TELL),
+    (MANY, SINGLE, SINGLE_TELLS),
+    (MANY, FAILURE, FAILURE_TELLS),
+    (1, LIMIT, LIMIT_TELLS),
+    (MANY, DELETIONS, DELETIONS_TELL),
+    (MANY, FADES, FADES_TELL),
+    (MANY, ORDERS, ORDERS_TELL),
+    (MANY, FAILED_IMAGE, FAILED_IMAGE_TELLS),
+    (MANY, FADING_IMAGE, FADING_IMAGE_TELLS),
+];
+
 #[test]
-fn an_image_of_a_player_stays(rt: HostRuntime) -> Result<(), Fail> {
-    wants(told(rt.alloc(), MANY, FAILED_IMAGE), FAILED_IMAGE_TELLS)?;
-    wants(told(rt.alloc(), MANY, FADING_IMAGE), FADING_IMAGE_TELLS)
+fn players(rt: HostRuntime) -> Result<(), Fail> {
+    for (max_cut, steps, tells) in ROWS.iter() {
+        wants(told(rt.alloc(), *max_cut, steps), tells)?;
+    }
+    Ok(())
 }

@@ -2,14 +2,12 @@
 //!
 //! A step is a line, of a word and numbers, and tells what is answered. These functions are the only ones
 //! that hold a player.
-use crate::tables::{first_word, number_of, push_line};
-use mpd_text::{Sequence, Song};
-use play_order::{Consume, Single};
+use crate::tables::{consume_of, first_word, number_of, single_of, songs, two_numbers};
 use player_core::{Job, Playback, Player, PlayerFault};
-use song_db::SharedSong;
 use song_queue::Queue;
 use std::alloc::{AllocError, Global};
 use std::mem;
+use wanted::Told;
 
 /// Frames a second.
 const RATE: u32 = 8000;
@@ -28,31 +26,21 @@ fn image(seat: &Seat) -> Result<Seat, AllocError> {
     })
 }
 
-/// The song of a letter: `a`, `b` and `c` are of one, two and three seconds, others of four frames.
-fn lettered(alloc: Global, letter: &str) -> Result<Song, AllocError> {
-    let frames = match letter {
-        "a" => 8000,
-        "b" => 16000,
-        "c" => 24000,
-        _ => 4,
+/// Puts the song of a letter at the end. That there was no memory for it is kept.
+fn add(told: &mut Told, seat: &mut Seat, alloc: Global, letter: &str) -> &'static str {
+    let Ok(songs) = songs(alloc, letter, 1) else {
+        told.fail();
+        return "no songs";
     };
-    match Song::new(format!(in alloc; "{letter}.wav")?, Vec::new(alloc), frames) {
-        Some(song) => Ok(song),
-        None => Err(AllocError),
-    }
-}
-
-/// Puts the song of a letter at the end.
-fn add(seat: &mut Seat, alloc: Global, letter: &str) -> Result<&'static str, AllocError> {
-    let mut songs = Sequence::new(alloc);
-    songs.push(SharedSong::new(alloc, lettered(alloc, letter)?)?)?;
     let count = songs.items().len();
     if !seat.queue.has_room(count) || !seat.queue.has_ids(count) {
-        return Ok("full");
+        return "full";
     }
     let at = seat.queue.len();
-    seat.player.insert(&mut seat.queue, at, songs)?;
-    Ok("ok")
+    if seat.player.insert(&mut seat.queue, at, songs).is_err() {
+        told.fail();
+    }
+    "ok"
 }
 
 fn word(answer: Result<(), PlayerFault>) -> &'static str {
@@ -95,25 +83,9 @@ fn random(seat: &mut Seat, on: bool) -> &'static str {
     }
 }
 
-fn single_of(number: u32) -> Single {
-    match number {
-        0 => Single::Off,
-        1 => Single::On,
-        _ => Single::Oneshot,
-    }
-}
-
-fn consume_of(number: u32) -> Consume {
-    match number {
-        0 => Consume::Off,
-        1 => Consume::On,
-        _ => Consume::Oneshot,
-    }
-}
-
-/// What only sets something; whether the word is one of these.
-fn set(player: &mut Player, word: &str, number: u32) -> bool {
-    match word {
+/// What only sets something.
+fn set(player: &mut Player, word_of: &str, number: u32) -> &'static str {
+    match word_of {
         "repeat" => player.set_repeat(number == 1),
         "single" => player.set_single(single_of(number)),
         "consume" => player.set_consume(consume_of(number)),
@@ -121,45 +93,63 @@ fn set(player: &mut Player, word: &str, number: u32) -> bool {
         "pause" => player.pause(number == 1),
         "toggle" => player.toggle_pause(),
         "clearerror" => player.clear_error(),
-        _ => return false,
+        _ => return "no such step",
     }
-    true
+    "ok"
 }
 
-/// Number, id, first frame and count of a job, and its part of a fade.
-fn job_text(alloc: Global, job: Job) -> Result<String, AllocError> {
-    let Job {
-        number,
-        id,
-        from,
-        count,
-        fade,
-    } = job;
-    match fade {
-        Some(part) => {
-            let (partner, index, len) = (part.partner, part.index, part.len);
-            format!(in alloc; "job {number} {id} {from} {count} fade {partner} {index} {len}")
+/// What is answered to a step that moves, adds, takes out or sets something.
+fn answer(
+    told: &mut Told,
+    seat: &mut Seat,
+    alloc: Global,
+    word_of: &str,
+    given: &str,
+) -> &'static str {
+    let (first, second) = two_numbers(given);
+    match word_of {
+        "add" => add(told, seat, alloc, given),
+        "play" => play(seat, given),
+        "stop" => word(seat.player.stop()),
+        "next" => word(seat.player.next(&mut seat.queue)),
+        "previous" => word(seat.player.previous(&seat.queue)),
+        "seek" => seek(seat, first, second),
+        "delete" => remove(seat, first as usize, second as usize),
+        "random" => random(seat, first == 1),
+        "failed" => {
+            let partner = second == 1;
+            word(seat.player.failed(&seat.queue, u64::from(first), partner))
         }
-        None => format!(in alloc; "job {number} {id} {from} {count}"),
+        _ => set(&mut seat.player, word_of, first),
     }
 }
 
-fn want(seat: &mut Seat, alloc: Global, enabled: bool, owes: bool) -> Result<String, AllocError> {
+/// Adds number, id, first frame and count of a job, and its part of a fade.
+fn add_job(told: &mut Told, job: Job) {
+    let (number, id, from, count) = (job.number, job.id, job.from, job.count);
+    told.add(format_args!("job {number} {id} {from} {count}"));
+    if let Some(part) = job.fade {
+        let (partner, index, len) = (part.partner, part.index, part.len);
+        told.add(format_args!(" fade {partner} {index} {len}"));
+    }
+}
+
+fn want(told: &mut Told, seat: &mut Seat, enabled: bool, owes: bool) {
     match seat.player.want(RATE, &mut seat.queue, enabled, owes) {
-        Ok(Some(job)) => job_text(alloc, job),
-        Ok(None) => String::from_str(alloc, "none"),
-        Err(fault) => String::from_str(alloc, word(Err(fault))),
+        Ok(Some(job)) => add_job(told, job),
+        Ok(None) => told.add("none"),
+        Err(fault) => told.add(word(Err(fault))),
     }
 }
 
-fn have(seat: &mut Seat, alloc: Global, number: u32, count: u32) -> Result<String, AllocError> {
+fn have(told: &mut Told, seat: &mut Seat, number: u32, count: u32) {
     match seat
         .player
         .have(&mut seat.queue, u64::from(number), u64::from(count))
     {
-        Ok(Some(cut)) => format!(in alloc; "feed {cut}"),
-        Ok(None) => String::from_str(alloc, "stale"),
-        Err(fault) => String::from_str(alloc, word(Err(fault))),
+        Ok(Some(cut)) => told.add(format_args!("feed {cut}")),
+        Ok(None) => told.add("stale"),
+        Err(fault) => told.add(word(Err(fault))),
     }
 }
 
@@ -171,106 +161,60 @@ fn playback_text(playback: Playback) -> &'static str {
     }
 }
 
-/// An id, or 0 for none.
-fn id_of(id: Option<u32>) -> u32 {
-    id.unwrap_or(0)
+/// The id of what would come next, or 0 for none.
+fn next_id(seat: &Seat) -> u32 {
+    match seat.player.peek(&seat.queue) {
+        Some(entry) => entry.id,
+        None => 0,
+    }
 }
 
-/// State, current song, place, starts, cuts, what would come next, how many entries, and the error.
-fn shown(seat: &Seat, alloc: Global) -> Result<String, AllocError> {
+/// Adds state, current song, or 0 for none, place, starts, cuts, what would come next, how many entries, and the
+/// error.
+fn show(told: &mut Told, seat: &Seat) {
     let state = playback_text(seat.player.playback());
-    let current = id_of(seat.player.current());
+    let current = seat.player.current().unwrap_or(0);
     let place = seat.player.place();
     let starts = seat.player.starts();
     let cuts = seat.player.cuts();
-    let next = id_of(seat.player.peek(&seat.queue).map(|entry| entry.id));
+    let next = next_id(seat);
     let len = seat.queue.len();
     let error = seat.player.error().unwrap_or("no error");
-    format!(in alloc;
+    told.add(format_args!(
         "{state} {current} at {place}, {starts} starts, {cuts} cuts, next {next}, {len} entries, {error}"
-    )
+    ));
 }
 
-/// What the player does of itself, by its word.
-fn lead(seat: &mut Seat, word_of: &str) -> Option<Result<(), PlayerFault>> {
-    match word_of {
-        "stop" => Some(seat.player.stop()),
-        "next" => Some(seat.player.next(&mut seat.queue)),
-        "previous" => Some(seat.player.previous(&seat.queue)),
-        _ => None,
-    }
-}
-
-/// What the player does with numbers.
-fn place(seat: &mut Seat, word_of: &str, first: u32, second: u32) -> &'static str {
-    if word_of == "seek" {
-        seek(seat, first, second)
-    } else if word_of == "delete" {
-        remove(seat, first as usize, second as usize)
-    } else if word_of == "random" {
-        random(seat, first == 1)
-    } else {
-        word(
-            seat.player
-                .failed(&seat.queue, u64::from(first), second == 1),
-        )
-    }
-}
-
-/// What a step answers that is no number.
-fn answer(
-    seat: &mut Seat,
-    alloc: Global,
-    word_of: &str,
-    given: &str,
-) -> Result<&'static str, AllocError> {
-    if word_of == "add" {
-        return add(seat, alloc, given);
-    }
-    if word_of == "play" {
-        return Ok(play(seat, given));
-    }
-    if let Some(done) = lead(seat, word_of) {
-        return Ok(word(done));
-    }
-    let (first, second) = first_word(given);
-    let (first, second) = (number_of(first), number_of(second));
-    if set(&mut seat.player, word_of, first) {
-        return Ok("ok");
-    }
-    Ok(place(seat, word_of, first, second))
-}
-
-/// What a step tells.
-fn step(seat: &mut Seat, alloc: Global, line: &str) -> Result<String, AllocError> {
+/// Adds what a step tells, on a line, where that is more than `ok`.
+fn step(told: &mut Told, seat: &mut Seat, alloc: Global, line: &str) {
     let (word_of, given) = first_word(line);
-    let (first, second) = first_word(given);
-    let (first, second) = (number_of(first), number_of(second));
-    if word_of == "show" {
-        shown(seat, alloc)
-    } else if word_of == "want" {
-        want(seat, alloc, first == 0, second == 1)
-    } else if word_of == "have" {
-        have(seat, alloc, first, second)
-    } else {
-        String::from_str(alloc, answer(seat, alloc, word_of, given)?)
+    let (first, second) = two_numbers(given);
+    match word_of {
+        "show" => show(told, seat),
+        "want" => want(told, seat, first == 0, second == 1),
+        "have" => have(told, seat, first, second),
+        _ => {
+            let answer = answer(told, seat, alloc, word_of, given);
+            if answer == "ok" {
+                return;
+            }
+            told.add(answer);
+        }
     }
+    told.add("\n");
 }
 
-/// What a step tells, which may be `keep`, that takes an image, or `back`, at which a seat and its image
-/// change places.
-fn step_of_two(
-    seat: &mut Seat,
-    kept: &mut Seat,
-    alloc: Global,
-    line: &str,
-) -> Result<String, AllocError> {
+/// The same of a step that may be `keep`, that takes an image, or `back`, at which a seat and its image change
+/// places.
+fn step_of_two(told: &mut Told, seat: &mut Seat, kept: &mut Seat, alloc: Global, line: &str) {
     match line {
-        "keep" => *kept = image(seat)?,
+        "keep" => match image(seat) {
+            Ok(image) => *kept = image,
+            Err(_) => told.fail(),
+        },
         "back" => mem::swap(seat, kept),
-        _ => return step(seat, alloc, line),
+        _ => step(told, seat, alloc, line),
     }
-    String::from_str(alloc, "ok")
 }
 
 /// What the steps tell, with a line for each that tells more than `ok`. The player's numbers go up to a
@@ -281,23 +225,9 @@ pub fn told(alloc: Global, max_cut: u32, steps: &str) -> Result<String, AllocErr
         queue: Queue::new(alloc, 16384, 2147483647, 2147483647),
     };
     let mut kept = image(&seat)?;
-    told_of_two(&mut seat, &mut kept, alloc, steps)
-}
-
-/// The same of a seat and of the image that `keep` takes. It owns none of them, since each of its ways out
-/// would let them go.
-fn told_of_two(
-    seat: &mut Seat,
-    kept: &mut Seat,
-    alloc: Global,
-    steps: &str,
-) -> Result<String, AllocError> {
-    let mut all = String::new(alloc);
+    let mut told = Told::new(alloc);
     for line in steps.lines() {
-        let text = step_of_two(seat, kept, alloc, line)?;
-        if text.as_str() != "ok" {
-            push_line(&mut all, text.as_str())?;
-        }
+        step_of_two(&mut told, &mut seat, &mut kept, alloc, line);
     }
-    Ok(all)
+    told.into_text()
 }

@@ -5,10 +5,9 @@ use mpd_command::{
     Command, CommandSet, OptionCommand, OutputCommand, PlaybackCommand, QueueCommand, Request,
     StatusCommand,
 };
-use queue_tests::steps::push_line;
 use std::alloc::{AllocError, Global};
 use std::test::Fail;
-use wanted::wants;
+use wanted::{Told, wants};
 
 /// A command that has no argument.
 fn bare(command: &Command) -> &'static str {
@@ -23,67 +22,67 @@ fn bare(command: &Command) -> &'static str {
     }
 }
 
-/// A command of the options, or one that has no argument.
-fn option(alloc: Global, command: &Command) -> Result<String, AllocError> {
+/// Adds a command of an output or of the options, or one that has no argument.
+fn add_option(told: &mut Told, command: &Command) {
     match command {
-        Command::Options(OptionCommand::Consume(mode)) => format!(in alloc; "Consume({mode:?})"),
-        Command::Options(OptionCommand::Random(on)) => format!(in alloc; "Random({on})"),
-        Command::Options(OptionCommand::Single(mode)) => format!(in alloc; "Single({mode:?})"),
-        Command::Queue(QueueCommand::Shuffle(range)) => format!(in alloc; "Shuffle({range:?})"),
-        _ => String::from_str(alloc, bare(command)),
+        Command::Outputs(OutputCommand::DisableOutput(output)) => {
+            told.add(format_args!("DisableOutput({output})"));
+        }
+        Command::Outputs(OutputCommand::EnableOutput(output)) => {
+            told.add(format_args!("EnableOutput({output})"));
+        }
+        Command::Outputs(OutputCommand::ToggleOutput(output)) => {
+            told.add(format_args!("ToggleOutput({output})"));
+        }
+        Command::Options(OptionCommand::Consume(mode)) => {
+            told.add(format_args!("Consume({mode:?})"));
+        }
+        Command::Options(OptionCommand::Random(on)) => told.add(format_args!("Random({on})")),
+        Command::Options(OptionCommand::Single(mode)) => told.add(format_args!("Single({mode:?})")),
+        Command::Queue(QueueCommand::Shuffle(range)) => told.add(format_args!(
+            "Shuffle({range:?})"
+        )),
+        _ => told.add(bare(command)),
     }
 }
 
-/// A command of an output, or what is none of the playback.
-fn output(alloc: Global, command: &Command) -> Result<String, AllocError> {
+/// Adds a command with its values.
+fn add_command(told: &mut Told, command: &Command) {
     match command {
-        Command::Outputs(OutputCommand::DisableOutput(output)) => format!(in alloc;
-            "DisableOutput({output})"
-        ),
-        Command::Outputs(OutputCommand::EnableOutput(output)) => format!(in alloc;
-            "EnableOutput({output})"
-        ),
-        Command::Outputs(OutputCommand::ToggleOutput(output)) => format!(in alloc;
-            "ToggleOutput({output})"
-        ),
-        _ => option(alloc, command),
+        Command::Playback(PlaybackCommand::Pause(on)) => told.add(format_args!("Pause({on:?})")),
+        Command::Playback(PlaybackCommand::Play(place)) => told.add(format_args!(
+            "Play({place:?})"
+        )),
+        Command::Playback(PlaybackCommand::PlayId(id)) => told.add(format_args!("PlayId({id:?})")),
+        Command::Playback(PlaybackCommand::Seek(place, time)) => {
+            told.add(format_args!("Seek({place}, {})", time.0));
+        }
+        Command::Playback(PlaybackCommand::SeekId(id, time)) => {
+            told.add(format_args!("SeekId({id}, {})", time.0));
+        }
+        Command::Playback(PlaybackCommand::SeekCur(seeking)) => {
+            told.add(format_args!("SeekCur({seeking:?})"));
+        }
+        _ => add_option(told, command),
     }
 }
 
-/// A command with its values.
-fn told(alloc: Global, command: &Command) -> Result<String, AllocError> {
-    match command {
-        Command::Playback(PlaybackCommand::Pause(on)) => format!(in alloc; "Pause({on:?})"),
-        Command::Playback(PlaybackCommand::Play(place)) => format!(in alloc; "Play({place:?})"),
-        Command::Playback(PlaybackCommand::PlayId(id)) => format!(in alloc; "PlayId({id:?})"),
-        Command::Playback(PlaybackCommand::Seek(place, time)) => format!(in alloc;
-            "Seek({place}, {})",
-            time.0
-        ),
-        Command::Playback(PlaybackCommand::SeekId(id, time)) => format!(in alloc;
-            "SeekId({id}, {})",
-            time.0
-        ),
-        Command::Playback(PlaybackCommand::SeekCur(seeking)) => format!(in alloc;
-            "SeekCur({seeking:?})"
-        ),
-        _ => output(alloc, command),
+/// Adds what a line is read as.
+fn add_read(told: &mut Told, alloc: Global, line: &str) {
+    match &Request::of_line(alloc, line, CommandSet::base()) {
+        Ok(Request::Run(_, command)) => add_command(told, command),
+        Ok(Request::Refused(ack)) => told.add(ack.text.as_str()),
+        Err(_) => told.fail(),
     }
-}
-
-fn read(alloc: Global, line: &str) -> Result<String, AllocError> {
-    match &Request::of_line(alloc, line, CommandSet::base())? {
-        Request::Run(_, command) => told(alloc, command),
-        Request::Refused(ack) => String::from_str(alloc, ack.text.as_str()),
-    }
+    told.add("\n");
 }
 
 fn read_each(alloc: Global, lines: &str) -> Result<String, AllocError> {
-    let mut all = String::new(alloc);
+    let mut told = Told::new(alloc);
     for line in lines.lines() {
-        push_line(&mut all, read(alloc, line)?.as_str())?;
+        add_read(&mut told, alloc, line);
     }
-    Ok(all)
+    told.into_text()
 }
 
 const COMMANDS: &str = "clearerror
@@ -148,11 +147,6 @@ Stop
 ToggleOutput(4294967295)
 ";
 
-#[test]
-fn playback_commands_are_read(rt: HostRuntime) -> Result<(), Fail> {
-    wants(read_each(rt.alloc(), COMMANDS), COMMANDS_READ)
-}
-
 const REFUSED: &str = "next 1
 consume
 consume 2
@@ -207,7 +201,9 @@ wrong number of arguments for \"enableoutput\"
 bad argument \"-1\"
 ";
 
+/// Commands, and arguments that are refused.
 #[test]
-fn arguments_of_playback_commands_are_refused(rt: HostRuntime) -> Result<(), Fail> {
+fn playback_commands_are_read(rt: HostRuntime) -> Result<(), Fail> {
+    wants(read_each(rt.alloc(), COMMANDS), COMMANDS_READ)?;
     wants(read_each(rt.alloc(), REFUSED), REFUSED_READ)
 }

@@ -1,64 +1,58 @@
 //! Folds of the history: a session tells the same in a window of any size, and with a fold by hand between
 //! any two events. The worked rows show the former of each command.
 use crate::session::{session, session_over, session_within};
-use crate::sessions::{ROOMS, ROOMS_TELL, SCANS, SCANS_TELL, numbered};
-use crate::shelf_sizes::doubling;
-use queue_tests::steps::push_line;
+use crate::sessions::{ROOMS, ROOMS_TELL, SCANS, SCANS_TELL, add_numbered, add_times};
+use crate::shelf_sizes::{add_doubled, add_doubling};
 use std::alloc::{AllocError, Global};
 use std::test::Fail;
-use wanted::{wants, wants_made};
+use wanted::{Told, wants, wants_made};
 
 /// The most events of the windows in which each session is run.
 const WINDOWS: [u32; 4] = [1, 2, 3, 4096];
 
-/// The numbers of the windows in which a session tells something else than is wanted, each in a line.
-fn in_windows(alloc: Global, uris: &str, steps: &str, wanted: &str) -> Result<String, AllocError> {
-    let mut all = String::new(alloc);
-    for most in WINDOWS {
-        if session_within(alloc, most, uris, steps)?.as_str() != wanted {
-            all.write_fmt(format_args!("in a window of {most}\n"))?;
-        }
-    }
-    Ok(all)
-}
-
-/// The steps with a fold before the one at a place; places count from 0.
-fn with_fold(alloc: Global, steps: &str, place: usize) -> Result<String, AllocError> {
-    let mut all = String::new(alloc);
+/// What a session tells with a fold before the step at a place; places count from 0.
+fn with_fold(alloc: Global, uris: &str, steps: &str, place: usize) -> Result<String, AllocError> {
+    let mut folded = Told::new(alloc);
     for (number, line) in steps.lines().enumerate() {
         if number == place {
-            push_line(&mut all, "folds")?;
+            folded.add("folds\n");
         }
-        push_line(&mut all, line)?;
+        folded.add(format_args!("{line}\n"));
     }
-    Ok(all)
+    session_over(alloc, uris, folded.into_text()?.as_str())
 }
 
-/// The places of the steps before which a fold makes a session tell something else than is wanted, each in a
-/// line.
-fn with_folds(alloc: Global, uris: &str, steps: &str, wanted: &str) -> Result<String, AllocError> {
-    let mut all = String::new(alloc);
-    for place in 0..steps.lines().count() {
-        let folded = with_fold(alloc, steps, place)?;
-        if session_over(alloc, uris, folded.as_str())?.as_str() != wanted {
-            all.write_fmt(format_args!("with a fold before step {place}\n"))?;
+/// Adds where a session was, where it told something else than is wanted.
+fn add_odd(
+    told: &mut Told,
+    session: Result<String, AllocError>,
+    wanted: &str,
+    at: &str,
+    number: usize,
+) {
+    match session {
+        Ok(text) => {
+            if text.as_str() != wanted {
+                told.add(format_args!("{at} {number}\n"));
+            }
         }
+        Err(_) => told.fail(),
     }
-    Ok(all)
 }
 
-/// Where a session tells something else than is wanted.
+/// The numbers of the windows in which a session tells something else than is wanted, and the places of the
+/// steps before which a fold makes it do so, each in a line.
 fn oddities(alloc: Global, uris: &str, steps: &str, wanted: &str) -> Result<String, AllocError> {
-    let mut all = in_windows(alloc, uris, steps, wanted)?;
-    all.push_str(with_folds(alloc, uris, steps, wanted)?.as_str())?;
-    Ok(all)
-}
-
-#[test]
-fn folds_keep_outputs_and_scans(rt: HostRuntime) -> Result<(), Fail> {
-    let alloc = rt.alloc();
-    wants(oddities(alloc, "a.wav", ROOMS, ROOMS_TELL), "")?;
-    wants(oddities(alloc, "a.wav", SCANS, SCANS_TELL), "")
+    let mut told = Told::new(alloc);
+    for most in WINDOWS.iter() {
+        let session = session_within(alloc, *most, uris, steps);
+        add_odd(&mut told, session, wanted, "in a window of", *most as usize);
+    }
+    for place in 0..steps.lines().count() {
+        let session = with_fold(alloc, uris, steps, place);
+        add_odd(&mut told, session, wanted, "with a fold before step", place);
+    }
+    told.into_text()
 }
 
 /// A session that leaves something in each part of the state, and then shows all of it.
@@ -194,9 +188,12 @@ const THREE: &str = "a.wav
 b.wav
 c.wav";
 
+/// Outputs and scans, and a session that leaves something in each part.
 #[test]
 fn folds_keep_each_part(rt: HostRuntime) -> Result<(), Fail> {
     let alloc = rt.alloc();
+    wants(oddities(alloc, "a.wav", ROOMS, ROOMS_TELL), "")?;
+    wants(oddities(alloc, "a.wav", SCANS, SCANS_TELL), "")?;
     wants(session_over(alloc, THREE, HOUSE), HOUSE_TELLS)?;
     wants(oddities(alloc, THREE, HOUSE, HOUSE_TELLS), "")
 }
@@ -211,55 +208,37 @@ show window
 turn 0 0 0
 show window";
 
-/// What is told of four events, with what is shown after each: the events of the window, their bytes, and all
-/// events.
-fn four_events(alloc: Global, shown: [&str; 4]) -> Result<String, AllocError> {
-    let [first, second, third, last] = shown;
-    let refused = "ACK [5@0] {} unknown command \"nosuch\"\n";
-    format!(in alloc;
-        "OK MPD 0.23.0\n{first}\nOK\n{second}\n{refused}{third}\nlive 0 true false\n{last}\n"
-    )
-}
+/// What is told of four events, with what is shown after each, in a window of one event: the events of the
+/// window, their bytes, and all events.
+const IN_ONE: &str = "OK MPD 0.23.0
+events: 1, bytes: 14, all: 1
+OK
+events: 1, bytes: 3, all: 2
+ACK [5@0] {} unknown command \"nosuch\"
+events: 1, bytes: 38, all: 3
+live 0 true false
+events: 1, bytes: 0, all: 4
+";
 
-/// What is told of them in a window of so many.
-fn four_events_within(alloc: Global, most: u32) -> Result<String, AllocError> {
-    session_within(alloc, most, "a.wav", FOUR_EVENTS)
-}
+const IN_TWO: &str = "OK MPD 0.23.0
+events: 1, bytes: 14, all: 1
+OK
+events: 2, bytes: 17, all: 2
+ACK [5@0] {} unknown command \"nosuch\"
+events: 1, bytes: 38, all: 3
+live 0 true false
+events: 2, bytes: 38, all: 4
+";
 
-#[test]
-fn a_full_window_is_folded_before_the_next_event(rt: HostRuntime) -> Result<(), Fail> {
-    let alloc = rt.alloc();
-    let one = four_events(
-        alloc,
-        [
-            "events: 1, bytes: 14, all: 1",
-            "events: 1, bytes: 3, all: 2",
-            "events: 1, bytes: 38, all: 3",
-            "events: 1, bytes: 0, all: 4",
-        ],
-    );
-    let two = four_events(
-        alloc,
-        [
-            "events: 1, bytes: 14, all: 1",
-            "events: 2, bytes: 17, all: 2",
-            "events: 1, bytes: 38, all: 3",
-            "events: 2, bytes: 38, all: 4",
-        ],
-    );
-    let three = four_events(
-        alloc,
-        [
-            "events: 1, bytes: 14, all: 1",
-            "events: 2, bytes: 17, all: 2",
-            "events: 3, bytes: 55, all: 3",
-            "events: 1, bytes: 0, all: 4",
-        ],
-    );
-    wants_made(four_events_within(alloc, 1), one)?;
-    wants_made(four_events_within(alloc, 2), two)?;
-    wants_made(four_events_within(alloc, 3), three)
-}
+const IN_THREE: &str = "OK MPD 0.23.0
+events: 1, bytes: 14, all: 1
+OK
+events: 2, bytes: 17, all: 2
+ACK [5@0] {} unknown command \"nosuch\"
+events: 3, bytes: 55, all: 3
+live 0 true false
+events: 1, bytes: 0, all: 4
+";
 
 /// What the shelf answers counts too: a list of one URI and its newline, a name of one letter, a value of
 /// one, a sticker of two, and a sticker of six with its URI. Where it refused, nothing does.
@@ -309,32 +288,33 @@ OK
 events: 1, bytes: 3, all: 9
 ";
 
+/// A full window is folded before the next event, and the bytes of a window are counted.
 #[test]
-fn the_bytes_of_a_window_are_counted(rt: HostRuntime) -> Result<(), Fail> {
-    wants(session(rt.alloc(), BYTES), BYTES_TELL)
+fn windows_are_counted_and_folded(rt: HostRuntime) -> Result<(), Fail> {
+    let alloc = rt.alloc();
+    wants(session_within(alloc, 1, "a.wav", FOUR_EVENTS), IN_ONE)?;
+    wants(session_within(alloc, 2, "a.wav", FOUR_EVENTS), IN_TWO)?;
+    wants(session_within(alloc, 3, "a.wav", FOUR_EVENTS), IN_THREE)?;
+    wants(session(alloc, BYTES), BYTES_TELL)
 }
 
 /// What is told where the greatest window is filled, and two more events come.
 fn greatest_window(alloc: Global) -> Result<String, AllocError> {
-    let pings = "1 ping\n".repeat(alloc, 4095)?;
-    let more = "show window\n1 ping\nshow window\n1 ping\nshow window\n";
-    let steps = format!(in alloc; "comes 1\n{pings}{more}")?;
-    session(alloc, steps.as_str())
+    let mut steps = Told::new(alloc);
+    steps.add("comes 1\n");
+    add_times(&mut steps, "1 ping\n", 4095);
+    steps.add("show window\n1 ping\nshow window\n1 ping\nshow window\n");
+    session(alloc, steps.into_text()?.as_str())
 }
 
 fn greatest_window_tells(alloc: Global) -> Result<String, AllocError> {
-    let pinged = "OK\n".repeat(alloc, 4095)?;
-    format!(in alloc;
-        "OK MPD 0.23.0\n{pinged}events: 4096, bytes: 12299, all: 4096\nOK\nevents: 1, bytes: 3, all: 4097\nOK\nevents: 2, bytes: 6, all: 4098\n"
-    )
-}
-
-#[test]
-fn the_greatest_window_is_folded(rt: HostRuntime) -> Result<(), Fail> {
-    wants_made(
-        greatest_window(rt.alloc()),
-        greatest_window_tells(rt.alloc()),
-    )
+    let mut told = Told::new(alloc);
+    told.add("OK MPD 0.23.0\n");
+    add_times(&mut told, "OK\n", 4095);
+    told.add(
+        "events: 4096, bytes: 12299, all: 4096\nOK\nevents: 1, bytes: 3, all: 4097\nOK\nevents: 2, bytes: 6, all: 4098\n",
+    );
+    told.into_text()
 }
 
 /// The window of 93 events is full, is folded by the next event, and then by hand. The order of play is the
@@ -386,19 +366,24 @@ seat 15: 64, seat 3: 38, all: 102, entries: 16383, clients: 64, volume: 100
 
 /// What is told where the state is the greatest: 16,384 entries and 64 clients.
 fn greatest(alloc: Global) -> Result<String, AllocError> {
-    let doubling = doubling(alloc)?;
-    let come = numbered(alloc, "comes ", 2, "")?;
-    let steps = format!(in alloc; "{doubling}{come}{GREATEST}")?;
-    session_within(alloc, 93, "a.wav", steps.as_str())
+    let mut steps = Told::new(alloc);
+    add_doubling(&mut steps);
+    add_numbered(&mut steps, "comes ", 2, "");
+    steps.add(GREATEST);
+    session_within(alloc, 93, "a.wav", steps.into_text()?.as_str())
 }
 
 fn greatest_tells(alloc: Global) -> Result<String, AllocError> {
-    let doubled = "OK\n".repeat(alloc, 29)?;
-    let greeted = "OK MPD 0.23.0\n".repeat(alloc, 63)?;
-    format!(in alloc; "OK MPD 0.23.0\n{doubled}{greeted}{GREATEST_TELLS}")
+    let mut told = Told::new(alloc);
+    add_doubled(&mut told);
+    add_times(&mut told, "OK MPD 0.23.0\n", 63);
+    told.add(GREATEST_TELLS);
+    told.into_text()
 }
 
 #[test]
-fn the_greatest_state_is_folded(rt: HostRuntime) -> Result<(), Fail> {
-    wants_made(greatest(rt.alloc()), greatest_tells(rt.alloc()))
+fn the_greatest_window_and_state_are_folded(rt: HostRuntime) -> Result<(), Fail> {
+    let alloc = rt.alloc();
+    wants_made(greatest_window(alloc), greatest_window_tells(alloc))?;
+    wants_made(greatest(alloc), greatest_tells(alloc))
 }

@@ -3,7 +3,7 @@ use crate::session::session_over;
 use kept_state::{kept_of, state_text};
 use std::alloc::{AllocError, Global};
 use std::test::Fail;
-use wanted::wants_made;
+use wanted::{Told, wants_made};
 
 const SONGS: &str = "a.wav\nb.wav\nc.wav";
 
@@ -31,23 +31,22 @@ fn state_after(alloc: Global, uris: &str, steps: &str) -> Result<String, AllocEr
 
 /// The steps of a client that says these lines.
 fn steps_of(alloc: Global, lines: &str) -> Result<String, AllocError> {
-    let mut steps = String::new(alloc);
+    let mut steps = Told::new(alloc);
     let mut is_in_list = false;
     for line in lines.lines() {
         if line == "command_list_begin" {
             is_in_list = true;
-            steps.push_str("runs_plain ")?;
+            steps.add("runs_plain ");
         } else if line == "command_list_end" {
             is_in_list = false;
-            steps.push_str("ping\n")?;
+            steps.add("ping\n");
         } else if is_in_list {
-            steps.push_str(line)?;
-            steps.push_str(";")?;
+            steps.add(format_args!("{line};"));
         } else {
-            steps.write_fmt(format_args!("1 {line}\n"))?;
+            steps.add(format_args!("1 {line}\n"));
         }
     }
-    Ok(steps)
+    steps.into_text()
 }
 
 /// The state of a player over these songs that was told the state of another, which was told these steps.
@@ -108,36 +107,26 @@ prio 7 0
 command_list_end
 ";
 
-fn paused_tells(alloc: Global) -> Result<String, AllocError> {
-    format!(in alloc; "{PAUSED_OPTIONS}{PAUSED_LAST}{PAUSED_SONG}{PAUSED_FIRST}")
+/// The lines of the state of that player, with those of these songs.
+fn paused_tells(alloc: Global, songs: [&str; 3]) -> Result<String, AllocError> {
+    let [last, song, first] = songs;
+    format!(in alloc; "{PAUSED_OPTIONS}{last}{song}{first}")
 }
 
+// Songs that are gone take no others along: those have their own priorities and places.
 #[test]
 fn a_paused_player_comes_back(rt: HostRuntime) -> Result<(), Fail> {
     let alloc = rt.alloc();
-    wants_made(state_after(alloc, SONGS, PAUSED), paused_tells(alloc))?;
-    wants_made(state_again(alloc, SONGS, PAUSED), paused_tells(alloc))
-}
-
-fn without_song_tells(alloc: Global) -> Result<String, AllocError> {
-    format!(in alloc; "{PAUSED_OPTIONS}{PAUSED_LAST}{PAUSED_FIRST}")
-}
-
-fn without_others_tells(alloc: Global) -> Result<String, AllocError> {
-    format!(in alloc; "{PAUSED_OPTIONS}{PAUSED_SONG}")
-}
-
-// The other songs have their own priorities and places.
-#[test]
-fn songs_that_are_gone_take_no_others_along(rt: HostRuntime) -> Result<(), Fail> {
-    let alloc = rt.alloc();
+    let all = [PAUSED_LAST, PAUSED_SONG, PAUSED_FIRST];
+    wants_made(state_after(alloc, SONGS, PAUSED), paused_tells(alloc, all))?;
+    wants_made(state_again(alloc, SONGS, PAUSED), paused_tells(alloc, all))?;
     wants_made(
         state_again(alloc, "a.wav\nc.wav", PAUSED),
-        without_song_tells(alloc),
+        paused_tells(alloc, [PAUSED_LAST, "", PAUSED_FIRST]),
     )?;
     wants_made(
         state_again(alloc, "b.wav", PAUSED),
-        without_others_tells(alloc),
+        paused_tells(alloc, ["", PAUSED_SONG, ""]),
     )
 }
 
@@ -173,7 +162,7 @@ fn check_player(alloc: Global, steps: &str, lines: &str) -> Result<(), Fail> {
 
 #[test]
 fn players_come_back(rt: HostRuntime) -> Result<(), Fail> {
-    for (steps, lines) in PLAYERS {
+    for (steps, lines) in PLAYERS.iter() {
         check_player(rt.alloc(), steps, lines)?;
     }
     Ok(())

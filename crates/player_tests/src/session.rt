@@ -7,14 +7,14 @@ use idle_clients::Notice;
 use mpd_command::{CommandSet, Request};
 use mpd_text::{Answer, SharedText, Song};
 use partition::{Limits, ListOutcome, Partition, Setup};
-use player_core::Job;
 use player_events::{Event, Outcome};
-use player_state::{Feed, Heard, Library, Outputs, Report, Scan};
+use player_state::{Library, Outputs, Report, Scan};
 use queue_tests::steps::{entry, first_word, number_of, song};
 use shelf::MemShelf;
 use song_db::{Db, Rate, SharedDb};
 use std::alloc::{AllocError, Global};
 use transitions::{Next, Stand};
+use wanted::Told;
 
 /// A song of one second for each line, without tags.
 fn songs(alloc: Global, uris: &str) -> Result<Vec<Song>, AllocError> {
@@ -101,36 +101,12 @@ fn after(next: Next) -> &'static str {
     }
 }
 
-fn notice_told(alloc: Global, notice: &Notice) -> Result<String, AllocError> {
-    let mut lines = Answer::new(alloc);
-    notice.names.push_lines(&mut lines)?;
-    format!(in alloc; "{}: {}", notice.client, lines.as_str())
-}
-
-/// Number, id, first frame and count of a job. None of these sessions fades.
-fn job_told(alloc: Global, job: Job) -> Result<String, AllocError> {
-    let Job {
-        number,
-        id,
-        from,
-        count,
-        ..
-    } = job;
-    format!(in alloc; "job {number} {id} {from} {count}\n")
-}
-
-fn feed_told(alloc: Global, feed: Feed) -> Result<String, AllocError> {
-    let (cut, volume) = (feed.cut, feed.volume);
-    format!(in alloc; "feed {cut} {volume}\n")
-}
-
-fn live_told(alloc: Global, heard: Heard) -> Result<String, AllocError> {
-    let (cut, enabled, paused) = (heard.live.cut, heard.live.enabled, heard.live.paused);
-    format!(in alloc; "live {cut} {enabled} {paused}\n")
-}
-
-fn scan_told(alloc: Global, number: u64) -> Result<String, AllocError> {
-    format!(in alloc; "scan {number}\n")
+/// Adds a text that is made, or keeps that it was not.
+fn add_made(told: &mut Told, text: Result<String, AllocError>) {
+    match text {
+        Ok(text) => told.add(text.as_str()),
+        Err(_) => told.fail(),
+    }
 }
 
 /// What is told that has no number.
@@ -146,49 +122,54 @@ fn bare_report(report: Report) -> &'static str {
     }
 }
 
-/// What is told to a scanner, a decoder or an output.
-fn report_told(alloc: Global, report: Report) -> Result<String, AllocError> {
+/// Adds what is told to a scanner, a decoder or an output. Of a job these are its number, id, first frame and
+/// count: none of these sessions fades.
+fn add_report(told: &mut Told, report: Report) {
     match report {
-        Report::ToDecode(Some(job)) => job_told(alloc, job),
-        Report::ToFeed(Some(feed)) => feed_told(alloc, feed),
-        Report::ToPlay(heard) => live_told(alloc, heard),
-        Report::ToScan(Some(number)) => scan_told(alloc, number),
-        _ => String::from_str(alloc, bare_report(report)),
+        Report::ToDecode(Some(job)) => {
+            let (number, id, from, count) = (job.number, job.id, job.from, job.count);
+            told.add(format_args!("job {number} {id} {from} {count}\n"));
+        }
+        Report::ToFeed(Some(feed)) => {
+            let (cut, volume) = (feed.cut, feed.volume);
+            told.add(format_args!("feed {cut} {volume}\n"));
+        }
+        Report::ToPlay(heard) => {
+            let (cut, enabled, paused) = (heard.live.cut, heard.live.enabled, heard.live.paused);
+            told.add(format_args!("live {cut} {enabled} {paused}\n"));
+        }
+        Report::ToScan(Some(number)) => told.add(format_args!("scan {number}\n")),
+        _ => told.add(bare_report(report)),
     }
+}
+
+fn notice_told(alloc: Global, notice: &Notice) -> Result<String, AllocError> {
+    let mut lines = Answer::new(alloc);
+    notice.names.push_lines(&mut lines)?;
+    format!(in alloc; "{}: {}", notice.client, lines.as_str())
 }
 
 /// Adds what others hear, each notice after its client.
-fn add_notices(all: &mut String, alloc: Global, notices: &[Notice]) -> Result<(), AllocError> {
+fn add_notices(told: &mut Told, alloc: Global, notices: &[Notice]) {
     for notice in notices {
-        all.push_str(notice_told(alloc, notice)?.as_str())?;
+        add_made(told, notice_told(alloc, notice));
     }
-    Ok(())
-}
-
-fn add_report(all: &mut String, alloc: Global, report: Report) -> Result<(), AllocError> {
-    all.push_str(report_told(alloc, report)?.as_str())
 }
 
 /// Adds what clients hear of an event: the answer, `waits` or `closed` where the client does or is, and each
 /// notice after its client; and what a scanner is told.
-fn add_heard(all: &mut String, alloc: Global, outcome: &Outcome) -> Result<(), AllocError> {
-    all.push_str(outcome.reply().text())?;
-    all.push_str(after(outcome.reply().next()))?;
-    add_notices(all, alloc, outcome.notices())?;
-    add_report(all, alloc, outcome.report())
+fn add_heard(told: &mut Told, alloc: Global, outcome: &Outcome) {
+    told.add(outcome.reply().text());
+    told.add(after(outcome.reply().next()));
+    add_notices(told, alloc, outcome.notices());
+    add_report(told, outcome.report());
 }
 
 /// Applies an event, and adds what clients hear of it, or that it was not applied.
-fn happens(
-    lent: &mut Lent,
-    alloc: Global,
-    seat: u8,
-    event: Event,
-    all: &mut String,
-) -> Result<(), AllocError> {
+fn happens(lent: &mut Lent, alloc: Global, seat: u8, event: Event, told: &mut Told) {
     match lent.player.apply(seat % 16, &mut lent.shelf, event) {
-        Ok(outcome) => add_heard(all, alloc, &outcome),
-        Err(_) => all.push_str("not applied\n"),
+        Ok(outcome) => add_heard(told, alloc, &outcome),
+        Err(_) => told.add("not applied\n"),
     }
 }
 
@@ -201,9 +182,9 @@ fn events(player: &Partition) -> u64 {
     all
 }
 
-/// What the player shows of itself: the events of seats 15 and 3, all events, the entries of the first
+/// Adds what the player shows of itself: the events of seats 15 and 3, all events, the entries of the first
 /// partition, the clients, and that partition's volume.
-fn counts(player: &Partition, alloc: Global) -> Result<String, AllocError> {
+fn add_counts(told: &mut Told, player: &Partition) {
     let (last, own) = (player.own(15), player.own(3));
     let all = events(player);
     let clients = player.clients().len();
@@ -211,17 +192,17 @@ fn counts(player: &Partition, alloc: Global) -> Result<String, AllocError> {
         Some(part) => (part.queue.len(), part.volume.percent()),
         None => (0, 0),
     };
-    format!(in alloc;
+    told.add(format_args!(
         "seat 15: {last}, seat 3: {own}, all: {all}, entries: {entries}, clients: {clients}, volume: {volume}\n"
-    )
+    ));
 }
 
-/// How many events the window has, the bytes that were answered at them, and how many events there were.
-fn window(player: &Partition, alloc: Global) -> Result<String, AllocError> {
+/// Adds how many events the window has, the bytes that were answered at them, and how many events there were.
+fn add_window(told: &mut Told, player: &Partition) {
     let kept = player.history().len();
     let bytes = player.window_bytes();
     let all = events(player);
-    format!(in alloc; "events: {kept}, bytes: {bytes}, all: {all}\n")
+    told.add(format_args!("events: {kept}, bytes: {bytes}, all: {all}\n"));
 }
 
 /// What is pending for each client, after its number.
@@ -234,40 +215,28 @@ fn pending(player: &Partition, alloc: Global) -> Result<String, AllocError> {
     Ok(lines.into_string())
 }
 
-/// The id and the priority of each entry of the first partition.
-fn entries(player: &Partition, alloc: Global) -> Result<String, AllocError> {
-    let mut all = String::new(alloc);
+/// Adds the id and the priority of each entry of the first partition.
+fn add_entries(told: &mut Told, player: &Partition) {
     let Some(part) = player.part(0) else {
-        return Ok(all);
+        return;
     };
     for place in 0..part.queue.len() {
         let (id, priority) = entry(&part.queue, place);
-        all.write_fmt(format_args!("id {id}, priority {priority}\n"))?;
+        told.add(format_args!("id {id}, priority {priority}\n"));
     }
-    Ok(all)
 }
 
-/// Adds the frames of an output: those that it was given, wrote and discarded.
-fn add_book(
-    all: &mut String,
-    player: &Partition,
-    alloc: Global,
-    output: usize,
-) -> Result<(), AllocError> {
+/// The outputs with the first number and the last, and one that is not there.
+const BOOKS: [usize; 4] = [0, 6, 7, 8];
+
+/// Adds the frames of these outputs: those that each was given, wrote and discarded.
+fn add_books(told: &mut Told, player: &Partition) {
     let books = player.books();
-    let (decoded, written) = (books.decoded(output), books.written(output));
-    let discarded = books.discarded(output);
-    let book = format!(in alloc; "decoded {decoded}, written {written}, discarded {discarded}\n")?;
-    all.push_str(book.as_str())
-}
-
-/// The frames of the outputs with the first number and the last, and of one that is not there.
-fn books(player: &Partition, alloc: Global) -> Result<String, AllocError> {
-    let mut all = String::new(alloc);
-    for output in [0, 6, 7, 8] {
-        add_book(&mut all, player, alloc, output)?;
+    for output in BOOKS.iter() {
+        let (decoded, written) = (books.decoded(*output), books.written(*output));
+        let discarded = books.discarded(*output);
+        told.add(format_args!("decoded {decoded}, written {written}, discarded {discarded}\n"));
     }
-    Ok(all)
 }
 
 fn has_client(player: &Partition, client: u32) -> &'static str {
@@ -278,65 +247,52 @@ fn has_client(player: &Partition, client: u32) -> &'static str {
     }
 }
 
-/// What the player shows where a step asks for it.
-fn shown(player: &Partition, alloc: Global, what: &str) -> Result<String, AllocError> {
-    if what == "counts" {
-        counts(player, alloc)
-    } else if what == "pending" {
-        pending(player, alloc)
-    } else if what == "entries" {
-        entries(player, alloc)
-    } else if what == "window" {
-        window(player, alloc)
-    } else if what == "books" {
-        books(player, alloc)
-    } else {
-        String::from_str(alloc, has_client(player, number_of(what)))
+/// Adds what the player shows where a step asks for it.
+fn show(player: &Partition, alloc: Global, what: &str, told: &mut Told) {
+    match what {
+        "counts" => add_counts(told, player),
+        "pending" => add_made(told, pending(player, alloc)),
+        "entries" => add_entries(told, player),
+        "window" => add_window(told, player),
+        "books" => add_books(told, player),
+        _ => told.add(has_client(player, number_of(what))),
     }
 }
 
-/// What is heard where a client says a line, at seat 3.
+/// What is heard where a client says a line that is this request, at seat 3.
 fn says(
     lent: &mut Lent,
     alloc: Global,
     client: u32,
     stand: Stand,
-    line: &str,
-    all: &mut String,
-) -> Result<(), AllocError> {
-    let request = Request::of_line(alloc, line, CommandSet::base())?;
-    happens(lent, alloc, 3, Event::line(client, stand, request), all)
+    request: Result<Request, AllocError>,
+    told: &mut Told,
+) {
+    match request {
+        Ok(request) => happens(lent, alloc, 3, Event::line(client, stand, request), told),
+        Err(_) => told.fail(),
+    }
 }
 
-/// The same of client 1, where `kill` is allowed.
-fn says_with_leave(
-    lent: &mut Lent,
-    alloc: Global,
-    line: &str,
-    all: &mut String,
-) -> Result<(), AllocError> {
-    let request = Request::of_line(
-        alloc,
-        line,
-        CommandSet {
-            kill: true,
-            everyday: false,
-        },
-    )?;
-    happens(lent, alloc, 3, Event::line(1, Stand::Alone, request), all)
+/// What a line is read as.
+fn request(alloc: Global, line: &str) -> Result<Request, AllocError> {
+    Request::of_line(alloc, line, CommandSet::base())
 }
 
-/// The same of client 1 in a list, where the line comes after its place there.
-fn says_in_list(
-    lent: &mut Lent,
-    alloc: Global,
-    form: ListForm,
-    rest: &str,
-    all: &mut String,
-) -> Result<(), AllocError> {
+/// The same where `kill` is allowed.
+fn request_with_leave(alloc: Global, line: &str) -> Result<Request, AllocError> {
+    let commands = CommandSet {
+        kill: true,
+        everyday: false,
+    };
+    Request::of_line(alloc, line, commands)
+}
+
+/// What is heard of client 1 in a list, where the line comes after its place there.
+fn says_in_list(lent: &mut Lent, alloc: Global, form: ListForm, rest: &str, told: &mut Told) {
     let (place, line) = first_word(rest);
     let stand = Stand::InList(form, number_of(place) as usize);
-    says(lent, alloc, 1, stand, line, all)
+    says(lent, alloc, 1, stand, request(alloc, line), told)
 }
 
 /// The requests of the lines of a list, with a semicolon between each two.
@@ -357,42 +313,27 @@ fn list_answer(alloc: Global, outcome: &ListOutcome) -> Result<String, AllocErro
     String::from_str(alloc, str::from_utf8(&answer).unwrap_or("no text\n"))
 }
 
-/// Adds the whole answer of a list.
-fn add_answer(all: &mut String, alloc: Global, outcome: &ListOutcome) -> Result<(), AllocError> {
-    all.push_str(list_answer(alloc, outcome)?.as_str())
-}
-
 /// Adds what clients hear of a list: its whole answer, `closed` where the client is, and each notice after
 /// its client.
-fn add_list(all: &mut String, alloc: Global, outcome: &ListOutcome) -> Result<(), AllocError> {
-    add_answer(all, alloc, outcome)?;
+fn add_list(told: &mut Told, alloc: Global, outcome: &ListOutcome) {
+    add_made(told, list_answer(alloc, outcome));
     if outcome.next().closes() {
-        all.push_str("closed\n")?;
+        told.add("closed\n");
     }
     for one in outcome.outcomes() {
-        add_notices(all, alloc, one.notices())?;
+        add_notices(told, alloc, one.notices());
     }
-    Ok(())
 }
 
 /// Runs a list of client 1 at seat 3, and adds what clients hear of it.
-fn runs_list(
-    lent: &mut Lent,
-    alloc: Global,
-    form: ListForm,
-    lines: &str,
-    all: &mut String,
-) -> Result<(), AllocError> {
-    let requests = requests(alloc, lines)?;
+fn runs_list(lent: &mut Lent, alloc: Global, form: ListForm, lines: &str, told: &mut Told) {
+    let Ok(requests) = requests(alloc, lines) else {
+        return told.fail();
+    };
     match lent.player.run_list(3, &mut lent.shelf, 1, form, requests) {
-        Ok(outcome) => add_list(all, alloc, &outcome),
-        Err(_) => all.push_str("not run\n"),
+        Ok(outcome) => add_list(told, alloc, &outcome),
+        Err(_) => told.add("not run\n"),
     }
-}
-
-fn show(player: &Partition, alloc: Global, what: &str, all: &mut String) -> Result<(), AllocError> {
-    let shown = shown(player, alloc, what)?;
-    all.push_str(shown.as_str())
 }
 
 /// A library of the song that a word names, or nothing for the word `fails`.
@@ -411,13 +352,14 @@ fn found(alloc: Global, word: &str) -> Result<Option<SharedDb>, AllocError> {
 }
 
 /// What a scanner asks or brings, at seat 5.
-fn scans(lent: &mut Lent, alloc: Global, word: &str, all: &mut String) -> Result<(), AllocError> {
-    let event = if word == "asks" {
-        Event::ScanQuestion
-    } else {
-        Event::ScanResult(found(alloc, word)?, 0)
-    };
-    happens(lent, alloc, 5, event, all)
+fn scans(lent: &mut Lent, alloc: Global, word: &str, told: &mut Told) {
+    if word == "asks" {
+        return happens(lent, alloc, 5, Event::ScanQuestion, told);
+    }
+    match found(alloc, word) {
+        Ok(library) => happens(lent, alloc, 5, Event::ScanResult(library, 0), told),
+        Err(_) => told.fail(),
+    }
 }
 
 /// The two numbers of a text.
@@ -427,107 +369,90 @@ fn two_numbers(text: &str) -> (u32, u32) {
 }
 
 /// What the decoder asks or brings, at seat 6.
-fn decodes(lent: &mut Lent, alloc: Global, rest: &str, all: &mut String) -> Result<(), AllocError> {
+fn decodes(lent: &mut Lent, alloc: Global, rest: &str, told: &mut Told) {
     if rest == "wants" {
-        return happens(lent, alloc, 6, Event::Want(0, [false; 8]), all);
+        return happens(lent, alloc, 6, Event::Want(0, [false; 8]), told);
     }
     if let Some(rest) = rest.strip_prefix("fails ") {
         let (number, whose) = first_word(rest);
         let event = Event::Failed(0, u64::from(number_of(number)), whose == "partner");
-        return happens(lent, alloc, 6, event, all);
+        return happens(lent, alloc, 6, event, told);
     }
     let (number, frames) = two_numbers(rest);
     let event = Event::Have(0, u64::from(number), u64::from(frames));
-    happens(lent, alloc, 6, event, all)
+    happens(lent, alloc, 6, event, told)
 }
 
 /// An output has its turn, at seat 7: its number, the frames that it wrote, and those that it discarded; one
 /// that discarded 4,294,967,295 has failed.
-fn turns(lent: &mut Lent, alloc: Global, rest: &str, all: &mut String) -> Result<(), AllocError> {
+fn turns(lent: &mut Lent, alloc: Global, rest: &str, told: &mut Told) {
     let (output, rest) = first_word(rest);
     let (written, discarded) = two_numbers(rest);
     let failed = discarded == u32::MAX;
     let (written, discarded) = (u64::from(written), u64::from(discarded));
     let output = number_of(output) as usize;
     let event = Event::OutputTurn(output, written, discarded, failed);
-    happens(lent, alloc, 7, event, all)
+    happens(lent, alloc, 7, event, told)
 }
 
 /// Folds the history, and adds nothing but that it was not folded.
-fn folds(player: &mut Partition, all: &mut String) -> Result<(), AllocError> {
-    match player.fold() {
-        Ok(()) => Ok(()),
-        Err(_) => all.push_str("not folded\n"),
+fn folds(player: &mut Partition, told: &mut Told) {
+    if player.fold().is_err() {
+        told.add("not folded\n");
     }
 }
 
 /// Adds what client 1 hears in a list, of a whole list, or where `kill` is allowed.
-fn says_otherwise(
-    lent: &mut Lent,
-    alloc: Global,
-    word: &str,
-    rest: &str,
-    all: &mut String,
-) -> Result<(), AllocError> {
+fn says_otherwise(lent: &mut Lent, alloc: Global, word: &str, rest: &str, told: &mut Told) {
     match word {
-        "plain_list" => says_in_list(lent, alloc, ListForm::Plain, rest, all),
-        "ok_list" => says_in_list(lent, alloc, ListForm::ListOk, rest, all),
-        "runs_plain" => runs_list(lent, alloc, ListForm::Plain, rest, all),
-        "runs_ok" => runs_list(lent, alloc, ListForm::ListOk, rest, all),
-        _ => says_with_leave(lent, alloc, rest, all),
+        "plain_list" => says_in_list(lent, alloc, ListForm::Plain, rest, told),
+        "ok_list" => says_in_list(lent, alloc, ListForm::ListOk, rest, told),
+        "runs_plain" => runs_list(lent, alloc, ListForm::Plain, rest, told),
+        "runs_ok" => runs_list(lent, alloc, ListForm::ListOk, rest, told),
+        _ => {
+            let request = request_with_leave(alloc, rest);
+            says(lent, alloc, 1, Stand::Alone, request, told);
+        }
     }
 }
 
 /// Adds what is told where a client comes or goes, at the last seat, and of a scanner, the decoder or an
 /// output.
-fn tells(
-    lent: &mut Lent,
-    alloc: Global,
-    word: &str,
-    rest: &str,
-    all: &mut String,
-) -> Result<(), AllocError> {
+fn tells(lent: &mut Lent, alloc: Global, word: &str, rest: &str, told: &mut Told) {
     match word {
-        "comes" => happens(lent, alloc, 15, Event::Connect(number_of(rest)), all),
-        "goes" => happens(lent, alloc, 15, Event::Disconnect(number_of(rest)), all),
-        "scan" => scans(lent, alloc, rest, all),
-        "decoder" => decodes(lent, alloc, rest, all),
-        _ => turns(lent, alloc, rest, all),
+        "comes" => happens(lent, alloc, 15, Event::Connect(number_of(rest)), told),
+        "goes" => happens(lent, alloc, 15, Event::Disconnect(number_of(rest)), told),
+        "scan" => scans(lent, alloc, rest, told),
+        "decoder" => decodes(lent, alloc, rest, told),
+        _ => turns(lent, alloc, rest, told),
     }
 }
 
 /// Adds what is told at a step, by its first word: a client comes or goes; client 1 says a line in a list, or
 /// where `kill` is allowed; a scanner asks or brings something; so does the decoder; an output has its turn;
 /// the daemon ends; the history is folded; something is shown; or a client says a line alone.
-fn step(lent: &mut Lent, alloc: Global, line: &str, all: &mut String) -> Result<(), AllocError> {
+fn step(lent: &mut Lent, alloc: Global, line: &str, told: &mut Told) {
     let (word, rest) = first_word(line);
     match word {
         "plain_list" | "ok_list" | "runs_plain" | "runs_ok" | "with_leave" => {
-            says_otherwise(lent, alloc, word, rest, all)
+            says_otherwise(lent, alloc, word, rest, told);
         }
-        "comes" | "goes" | "scan" | "decoder" | "turn" => tells(lent, alloc, word, rest, all),
-        "ends" => happens(lent, alloc, 0, Event::End, all),
-        "folds" => folds(&mut lent.player, all),
-        "show" => show(&lent.player, alloc, rest, all),
-        _ => says(lent, alloc, number_of(word), Stand::Alone, rest, all),
+        "comes" | "goes" | "scan" | "decoder" | "turn" => tells(lent, alloc, word, rest, told),
+        "ends" => happens(lent, alloc, 0, Event::End, told),
+        "folds" => folds(&mut lent.player, told),
+        "show" => show(&lent.player, alloc, rest, told),
+        _ => {
+            let request = request(alloc, rest);
+            says(lent, alloc, number_of(word), Stand::Alone, request, told);
+        }
     }
 }
 
 /// Adds that the window has more events than it may have, where it has.
-fn look_at_window(lent: &Lent, all: &mut String) -> Result<(), AllocError> {
+fn look_at_window(lent: &Lent, told: &mut Told) {
     if lent.player.history().len() > lent.most {
-        return all.push_str("more events than the window may have\n");
+        told.add("more events than the window may have\n");
     }
-    Ok(())
-}
-
-fn session_of(lent: &mut Lent, alloc: Global, steps: &str) -> Result<String, AllocError> {
-    let mut all = String::new(alloc);
-    for line in steps.lines() {
-        step(lent, alloc, line, &mut all)?;
-        look_at_window(lent, &mut all)?;
-    }
-    Ok(all)
 }
 
 /// What a session of these steps tells, over a library with a song for each line of the URIs, in a window of
@@ -539,7 +464,12 @@ pub fn session_within(
     steps: &str,
 ) -> Result<String, AllocError> {
     let mut lent = opened(alloc, history, uris)?;
-    session_of(&mut lent, alloc, steps)
+    let mut told = Told::new(alloc);
+    for line in steps.lines() {
+        step(&mut lent, alloc, line, &mut told);
+        look_at_window(&lent, &mut told);
+    }
+    told.into_text()
 }
 
 /// The same in the greatest window.

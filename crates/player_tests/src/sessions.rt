@@ -5,7 +5,7 @@ use mpd_command::{CommandSet, Name, Request, names};
 use partition::{PartitionFault, folds_are_unseen, reads_pending, replays_worlds};
 use std::alloc::{AllocError, Global};
 use std::test::Fail;
-use wanted::{wants, wants_made};
+use wanted::{Told, wants, wants_made};
 
 const WAITING: &str = "comes 2
 comes 1
@@ -43,11 +43,6 @@ changed: mixer
 changed: options
 ";
 
-#[test]
-fn a_waiting_client_hears_of_a_change_once(rt: HostRuntime) -> Result<(), Fail> {
-    wants(session(rt.alloc(), WAITING), WAITING_TELLS)
-}
-
 const ENDED: &str = "comes 1
 1 add a.wav
 1 play
@@ -83,11 +78,6 @@ decoded 0, written 0, discarded 0
 decoded 0, written 0, discarded 0
 decoded 0, written 0, discarded 0
 ";
-
-#[test]
-fn after_the_end_nothing_is_decoded(rt: HostRuntime) -> Result<(), Fail> {
-    wants(session(rt.alloc(), ENDED), ENDED_TELLS)
-}
 
 pub(crate) const ROOMS: &str = "comes 1
 comes 2
@@ -144,8 +134,10 @@ decoded 0, written 0, discarded 0
 seat 15: 2, seat 3: 9, all: 21, entries: 1, clients: 2, volume: 40
 ";
 
+/// And after the end nothing is decoded.
 #[test]
 fn eight_rooms_have_their_books(rt: HostRuntime) -> Result<(), Fail> {
+    wants(session(rt.alloc(), ENDED), ENDED_TELLS)?;
     wants(session(rt.alloc(), ROOMS), ROOMS_TELL)
 }
 
@@ -186,8 +178,10 @@ none ran
 seat 15: 2, seat 3: 7, all: 14, entries: 2, clients: 2, volume: 100
 ";
 
+/// Of a change once, and of a scan that ends.
 #[test]
-fn a_scan_that_ends_is_told(rt: HostRuntime) -> Result<(), Fail> {
+fn waiting_clients_are_told(rt: HostRuntime) -> Result<(), Fail> {
+    wants(session(rt.alloc(), WAITING), WAITING_TELLS)?;
     wants(session(rt.alloc(), SCANS), SCANS_TELL)
 }
 
@@ -212,63 +206,59 @@ fn each_name_is_read_back(rt: HostRuntime) -> Result<(), Fail> {
     wants(name_of(rt.alloc(), "swap 0 1"), "swap")
 }
 
-/// A line for each number from this one to 64, between two texts.
-pub(crate) fn numbered(
-    alloc: Global,
-    before: &str,
-    first: u32,
-    after: &str,
-) -> Result<String, AllocError> {
-    let mut all = String::new(alloc);
-    for number in first..65 {
-        let line = format!(in alloc; "{before}{number}{after}\n")?;
-        all.push_str(line.as_str())?;
+/// Adds a text so many times.
+pub(crate) fn add_times(told: &mut Told, text: &str, count: u32) {
+    for _ in 0..count {
+        told.add(text);
     }
-    Ok(all)
 }
 
-/// What 64 clients hear that come.
-fn greetings(alloc: Global) -> Result<String, AllocError> {
-    "OK MPD 0.23.0\n".repeat(alloc, 64)
+/// Adds a line for each number from this one to 64, between two texts.
+pub(crate) fn add_numbered(told: &mut Told, before: &str, first: u32, after: &str) {
+    for number in first..65 {
+        told.add(format_args!("{before}{number}{after}\n"));
+    }
 }
 
 /// What is told where 64 clients come, then another, then one goes and that other one comes.
 fn crowd(alloc: Global) -> Result<String, AllocError> {
-    let come = numbered(alloc, "comes ", 1, "")?;
-    let steps = format!(in alloc; "{come}comes 65\nshow 65\nshow counts\ngoes 7\ncomes 65\n")?;
-    session(alloc, steps.as_str())
+    let mut steps = Told::new(alloc);
+    add_numbered(&mut steps, "comes ", 1, "");
+    steps.add("comes 65\nshow 65\nshow counts\ngoes 7\ncomes 65\n");
+    session(alloc, steps.into_text()?.as_str())
 }
 
 fn crowd_tells(alloc: Global) -> Result<String, AllocError> {
-    let mut all = greetings(alloc)?;
-    all.push_str(
+    let mut told = Told::new(alloc);
+    add_times(&mut told, "OK MPD 0.23.0\n", 64);
+    told.add(
         "closed\nnot there\nseat 15: 65, seat 3: 0, all: 65, entries: 0, clients: 64, volume: 100\nclosed\nOK MPD 0.23.0\n",
-    )?;
-    Ok(all)
-}
-
-#[test]
-fn a_sixty_fifth_client_is_closed(rt: HostRuntime) -> Result<(), Fail> {
-    wants_made(crowd(rt.alloc()), crowd_tells(rt.alloc()))
+    );
+    told.into_text()
 }
 
 /// What is told where 63 clients wait for a change of the queue, and another makes one.
 fn waiting_crowd(alloc: Global) -> Result<String, AllocError> {
-    let come = numbered(alloc, "comes ", 1, "")?;
-    let wait = numbered(alloc, "", 2, " idle playlist")?;
-    let steps = format!(in alloc; "{come}{wait}1 add a.wav\n")?;
-    session(alloc, steps.as_str())
+    let mut steps = Told::new(alloc);
+    add_numbered(&mut steps, "comes ", 1, "");
+    add_numbered(&mut steps, "", 2, " idle playlist");
+    steps.add("1 add a.wav\n");
+    session(alloc, steps.into_text()?.as_str())
 }
 
 fn waiting_crowd_tells(alloc: Global) -> Result<String, AllocError> {
-    let greetings = greetings(alloc)?;
-    let waits = "waits\n".repeat(alloc, 63)?;
-    let notices = numbered(alloc, "", 2, ": changed: playlist")?;
-    format!(in alloc; "{greetings}{waits}OK\n{notices}")
+    let mut told = Told::new(alloc);
+    add_times(&mut told, "OK MPD 0.23.0\n", 64);
+    add_times(&mut told, "waits\n", 63);
+    told.add("OK\n");
+    add_numbered(&mut told, "", 2, ": changed: playlist");
+    told.into_text()
 }
 
+/// A sixty-fifth client is closed, and all are told at once.
 #[test]
-fn all_clients_are_told_at_once(rt: HostRuntime) -> Result<(), Fail> {
+fn the_most_clients(rt: HostRuntime) -> Result<(), Fail> {
+    wants_made(crowd(rt.alloc()), crowd_tells(rt.alloc()))?;
     wants_made(waiting_crowd(rt.alloc()), waiting_crowd_tells(rt.alloc()))
 }
 
@@ -291,12 +281,6 @@ list_OK
 list_OK
 ACK [5@2] {} unknown command \"nosuch\"
 ";
-
-#[test]
-fn an_answer_in_a_list_has_no_ok(rt: HostRuntime) -> Result<(), Fail> {
-    wants(session(rt.alloc(), PLAIN_LIST), PLAIN_LIST_TELLS)?;
-    wants(session(rt.alloc(), OK_LIST), OK_LIST_TELLS)
-}
 
 /// Four songs, two of which are in a folder.
 const FOUR: &str = "a.wav
@@ -345,11 +329,6 @@ Id: 1
 OK
 ";
 
-#[test]
-fn a_list_keeps_songs_that_are_gone(rt: HostRuntime) -> Result<(), Fail> {
-    wants(session_over(rt.alloc(), FOUR, GONE_SONGS), GONE_SONGS_TELL)
-}
-
 const WITH_LEAVE: &str = "comes 1
 1 notcommands
 with_leave notcommands";
@@ -360,8 +339,13 @@ OK
 OK
 ";
 
+/// An answer in a list has no `OK`, a stored list keeps songs that are gone, and `kill` is among the commands
+/// with leave.
 #[test]
-fn kill_is_among_the_commands_with_leave(rt: HostRuntime) -> Result<(), Fail> {
+fn answers_in_lists_and_with_leave(rt: HostRuntime) -> Result<(), Fail> {
+    wants(session(rt.alloc(), PLAIN_LIST), PLAIN_LIST_TELLS)?;
+    wants(session(rt.alloc(), OK_LIST), OK_LIST_TELLS)?;
+    wants(session_over(rt.alloc(), FOUR, GONE_SONGS), GONE_SONGS_TELL)?;
     wants(session(rt.alloc(), WITH_LEAVE), WITH_LEAVE_TELLS)
 }
 

@@ -1,17 +1,31 @@
 //! The longest queue and the longest stored playlist.
 use crate::session::session;
+use crate::sessions::add_times;
 use std::alloc::{AllocError, Global};
 use std::test::Fail;
-use wanted::wants_made;
+use wanted::{Told, wants_made};
 
-/// Steps after which the queue has 16,384 entries: it is saved and loaded 14 times, and so doubles each time.
-pub(crate) fn doubling(alloc: Global) -> Result<String, AllocError> {
-    let mut all = String::from_str(alloc, "comes 1\n1 add a.wav\n")?;
+/// Adds steps after which the queue has 16,384 entries: it is saved and loaded 14 times, and so doubles each
+/// time.
+pub(crate) fn add_doubling(steps: &mut Told) {
+    steps.add("comes 1\n1 add a.wav\n");
     for number in 0..14u32 {
-        let steps = format!(in alloc; "1 save p{number}\n1 load p{number}\n")?;
-        all.push_str(steps.as_str())?;
+        steps.add(format_args!("1 save p{number}\n1 load p{number}\n"));
     }
-    Ok(all)
+}
+
+/// Adds what they tell.
+pub(crate) fn add_doubled(told: &mut Told) {
+    told.add("OK MPD 0.23.0\n");
+    add_times(told, "OK\n", 29);
+}
+
+/// What these steps tell after those.
+fn doubled(alloc: Global, after: &str) -> Result<String, AllocError> {
+    let mut steps = Told::new(alloc);
+    add_doubling(&mut steps);
+    steps.add(after);
+    session(alloc, steps.into_text()?.as_str())
 }
 
 const LONGEST: &str = "show counts
@@ -44,20 +58,11 @@ OK
 ACK [2@0] {load} bad song index
 ";
 
-fn longest(alloc: Global) -> Result<String, AllocError> {
-    let doubling = doubling(alloc)?;
-    let steps = format!(in alloc; "{doubling}{LONGEST}")?;
-    session(alloc, steps.as_str())
-}
-
 fn longest_tells(alloc: Global) -> Result<String, AllocError> {
-    let doubled = "OK\n".repeat(alloc, 29)?;
-    format!(in alloc; "OK MPD 0.23.0\n{doubled}{LONGEST_TELLS}")
-}
-
-#[test]
-fn the_longest_queue_is_saved_and_loaded(rt: HostRuntime) -> Result<(), Fail> {
-    wants_made(longest(rt.alloc()), longest_tells(rt.alloc()))
+    let mut told = Told::new(alloc);
+    add_doubled(&mut told);
+    told.add(LONGEST_TELLS);
+    told.into_text()
 }
 
 const FULL_LIST: &str = "1 save full
@@ -82,19 +87,19 @@ OK
 ACK [2@0] {playlistmove} bad song index
 ";
 
-fn full_list(alloc: Global) -> Result<String, AllocError> {
-    let doubling = doubling(alloc)?;
-    let steps = format!(in alloc; "{doubling}{FULL_LIST}")?;
-    session(alloc, steps.as_str())
-}
-
 fn full_list_tells(alloc: Global) -> Result<String, AllocError> {
-    let doubled = "OK\n".repeat(alloc, 29)?;
-    let files = "file: a.wav\n".repeat(alloc, 16_384)?;
-    format!(in alloc; "OK MPD 0.23.0\n{doubled}{FULL_LIST_TELLS}{files}OK\n")
+    let mut told = Told::new(alloc);
+    add_doubled(&mut told);
+    told.add(FULL_LIST_TELLS);
+    add_times(&mut told, "file: a.wav\n", 16_384);
+    told.add("OK\n");
+    told.into_text()
 }
 
+/// The longest queue is saved and loaded, and the longest list takes no more.
 #[test]
-fn the_longest_list_takes_no_more(rt: HostRuntime) -> Result<(), Fail> {
-    wants_made(full_list(rt.alloc()), full_list_tells(rt.alloc()))
+fn the_longest_queue_and_list(rt: HostRuntime) -> Result<(), Fail> {
+    let alloc = rt.alloc();
+    wants_made(doubled(alloc, LONGEST), longest_tells(alloc))?;
+    wants_made(doubled(alloc, FULL_LIST), full_list_tells(alloc))
 }

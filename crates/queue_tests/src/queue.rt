@@ -116,17 +116,6 @@ bad index 5 2 stays
  1@0 2@1
 ";
 
-#[test]
-fn the_laws_do_nothing() {
-    edits_follow_past();
-    ids_are_distinct();
-    ids_never_return();
-    parity_tells_changes();
-    pasts_keep_queues();
-    patches_give_present();
-    states_follow_pasts();
-}
-
 /// A block has 256 slots: both edits go over the border of two.
 const BORDER: &str = "insert 0 600
 remove 255 257
@@ -191,5 +180,12 @@ const ROWS: &[Row<'_>] = &[
 
 #[test]
 fn each_row_is_told(rt: HostRuntime) -> Result<(), Fail> {
+    edits_follow_past();
+    ids_are_distinct();
+    ids_never_return();
+    parity_tells_changes();
+    pasts_keep_queues();
+    patches_give_present();
+    states_follow_pasts();
     check_rows(rt.alloc(), ROWS)
 }

@@ -8,7 +8,7 @@ use song_queue::{Queue, QueueFault};
 use std::alloc::{AllocError, Global};
 use std::ops::Range;
 use std::test::Fail;
-use wanted::wants;
+use wanted::{Told, wants};
 
 fn songs(alloc: Global, count: usize) -> Result<Vec<SharedSong>, AllocError> {
     let mut songs = Vec::new(alloc);
@@ -29,23 +29,21 @@ fn word_of(answer: Result<(), QueueFault>) -> &'static str {
     }
 }
 
-/// What is answered to an insertion of so many songs.
+/// What is answered to an insertion of so many songs. That there are no songs is kept.
 fn insert(
+    all: &mut Told,
     queue: &mut Queue,
     alloc: Global,
     at: usize,
     count: usize,
-) -> Result<&'static str, AllocError> {
-    let songs = songs(alloc, count)?;
-    Ok(word_of(queue.insert(at, songs)))
-}
-
-/// Puts so many songs into an empty queue, one by one.
-fn insert_each(queue: &mut Queue, alloc: Global, count: usize) -> Result<(), AllocError> {
-    for at in 0..count {
-        let _ok = insert(queue, alloc, at, 1)?;
+) -> &'static str {
+    match songs(alloc, count) {
+        Ok(songs) => word_of(queue.insert(at, songs)),
+        Err(_) => {
+            all.fail();
+            "no songs"
+        }
     }
-    Ok(())
 }
 
 /// The range of two numbers with a colon between them.
@@ -67,11 +65,17 @@ fn ranges(alloc: Global, text: &str) -> Result<Vec<Range<usize>>, AllocError> {
     Ok(ranges)
 }
 
-fn prioritize(queue: &mut Queue, alloc: Global, rest: &str) -> Result<&'static str, AllocError> {
+/// What is answered to a priority for ranges. That there are no ranges is kept.
+fn prioritize(all: &mut Told, queue: &mut Queue, alloc: Global, rest: &str) -> &'static str {
     let (priority, rest) = first_word(rest);
-    let ranges = ranges(alloc, rest)?;
     let priority = (number_of(priority) % 256) as u8;
-    Ok(word_of(queue.set_prio(ranges.as_slice(), priority)))
+    match ranges(alloc, rest) {
+        Ok(ranges) => word_of(queue.set_prio(ranges.as_slice(), priority)),
+        Err(_) => {
+            all.fail();
+            "no ranges"
+        }
+    }
 }
 
 /// The first three numbers of a text; 0 for each that is not there.
@@ -89,56 +93,48 @@ fn three_numbers(text: &str) -> (usize, usize, usize) {
 /// What is answered to an edit, by its word: `insert` at a place so many, `remove` from a place to one,
 /// `swap` a place and another, `move` from a place to one to a place, and `prio` of a priority and any number
 /// of ranges.
-fn edit(
-    queue: &mut Queue,
-    alloc: Global,
-    word: &str,
-    rest: &str,
-) -> Result<&'static str, AllocError> {
+fn edit(all: &mut Told, queue: &mut Queue, alloc: Global, word: &str, rest: &str) -> &'static str {
     let (first, second, third) = three_numbers(rest);
     match word {
-        "insert" => insert(queue, alloc, first, second),
-        "remove" => Ok(word_of(queue.remove(first..second))),
-        "swap" => Ok(word_of(queue.swap(first, second))),
-        "move" => Ok(word_of(queue.move_range(first..second, third))),
-        _ => prioritize(queue, alloc, rest),
+        "insert" => insert(all, queue, alloc, first, second),
+        "remove" => word_of(queue.remove(first..second)),
+        "swap" => word_of(queue.swap(first, second)),
+        "move" => word_of(queue.move_range(first..second, third)),
+        _ => prioritize(all, queue, alloc, rest),
     }
 }
 
 /// Adds places, with a space before each; of many how many these are, and the first and the last.
-fn add_places(all: &mut String, places: &[usize]) -> Result<(), AllocError> {
-    if places.len() > 100 {
-        let count = places.len();
-        let (first, last) = (nth(places, 0), nth(places, count.saturating_sub(1)));
-        return all.write_fmt(format_args!(" {count} places from {first} to {last}"));
+fn add_places(all: &mut Told, places: &[usize]) {
+    let (Some(first), Some(last)) = (places.first(), places.last()) else {
+        return;
+    };
+    let count = places.len();
+    if count > 100 {
+        return all.add(format_args!(" {count} places from {first} to {last}"));
     }
     for place in places {
-        all.write_fmt(format_args!(" {place}"))?;
-    }
-    Ok(())
-}
-
-fn nth(places: &[usize], at: usize) -> usize {
-    match places.get(at) {
-        Some(place) => *place,
-        None => 0,
+        all.add(format_args!(" {place}"));
     }
 }
 
 /// Adds the places that changed since a version.
-fn add_changed(all: &mut String, queue: &Queue, since: u32) -> Result<(), AllocError> {
-    add_places(all, queue.changed_since(since)?.as_slice())
+fn add_changed(all: &mut Told, queue: &Queue, since: u32) {
+    match queue.changed_since(since) {
+        Ok(places) => add_places(all, places.as_slice()),
+        Err(_) => all.fail(),
+    }
 }
 
 /// Adds an answer, the version, the length, and whether the parity was flipped.
-fn add_note(all: &mut String, queue: &Queue, answer: &str, parity: bool) -> Result<(), AllocError> {
+fn add_note(all: &mut Told, queue: &Queue, answer: &str, parity: bool) {
     let (version, len) = (queue.version(), queue.len());
     let flipped = if queue.parity() == parity {
         "stays"
     } else {
         "flips"
     };
-    all.write_fmt(format_args!("{answer} {version} {len} {flipped}"))
+    all.add(format_args!("{answer} {version} {len} {flipped}"));
 }
 
 /// Whether a place is told of: each, or those at the ends and in the middle of a queue of 16,384.
@@ -146,72 +142,51 @@ fn is_told(place: usize, len: usize) -> bool {
     len <= 100 || place <= 1 || place == 8_191 || place == 8_192 || place == 16_383
 }
 
-/// Adds the ids and priorities at the places.
-fn add_entries(all: &mut String, queue: &Queue) -> Result<(), AllocError> {
-    let len = queue.len();
+/// Adds an answer, the version and the parity, each entry's id and priority, and the places that changed since
+/// a version.
+fn add_whole(all: &mut Told, queue: &Queue, answer: &str, since: u32) {
+    let (version, parity, len) = (queue.version(), queue.parity(), queue.len());
+    all.add(format_args!("{answer} {version} {parity}:"));
     for place in 0..len {
         if is_told(place, len) {
             let (id, priority) = entry(queue, place);
-            all.write_fmt(format_args!(" {id}/{priority}"))?;
+            all.add(format_args!(" {id}/{priority}"));
         }
     }
-    Ok(())
-}
-
-/// Adds an answer, the version and the parity, each entry's id and priority, and the places that changed since
-/// a version.
-fn add_whole(all: &mut String, queue: &Queue, answer: &str, since: u32) -> Result<(), AllocError> {
-    let (version, parity) = (queue.version(), queue.parity());
-    all.write_fmt(format_args!("{answer} {version} {parity}:"))?;
-    add_entries(all, queue)?;
-    all.push_str(" new:")?;
-    add_changed(all, queue, since)
+    all.add(" new:");
+    add_changed(all, queue, since);
 }
 
 /// Adds what an edit answers and leaves.
-fn add_edit(
-    all: &mut String,
-    queue: &mut Queue,
-    alloc: Global,
-    line: &str,
-    is_whole: bool,
-) -> Result<(), AllocError> {
+fn add_edit(all: &mut Told, queue: &mut Queue, alloc: Global, line: &str, is_whole: bool) {
     let (word, rest) = first_word(line);
     let (version, parity) = (queue.version(), queue.parity());
-    let answer = edit(queue, alloc, word, rest)?;
+    let answer = edit(all, queue, alloc, word, rest);
     if is_whole {
-        add_whole(all, queue, answer, version)
+        add_whole(all, queue, answer, version);
     } else {
-        add_note(all, queue, answer, parity)
+        add_note(all, queue, answer, parity);
     }
 }
 
 /// Adds the place of an id, or that it is at none.
-fn add_place(all: &mut String, queue: &Queue, id: u32) -> Result<(), AllocError> {
+fn add_place(all: &mut Told, queue: &Queue, id: u32) {
     match queue.position_of(id) {
-        Some(place) => all.write_fmt(format_args!("{place}")),
-        None => all.push_str("nowhere"),
+        Some(place) => all.add(place),
+        None => all.add("nowhere"),
     }
 }
 
 /// Adds the id at a place, and the place that is found for it, after a space.
-fn add_id(all: &mut String, queue: &Queue, place: usize) -> Result<(), AllocError> {
+fn add_id(all: &mut Told, queue: &Queue, place: usize) {
     let (id, _) = entry(queue, place);
-    all.write_fmt(format_args!(" {id}@"))?;
-    add_place(all, queue, id)
+    all.add(format_args!(" {id}@"));
+    add_place(all, queue, id);
 }
 
-/// The same from place to place.
-fn add_ids(all: &mut String, queue: &Queue) -> Result<(), AllocError> {
-    for place in 0..queue.len() {
-        add_id(all, queue, place)?;
-    }
-    Ok(())
-}
-
-/// Adds what is shown where a step asks for it: `ids`, or, with a number, `new` or `whole` since a version,
-/// `place` or `id`.
-fn show(all: &mut String, queue: &Queue, rest: &str) -> Result<(), AllocError> {
+/// Adds what is shown where a step asks for it: `ids`, from place to place, or, with a number, `new` or `whole`
+/// since a version, `place` or `id`.
+fn show(all: &mut Told, queue: &Queue, rest: &str) {
     let (what, number) = first_word(rest);
     let number = number_of(number);
     match what {
@@ -219,36 +194,25 @@ fn show(all: &mut String, queue: &Queue, rest: &str) -> Result<(), AllocError> {
         "whole" => add_whole(all, queue, "shown", number),
         "place" => add_place(all, queue, number),
         "id" => add_id(all, queue, number as usize),
-        _ => add_ids(all, queue),
+        _ => {
+            for place in 0..queue.len() {
+                add_id(all, queue, place);
+            }
+        }
     }
 }
 
-/// Adds what a step tells: an edit, alone or after `whole`, or `show` and what is asked for.
-fn add_step(
-    all: &mut String,
-    queue: &mut Queue,
-    alloc: Global,
-    line: &str,
-) -> Result<(), AllocError> {
-    let (word, rest) = first_word(line);
-    match word {
-        "show" => show(all, queue, rest),
-        "whole" => add_edit(all, queue, alloc, rest, true),
-        _ => add_edit(all, queue, alloc, line, false),
-    }
-}
-
-fn add_steps(
-    all: &mut String,
-    queue: &mut Queue,
-    alloc: Global,
-    steps: &str,
-) -> Result<(), AllocError> {
+/// Adds what each step tells: an edit, alone or after `whole`, or `show` and what is asked for.
+fn add_steps(all: &mut Told, queue: &mut Queue, alloc: Global, steps: &str) {
     for line in steps.lines() {
-        add_step(all, queue, alloc, line)?;
-        all.push('\n')?;
+        let (word, rest) = first_word(line);
+        match word {
+            "show" => show(all, queue, rest),
+            "whole" => add_edit(all, queue, alloc, rest, true),
+            _ => add_edit(all, queue, alloc, line, false),
+        }
+        all.add("\n");
     }
-    Ok(())
 }
 
 /// The most entries, the greatest version and the greatest id of a queue; how many songs were added to it one
@@ -257,23 +221,16 @@ pub type Row<'a> = ((usize, u32, u32), usize, &'a str, &'a str);
 
 pub const GREATEST: (usize, u32, u32) = (16_384, 2_147_483_647, 2_147_483_647);
 
-fn fill_and_step(
-    all: &mut String,
-    queue: &mut Queue,
-    alloc: Global,
-    count: usize,
-    steps: &str,
-) -> Result<(), AllocError> {
-    insert_each(queue, alloc, count)?;
-    add_steps(all, queue, alloc, steps)
-}
-
+/// What the steps of a row tell, after so many songs were put into the empty queue, one by one.
 fn told(alloc: Global, row: &Row<'_>) -> Result<String, AllocError> {
     let ((max_len, max_version, max_id), count, steps, _) = *row;
-    let mut all = String::new(alloc);
+    let mut all = Told::new(alloc);
     let mut queue = Queue::new(alloc, max_len, max_version.max(1), max_id);
-    fill_and_step(&mut all, &mut queue, alloc, count, steps)?;
-    Ok(all)
+    for at in 0..count {
+        let _ok = insert(&mut all, &mut queue, alloc, at, 1);
+    }
+    add_steps(&mut all, &mut queue, alloc, steps);
+    all.into_text()
 }
 
 /// Fails where the steps of a row tell something else.

@@ -8,7 +8,7 @@ use std::os::unix::fs::symlink;
 use std::rt::Files;
 use std::test::Fail;
 use std::{fs, io};
-use wanted::wants;
+use wanted::{Told, wants};
 
 /// 24 bits, one channel, a title, and a data size past the file's end: two frames at 8,000 a second.
 pub const WAVE: [u8; 75] =
@@ -102,15 +102,15 @@ where
 
 fn add_scanned<R: Files + AllocGlobal + Clone + Drop>(
     rt: &R,
-    told: &mut String,
+    told: &mut Told,
     folder: &str,
     frames: u32,
-) -> Result<(), AllocError>
+)
 where
     R::File: ReadSeek,
 {
-    add_scan(told, &scanned(rt, folder, frames))?;
-    told.push_str("\n")
+    add_scan(told, &scanned(rt, folder, frames));
+    told.add("\n");
 }
 
 /// Counts what it is told of.
@@ -159,13 +159,13 @@ fn told_of_scans<R: Files + AllocGlobal + Clone + Drop>(rt: &R) -> Result<String
 where
     R::File: ReadSeek,
 {
-    let mut told = String::new(rt.alloc());
+    let mut told = Told::new(rt.alloc());
     for (folder, frames) in SCANS.iter() {
-        add_scanned(rt, &mut told, folder, *frames)?;
+        add_scanned(rt, &mut told, folder, *frames);
     }
     let names = names_in(rt, "made/watched");
-    told.write_fmt(format_args!("{names} names"))?;
-    Ok(told)
+    told.add(format_args!("{names} names"));
+    told.into_text()
 }
 
 fn told_of_made<R: Files + AllocGlobal + Clone + Drop>(rt: &R) -> io::Result<String>
@@ -176,12 +176,6 @@ where
     let told = told_of_scans(rt)?;
     fs::remove_dir_all(rt, "made")?;
     Ok(told)
-}
-
-/// Each kind of file; links; a file sixteen folders down, and one deeper; and how many names are seen.
-#[test]
-fn made_folders(rt: HostRuntime) -> Result<(), Fail> {
-    wants(told_of_made(&rt), SCANS_TELL)
 }
 
 /// The name of a folder of 200 bytes.
@@ -229,10 +223,12 @@ where
     Ok(told)
 }
 
-/// 300 folders side by side, each with a song; a folder that leads back to itself, whose song is found at each
+/// Each kind of file; links; a file sixteen folders down, and one deeper; and how many names are seen. Then 300
+/// folders side by side, each with a song; a folder that leads back to itself, whose song is found at each
 /// depth from 1 to 16; and the longest URI.
 #[test]
-fn a_large_folder(rt: HostRuntime) -> Result<(), Fail> {
+fn made_folders(rt: HostRuntime) -> Result<(), Fail> {
+    wants(told_of_made(&rt), SCANS_TELL)?;
     wants(
         told_of_large(&rt),
         "317 songs, the last of 1024 bytes, 0 refused",

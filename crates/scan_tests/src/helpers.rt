@@ -4,6 +4,7 @@
 use library_scan::{ScanFault, Scanned};
 use mpd_text::{Song, Tag, TagName};
 use std::alloc::{AllocError, Global};
+use wanted::Told;
 
 /// A song of this URI, so many frames, and one tag, its artist.
 pub fn song(alloc: Global, uri: &str, frames: u64, artist: &str) -> Result<Song, AllocError> {
@@ -18,23 +19,22 @@ pub fn song(alloc: Global, uri: &str, frames: u64, artist: &str) -> Result<Song,
 
 /// Adds the songs of a scan with their frames and how many tags they have, then the files that are none with
 /// their refusals; or why there is no scan.
-pub fn add_scan(told: &mut String, scanned: &Result<Scanned, ScanFault>) -> Result<(), AllocError> {
+pub fn add_scan(told: &mut Told, scanned: &Result<Scanned, ScanFault>) {
     match scanned {
         Ok(scanned) => add_found(told, scanned),
-        Err(fault) => told.write_fmt(format_args!("{fault:?} ")),
+        Err(fault) => told.add(format_args!("{fault:?} ")),
     }
 }
 
-fn add_found(told: &mut String, scanned: &Scanned) -> Result<(), AllocError> {
+fn add_found(told: &mut Told, scanned: &Scanned) {
     for song in &scanned.songs {
         let (uri, frames, tags) = (song.uri(), song.frames(), song.tags().len());
-        told.write_fmt(format_args!("{uri}={frames}+{tags} "))?;
+        told.add(format_args!("{uri}={frames}+{tags} "));
     }
     for file in &scanned.refused {
         let (uri, name) = (file.uri.as_str(), file.refusal.name());
-        told.write_fmt(format_args!("{uri}:{name} "))?;
+        told.add(format_args!("{uri}:{name} "));
     }
-    Ok(())
 }
 
 /// How many songs a scan found, how long the URI of the last is, and how many files are none; or why there is

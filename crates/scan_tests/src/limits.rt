@@ -7,7 +7,7 @@ use mpd_text::Text;
 use song_db::Rate;
 use std::alloc::{AllocError, Global};
 use std::test::Fail;
-use wanted::wants;
+use wanted::{Told, wants};
 
 /// One folder of so many songs, each of one frame.
 #[derive(Drop)]
@@ -75,23 +75,25 @@ fn the_most_songs(rt: HostRuntime) -> Result<(), Fail> {
 }
 
 /// Adds what is kept of the worked file where a call of its device fails.
-fn add_kept(told: &mut String, alloc: Global, point: FailurePoint) -> Result<(), AllocError> {
-    let mut bytes = Vec::new(alloc);
-    bytes.extend_from_slice(&WAVE)?;
-    match content_of(alloc, &mut FailAt::new(bytes, point), &Rate::lowest())? {
-        Content::Song(_, frames) => told.write_fmt(format_args!("{frames} frames ")),
-        Content::Refused(refusal) => told.write_fmt(format_args!("{refusal:?} ")),
-        Content::Empty => told.push_str("Empty "),
+fn add_kept(told: &mut Told, alloc: Global, point: FailurePoint) {
+    let Ok(bytes) = Vec::from_slice(alloc, &WAVE) else {
+        return told.fail();
+    };
+    match content_of(alloc, &mut FailAt::new(bytes, point), &Rate::lowest()) {
+        Ok(Content::Song(_, frames)) => told.add(format_args!("{frames} frames ")),
+        Ok(Content::Refused(refusal)) => told.add(format_args!("{refusal:?} ")),
+        Ok(Content::Empty) => told.add("Empty "),
+        Err(_) => told.fail(),
     }
 }
 
 fn kept(alloc: Global) -> Result<String, AllocError> {
-    let mut told = String::new(alloc);
+    let mut told = Told::new(alloc);
     for call in 1..6u64 {
-        add_kept(&mut told, alloc, FailurePoint::Call(call))?;
+        add_kept(&mut told, alloc, FailurePoint::Call(call));
     }
-    add_kept(&mut told, alloc, FailurePoint::Never)?;
-    Ok(told)
+    add_kept(&mut told, alloc, FailurePoint::Never);
+    told.into_text()
 }
 
 /// Each of the five calls fails, and then none.

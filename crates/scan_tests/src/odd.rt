@@ -11,7 +11,7 @@ use std::io::ErrorKind;
 use std::rt::Files;
 use std::test::Fail;
 use std::{fs, io};
-use wanted::wants;
+use wanted::{Told, wants};
 
 /// What a folder tells; the second has a folder below it whose listing breaks off after its first name.
 const ODD: &[u8] = b"a.wav\0\xff.wav\0shut.wav\0far.wav\0b.wav\0broken\0gone\0c.wav\0";
@@ -29,9 +29,7 @@ struct Odd<'a, R> {
 
 impl<R: Files> Odd<'_, R> {
     fn listing(&self, names: &[u8], point: FailurePoint) -> io::Result<FailAt> {
-        let mut bytes = Vec::new(self.alloc);
-        bytes.extend_from_slice(names)?;
-        Ok(FailAt::new(bytes, point))
+        Ok(FailAt::new(Vec::from_slice(self.alloc, names)?, point))
     }
 }
 
@@ -100,12 +98,7 @@ fn far() -> [u8; 75] {
     bytes
 }
 
-fn add_odd<R: Files + Clone + Drop>(
-    rt: &R,
-    alloc: Global,
-    told: &mut String,
-    folder: &str,
-) -> Result<(), AllocError>
+fn add_odd<R: Files + Clone + Drop>(rt: &R, alloc: Global, told: &mut Told, folder: &str)
 where
     R::File: ReadSeek,
 {
@@ -113,18 +106,18 @@ where
     add_scan(
         told,
         &scan(&fake, alloc, folder, &Rate::lowest(), &mut Unwatched),
-    )
+    );
 }
 
-fn told_of_odd<R: Files + Clone + Drop>(rt: &R, alloc: Global) -> io::Result<String>
+fn told_of_odd<R: Files + Clone + Drop>(rt: &R, alloc: Global) -> Result<String, AllocError>
 where
     R::File: ReadSeek,
 {
-    let mut told = String::new(alloc);
-    add_odd(rt, alloc, &mut told, "odd")?;
-    add_odd(rt, alloc, &mut told, "odd/broken")?;
-    add_odd(rt, alloc, &mut told, "odd/gone")?;
-    Ok(told)
+    let mut told = Told::new(alloc);
+    add_odd(rt, alloc, &mut told, "odd");
+    add_odd(rt, alloc, &mut told, "odd/broken");
+    add_odd(rt, alloc, &mut told, "odd/gone");
+    told.into_text()
 }
 
 fn told<R: Files + AllocGlobal + Clone + Drop>(rt: &R) -> io::Result<String>

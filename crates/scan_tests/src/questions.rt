@@ -8,7 +8,7 @@ use song_db::{Db, Rate, SharedSong};
 use song_search::{counted, find, is_folder, list_folder, under};
 use std::alloc::{AllocError, Global};
 use std::test::Fail;
-use wanted::wants;
+use wanted::{Told, wants};
 
 /// Songs in folders: their URIs, frames and artists. The folder `a` comes before `a-b`, though `a-b/y.wav`
 /// comes before `a/x.wav`.
@@ -64,72 +64,63 @@ fn uri_of<'a>(song: Option<&'a SharedSong>) -> &'a str {
     }
 }
 
-fn add_found(
-    told: &mut String,
-    alloc: Global,
-    db: &Db,
-    filter: &Filter,
-    case: Case,
-) -> Result<(), AllocError> {
-    let songs = find(alloc, db, filter, case)?;
-    let first = uri_of(songs.first().copied());
-    let last = uri_of(songs.last().copied());
-    let count = songs.len();
-    told.write_fmt(format_args!("{count} {first} {last} | "))
-}
-
-fn add_count(told: &mut String, db: &Db, filter: &Filter) -> Result<(), AllocError> {
-    let count = counted(db, filter, &Rate::lowest());
-    let (songs, seconds) = (count.songs, count.seconds);
-    told.write_fmt(format_args!("{songs} {seconds}\n"))
+/// Adds how many songs meet a filter, and the first and the last of them.
+fn add_found(told: &mut Told, alloc: Global, db: &Db, filter: &Filter, case: Case) {
+    match find(alloc, db, filter, case) {
+        Ok(songs) => {
+            let first = uri_of(songs.first().copied());
+            let last = uri_of(songs.last().copied());
+            let count = songs.len();
+            told.add(format_args!("{count} {first} {last} | "));
+        }
+        Err(_) => told.fail(),
+    }
 }
 
 /// Adds the songs that meet a filter, the same where the case of letters does not count, and how many they are
 /// with their seconds.
-fn add_filter(told: &mut String, alloc: Global, db: &Db, text: &str) -> Result<(), AllocError> {
+fn add_filter(told: &mut Told, alloc: Global, db: &Db, text: &str) {
     let Ok(filter) = Filter::parse(alloc, text, Vocabulary::Base) else {
-        return Err(AllocError);
+        return told.fail();
     };
-    add_found(told, alloc, db, &filter, Case::Heeded)?;
-    add_found(told, alloc, db, &filter, Case::Ignored)?;
-    add_count(told, db, &filter)
+    add_found(told, alloc, db, &filter, Case::Heeded);
+    add_found(told, alloc, db, &filter, Case::Ignored);
+    let count = counted(db, &filter, &Rate::lowest());
+    told.add(format_args!("{} {}\n", count.songs, count.seconds));
 }
 
-fn add_songs_under(told: &mut String, db: &Db, folder: &str) -> Result<(), AllocError> {
-    let is_one = is_folder(db, folder);
-    let songs = under(db, folder);
-    let (count, first, last) = (songs.len(), uri_of(songs.first()), uri_of(songs.last()));
-    told.write_fmt(format_args!("{is_one} | {count} {first} {last} | "))
-}
-
-fn add_listing(told: &mut String, alloc: Global, db: &Db, folder: &str) -> Result<(), AllocError> {
-    let listing = list_folder(alloc, db, folder)?;
+/// Adds the folders and the songs right in a folder.
+fn add_listing(told: &mut Told, alloc: Global, db: &Db, folder: &str) {
+    let Ok(listing) = list_folder(alloc, db, folder) else {
+        return told.fail();
+    };
     let (folders, songs) = (listing.folders.len(), listing.songs.len());
     let first_folder = listing.folders.first().copied().unwrap_or("-");
     let last_folder = listing.folders.last().copied().unwrap_or("-");
     let first = uri_of(listing.songs.first().copied());
     let last = uri_of(listing.songs.last().copied());
-    told.write_fmt(format_args!(
-        "{folders} {first_folder} {last_folder} | {songs} {first} {last}\n"
-    ))
+    told.add(format_args!("{folders} {first_folder} {last_folder} | {songs} {first} {last}\n"));
 }
 
 /// Adds whether there is such a folder, the songs below it, and the folders and the songs right in it.
-fn add_folder(told: &mut String, alloc: Global, db: &Db, folder: &str) -> Result<(), AllocError> {
-    add_songs_under(told, db, folder)?;
-    add_listing(told, alloc, db, folder)
+fn add_folder(told: &mut Told, alloc: Global, db: &Db, folder: &str) {
+    let is_one = is_folder(db, folder);
+    let songs = under(db, folder);
+    let (count, first, last) = (songs.len(), uri_of(songs.first()), uri_of(songs.last()));
+    told.add(format_args!("{is_one} | {count} {first} {last} | "));
+    add_listing(told, alloc, db, folder);
 }
 
 /// What is told of filters, one a line, and then of folders.
 fn answers(alloc: Global, db: &Db, filters: &str, folders: &str) -> Result<String, AllocError> {
-    let mut told = String::new(alloc);
+    let mut told = Told::new(alloc);
     for filter in filters.split('\n') {
-        add_filter(&mut told, alloc, db, filter)?;
+        add_filter(&mut told, alloc, db, filter);
     }
     for folder in folders.split('\n') {
-        add_folder(&mut told, alloc, db, folder)?;
+        add_folder(&mut told, alloc, db, folder);
     }
-    Ok(told)
+    told.into_text()
 }
 
 const FILTERS: &str = "(Artist == 'Zoe')
@@ -178,11 +169,6 @@ fn told_of_small(alloc: Global) -> Result<String, AllocError> {
     answers(alloc, &small(alloc)?, FILTERS, FOLDERS)
 }
 
-#[test]
-fn a_small_library(rt: HostRuntime) -> Result<(), Fail> {
-    wants(told_of_small(rt.alloc()), SMALL_TELLS)
-}
-
 // At 8,000 a second 2^64-1 frames are 2305843009213693951 thousandths, cut, of each song.
 const GREATEST_TELLS: &str =
     "100000 000/000000.wav 099/099999.wav | 100000 000/000000.wav 099/099999.wav | 100000 230584300921369395100
@@ -202,6 +188,7 @@ fn told_of_greatest(alloc: Global) -> Result<String, AllocError> {
 }
 
 #[test]
-fn the_greatest_library(rt: HostRuntime) -> Result<(), Fail> {
+fn a_small_library_and_the_greatest(rt: HostRuntime) -> Result<(), Fail> {
+    wants(told_of_small(rt.alloc()), SMALL_TELLS)?;
     wants(told_of_greatest(rt.alloc()), GREATEST_TELLS)
 }

@@ -44,11 +44,7 @@ fn report(alloc: Global) -> Result<String, AllocError> {
     format!(in alloc; "{songs}{refused}")
 }
 
-#[test]
-fn a_report(rt: HostRuntime) -> Result<(), Fail> {
-    wants(
-        report(rt.alloc()),
-        "file: a/x.wav
+const REPORT: &str = "file: a/x.wav
 Artist: Hi
 Time: 2
 duration: 1.500
@@ -58,18 +54,17 @@ Time: 0
 duration: 0.001
 c.wav: NotRiff
 d.wav: ReadFault
-",
-    )
-}
+";
 
 fn found(alloc: Global, uris: &str) -> Result<String, AllocError> {
     found_text(alloc, &scanned(alloc, uris)?)
 }
 
-/// How many songs were found: of reasons as common the first is told, else the commonest, and none where all
+/// A report. How many songs were found: of reasons as common the first is told, else the commonest, and none where all
 /// are songs. At which rate they are, and how fast names were looked at.
 #[test]
 fn what_is_told(rt: HostRuntime) -> Result<(), Fail> {
+    wants(report(rt.alloc()), REPORT)?;
     wants(
         found(rt.alloc(), "c.wav\nd.wav"),
         "2 songs, 2 files are none (NotRiff 1)",

@@ -1,8 +1,8 @@
 //! Texts as settings.
-use settings::{OutputSettings, Settings, SettingsFault, settings};
+use settings::{Settings, SettingsFault, settings};
 use std::alloc::{AllocError, Global};
 use std::test::Fail;
-use wanted::wants;
+use wanted::{Told, wants};
 
 /// The settings that a text says, or the key for which it is refused.
 fn told(alloc: Global, before: &str, lines: &str) -> Result<String, AllocError> {
@@ -15,20 +15,23 @@ fn told(alloc: Global, before: &str, lines: &str) -> Result<String, AllocError> 
 }
 
 fn line_of(alloc: Global, settings: &Settings) -> Result<String, AllocError> {
-    let mut line = String::new(alloc);
-    add_settings(&mut line, settings)?;
-    add_outputs(&mut line, settings.outputs.as_slice())?;
-    Ok(line)
+    let mut line = Told::new(alloc);
+    add_settings(&mut line, settings);
+    for output in &settings.outputs {
+        let (name, path, enabled) = (output.name.as_str(), output.path.as_str(), output.enabled);
+        line.add(format_args!(" {name}={path}:{enabled}"));
+    }
+    line.into_text()
 }
 
-fn add_settings(line: &mut String, settings: &Settings) -> Result<(), AllocError> {
+fn add_settings(line: &mut Told, settings: &Settings) {
     let (music, listen) = (settings.music.as_str(), settings.listen.as_str());
     let (shelf, state) = (path_of(&settings.shelf), path_of(&settings.state));
     let (rate, start) = (settings.rate.frames(), settings.random_start);
     let (history, ring, kill) = (settings.history, settings.ring, settings.kill);
-    line.write_fmt(format_args!(
+    line.add(format_args!(
         "{music} {listen} {shelf} {state} {rate} {start} {history} {ring} {kill}"
-    ))
+    ));
 }
 
 fn path_of(path: &Option<String>) -> &str {
@@ -36,14 +39,6 @@ fn path_of(path: &Option<String>) -> &str {
         Some(path) => path.as_str(),
         None => "-",
     }
-}
-
-fn add_outputs(line: &mut String, outputs: &[OutputSettings]) -> Result<(), AllocError> {
-    for output in outputs {
-        let (name, path, enabled) = (output.name.as_str(), output.path.as_str(), output.enabled);
-        line.write_fmt(format_args!(" {name}={path}:{enabled}"))?;
-    }
-    Ok(())
 }
 
 /// The lines of a text, and after `=>` what they come to.
@@ -179,12 +174,6 @@ path = \"/a\"
 enabled = 1
 => BadSetting(output)";
 
-/// What is added to the keys that must be there.
-#[test]
-fn added_keys(rt: HostRuntime) -> Result<(), Fail> {
-    each_comes_to(rt.alloc(), NEEDED, ADDED)
-}
-
 const WHOLE: &str = "music = \"/m\"
 => BadSetting(listen)
 
@@ -216,19 +205,17 @@ listen = \"\"
 music = \"\"
 =>   - - 44100 0 4096 8192 false";
 
-#[test]
-fn whole_texts(rt: HostRuntime) -> Result<(), Fail> {
-    each_comes_to(rt.alloc(), "", WHOLE)
-}
-
 const OUTPUT: &str = "[[output]]\nname = \"a\"\npath = \"/a\"\n";
 
 fn told_of_outputs(alloc: Global, count: usize) -> Result<String, AllocError> {
     told(alloc, NEEDED, OUTPUT.repeat(alloc, count)?.as_str())
 }
 
+/// What is added to the keys that must be there, whole texts, and the most outputs.
 #[test]
-fn most_outputs(rt: HostRuntime) -> Result<(), Fail> {
+fn texts_as_settings(rt: HostRuntime) -> Result<(), Fail> {
+    each_comes_to(rt.alloc(), NEEDED, ADDED)?;
+    each_comes_to(rt.alloc(), "", WHOLE)?;
     wants(
         told_of_outputs(rt.alloc(), 8),
         "/m 127.0.0.1:0 - - 44100 0 4096 8192 false a=/a:true a=/a:true a=/a:true a=/a:true a=/a:true a=/a:true a=/a:true a=/a:true",

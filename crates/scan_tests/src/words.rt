@@ -84,14 +84,6 @@ fn comes_to(alloc: Global, pair: &str) -> Result<(), Fail> {
     wants(first_line_told(alloc, line), wanted)
 }
 
-#[test]
-fn lines(rt: HostRuntime) -> Result<(), Fail> {
-    for pair in LINES.lines() {
-        comes_to(rt.alloc(), pair)?;
-    }
-    Ok(())
-}
-
 const HELP: &str = "0: A Music Player Daemon for PCM libraries
 
 Usage: music_daemon <COMMAND>
@@ -138,9 +130,12 @@ Options:
   -h, --help  Print help
 ";
 
-/// The whole help texts, in the layout of clap 4.
+/// Lines, and the whole help texts, in the layout of clap 4.
 #[test]
-fn helps(rt: HostRuntime) -> Result<(), Fail> {
+fn command_lines(rt: HostRuntime) -> Result<(), Fail> {
+    for pair in LINES.lines() {
+        comes_to(rt.alloc(), pair)?;
+    }
     wants(told(rt.alloc(), "music_daemon --help"), HELP)?;
     wants(told(rt.alloc(), "music_daemon serve --help"), SERVE_HELP)?;
     wants(told(rt.alloc(), "music_daemon scan --help"), SCAN_HELP)?;

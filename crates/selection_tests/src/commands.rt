@@ -9,25 +9,23 @@ use selections::{
 };
 use std::alloc::{AllocError, Global};
 use std::test::Fail;
-use wanted::wants;
+use wanted::{Told, wants};
 
 /// The lines again, which have words of a command with `|` between them, ` => `, and what is wanted of it, with
 /// what is told of it.
 fn told_of(alloc: Global, lines: &str) -> Result<String, AllocError> {
-    let mut told = String::new(alloc);
+    let mut told = Told::new(alloc);
     for line in lines.lines() {
-        tell_line(&mut told, alloc, line)?;
+        let (given, _) = line.split_once(" => ").unwrap_or((line, ""));
+        told.add(format_args!("{given} => "));
+        let (name, rest) = given.split_once('|').unwrap_or((given, ""));
+        match words(alloc, rest) {
+            Ok(words) => tell(&mut told, alloc, name, &words),
+            Err(_) => told.fail(),
+        }
+        told.add("\n");
     }
-    Ok(told)
-}
-
-fn tell_line(told: &mut String, alloc: Global, line: &str) -> Result<(), AllocError> {
-    let (given, _) = line.split_once(" => ").unwrap_or((line, ""));
-    told.write_fmt(format_args!("{given} => "))?;
-    let (name, rest) = given.split_once('|').unwrap_or((given, ""));
-    let words = words(alloc, rest)?;
-    tell(told, alloc, name, &words)?;
-    told.push('\n')
+    told.into_text()
 }
 
 fn words(alloc: Global, text: &str) -> Result<Vec<String>, AllocError> {
@@ -40,7 +38,7 @@ fn words(alloc: Global, text: &str) -> Result<Vec<String>, AllocError> {
     Ok(words)
 }
 
-fn tell(told: &mut String, alloc: Global, name: &str, words: &[String]) -> Result<(), AllocError> {
+fn tell(told: &mut Told, alloc: Global, name: &str, words: &[String]) {
     match name {
         "find" => tell_selected(told, alloc, selection(alloc, true, words, Test::Equals)),
         "search" => tell_selected(told, alloc, selection(alloc, true, words, Test::Contains)),
@@ -66,11 +64,7 @@ fn tell(told: &mut String, alloc: Global, name: &str, words: &[String]) -> Resul
     }
 }
 
-fn tell_selected(
-    told: &mut String,
-    alloc: Global,
-    selected: Result<Selection, Misread>,
-) -> Result<(), AllocError> {
+fn tell_selected(told: &mut Told, alloc: Global, selected: Result<Selection, Misread>) {
     match selected {
         Ok(selection) => tell_selection(told, alloc, &selection),
         Err(misread) => tell_refused(told, misread),
@@ -78,127 +72,110 @@ fn tell_selected(
 }
 
 fn tell_placed(
-    told: &mut String,
+    told: &mut Told,
     alloc: Global,
     placed: Result<(Selection, Option<Place>), Misread>,
-) -> Result<(), AllocError> {
+) {
     match placed {
         Ok((selection, place)) => {
-            tell_selection(told, alloc, &selection)?;
-            tell_place(told, place)
+            tell_selection(told, alloc, &selection);
+            tell_place(told, place);
         }
         Err(misread) => tell_refused(told, misread),
     }
 }
 
-fn tell_named(told: &mut String, alloc: Global, words: &[String]) -> Result<(), AllocError> {
+fn tell_named(told: &mut Told, alloc: Global, words: &[String]) {
     match name_selection(alloc, words, Test::Contains) {
         Ok((name, selection)) => {
-            told.write_fmt(format_args!("{}: ", name.as_str()))?;
-            tell_selection(told, alloc, &selection)
+            told.add(format_args!("{}: ", name.as_str()));
+            tell_selection(told, alloc, &selection);
         }
         Err(misread) => tell_refused(told, misread),
     }
 }
 
-fn tell_listed(told: &mut String, alloc: Global, words: &[String]) -> Result<(), AllocError> {
+fn tell_listed(told: &mut Told, alloc: Global, words: &[String]) {
     match grouping(alloc, true, words) {
-        Ok(grouping) => tell_grouping(told, alloc, &grouping),
+        Ok(grouping) => {
+            for tag in grouping.tags.items() {
+                told.add(format_args!("{} ", tag.text()));
+            }
+            tell_perhaps_wanted(told, alloc, &grouping.wanted);
+        }
         Err(misread) => tell_refused(told, misread),
     }
 }
 
-fn tell_counted(told: &mut String, alloc: Global, words: &[String]) -> Result<(), AllocError> {
+fn tell_counted(told: &mut Told, alloc: Global, words: &[String]) {
     match counting(alloc, true, words) {
-        Ok(counting) => tell_counting(told, alloc, &counting),
+        Ok(counting) => {
+            tell_perhaps_wanted(told, alloc, &counting.wanted);
+            if let Some(tag) = counting.group {
+                told.add(format_args!(" by {}", tag.text()));
+            }
+        }
         Err(misread) => tell_refused(told, misread),
     }
 }
 
-fn tell_refused(told: &mut String, misread: Misread) -> Result<(), AllocError> {
+fn tell_refused(told: &mut Told, misread: Misread) {
     match misread {
-        Misread::WrongNumber => told.push_str("wrong number"),
-        Misread::Bad(word) => told.write_fmt(format_args!("bad {}", word.as_str())),
-        Misread::NoMemory => told.push_str("no memory"),
+        Misread::WrongNumber => told.add("wrong number"),
+        Misread::Bad(word) => told.add(format_args!("bad {}", word.as_str())),
+        Misread::NoMemory => told.add("no memory"),
     }
 }
 
-fn tell_selection(
-    told: &mut String,
-    alloc: Global,
-    selection: &Selection,
-) -> Result<(), AllocError> {
-    tell_wanted(told, alloc, &selection.wanted)?;
+fn tell_selection(told: &mut Told, alloc: Global, selection: &Selection) {
+    tell_wanted(told, alloc, &selection.wanted);
     if let Some(sort) = selection.sort {
         let way = if sort.falling { "falling" } else { "rising" };
-        told.write_fmt(format_args!(" {way} {}", sort.tag.text()))?;
+        told.add(format_args!(" {way} {}", sort.tag.text()));
     }
     if let Some(window) = selection.window {
-        told.write_fmt(format_args!(" {}:{}", window.start, window.end))?;
+        told.add(format_args!(" {}:{}", window.start, window.end));
     }
-    Ok(())
 }
 
-fn tell_place(told: &mut String, place: Option<Place>) -> Result<(), AllocError> {
+fn tell_place(told: &mut Told, place: Option<Place>) {
     match place {
-        Some(Place::At(n)) => told.write_fmt(format_args!(" at {n}")),
-        Some(Place::After(n)) => told.write_fmt(format_args!(" after {n}")),
-        Some(Place::Before(n)) => told.write_fmt(format_args!(" before {n}")),
-        None => Ok(()),
+        Some(Place::At(n)) => told.add(format_args!(" at {n}")),
+        Some(Place::After(n)) => told.add(format_args!(" after {n}")),
+        Some(Place::Before(n)) => told.add(format_args!(" before {n}")),
+        None => {}
     }
 }
 
-fn tell_grouping(told: &mut String, alloc: Global, grouping: &Grouping) -> Result<(), AllocError> {
-    for tag in grouping.tags.items() {
-        told.write_fmt(format_args!("{} ", tag.text()))?;
-    }
-    tell_perhaps_wanted(told, alloc, &grouping.wanted)
-}
-
-fn tell_counting(told: &mut String, alloc: Global, counting: &Counting) -> Result<(), AllocError> {
-    tell_perhaps_wanted(told, alloc, &counting.wanted)?;
-    match counting.group {
-        Some(tag) => told.write_fmt(format_args!(" by {}", tag.text())),
-        None => Ok(()),
-    }
-}
-
-fn tell_perhaps_wanted(
-    told: &mut String,
-    alloc: Global,
-    wanted: &Option<Wanted>,
-) -> Result<(), AllocError> {
+fn tell_perhaps_wanted(told: &mut Told, alloc: Global, wanted: &Option<Wanted>) {
     match wanted {
         Some(wanted) => tell_wanted(told, alloc, wanted),
-        None => told.push_str("all"),
+        None => told.add("all"),
     }
 }
 
 /// Adds a letter for each of two songs that meets a filter, `b` and `o`.
-fn tell_wanted(told: &mut String, alloc: Global, wanted: &Wanted) -> Result<(), AllocError> {
+fn tell_wanted(told: &mut Told, alloc: Global, wanted: &Wanted) {
     match wanted {
         Wanted::Meeting(filter) => {
-            told.push_str("songs ")?;
-            tell_song(told, alloc, filter, "b", "Zo\u{eb}")?;
-            tell_song(told, alloc, filter, "o", "Olm")
+            told.add("songs ");
+            tell_song(told, alloc, filter, "b", "Zo\u{eb}");
+            tell_song(told, alloc, filter, "o", "Olm");
         }
-        Wanted::Refused(text) => told.push_str(text.as_str()),
+        Wanted::Refused(text) => told.add(text.as_str()),
     }
 }
 
-fn tell_song(
-    told: &mut String,
-    alloc: Global,
-    filter: &Filter,
-    uri: &str,
-    artist: &str,
-) -> Result<(), AllocError> {
+fn tell_song(told: &mut Told, alloc: Global, filter: &Filter, uri: &str, artist: &str) {
     let tags = &[(TagName::Artist, artist), (TagName::Album, "One")];
-    let song = song(alloc, uri, tags, 16_000)?;
-    if filter.matches(&song, Case::Heeded)? {
-        return told.push_str(uri);
+    let Ok(song) = song(alloc, uri, tags, 16_000) else {
+        return told.fail();
+    };
+    match filter.matches(&song, Case::Heeded) {
+        Ok(true) => told.add(uri),
+        Ok(false) => {}
+        Err(_) => told.fail(),
     }
-    Ok(())
 }
 
 const FIND_AND_SEARCH: &str = "find|artist|Zo\u{eb} => songs b
@@ -268,15 +245,6 @@ base findadd|artist|x|window|0:1 => unknown tag \"window\"
 base findadd|artist|x|more => wrong number
 ";
 
-#[test]
-fn selected_songs(rt: HostRuntime) -> Result<(), Fail> {
-    options_are_read_from_the_right();
-    wants(told_of(rt.alloc(), FIND_AND_SEARCH), FIND_AND_SEARCH)?;
-    wants(told_of(rt.alloc(), FIND_REFUSES), FIND_REFUSES)?;
-    wants(told_of(rt.alloc(), QUEUE), QUEUE)?;
-    wants(told_of(rt.alloc(), BASE), BASE)
-}
-
 const LIST_GROUPS: &str = "list|Title => Title all
 list|title|artist|Olm => Title songs o
 list|title|group|Artist => Title Artist all
@@ -322,14 +290,6 @@ count|group|a|group|artist => unknown tag \"group\" by Artist
 count|nosuch|x|group|artist => unknown tag \"nosuch\" by Artist
 ";
 
-#[test]
-fn groups(rt: HostRuntime) -> Result<(), Fail> {
-    no_tag_is_there_twice();
-    wants(told_of(rt.alloc(), LIST_GROUPS), LIST_GROUPS)?;
-    wants(told_of(rt.alloc(), LIST_ALBUMS), LIST_ALBUMS)?;
-    wants(told_of(rt.alloc(), COUNT), COUNT)
-}
-
 // A line has 64 words after its command: all 31 tags, which are 61 words, and 30, 29 and 31 pairs with options.
 const MOST_WORDS: &str =
     "list|Artist|group|ArtistSort|group|Album|group|AlbumSort|group|AlbumArtist|group|AlbumArtistSort|group|\
@@ -362,7 +322,24 @@ Album => songs bo by Album
 find|album|One|window|0:4294967296 => bad 0:4294967296
 ";
 
+const TABLES: &[&str] = &[
+    FIND_AND_SEARCH,
+    FIND_REFUSES,
+    QUEUE,
+    BASE,
+    LIST_GROUPS,
+    LIST_ALBUMS,
+    COUNT,
+    MOST_WORDS,
+];
+
 #[test]
-fn the_most_words(rt: HostRuntime) -> Result<(), Fail> {
-    wants(told_of(rt.alloc(), MOST_WORDS), MOST_WORDS)
+fn what_words_ask_for(rt: HostRuntime) -> Result<(), Fail> {
+    options_are_read_from_the_right();
+    no_tag_is_there_twice();
+    let alloc = rt.alloc();
+    for table in TABLES {
+        wants(told_of(alloc, table), table)?;
+    }
+    Ok(())
 }

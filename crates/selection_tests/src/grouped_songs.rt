@@ -5,7 +5,7 @@ use song_db::{Db, Rate, SharedSong};
 use song_groups::{count_groups, distinct, order, push_counts, push_tuples, tuples};
 use std::alloc::{AllocError, Global};
 use std::test::Fail;
-use wanted::{wants, wants_made};
+use wanted::{Told, wants, wants_made};
 
 /// The URI of a song, its frames and its tags.
 type Given = (&'static str, u64, Tags);
@@ -18,6 +18,9 @@ type List = (&'static [&'static str], &'static [Option<TagName>]);
 
 /// The label and the tag of a count.
 type Count = (&'static str, Option<TagName>);
+
+/// The orders, the lists and the counts that are told of a library.
+type Asked = (&'static [Order], &'static [List], &'static [Count]);
 
 fn library(alloc: Global, given: &[Given]) -> Result<Db, AllocError> {
     let mut songs = Vec::new(alloc);
@@ -73,24 +76,20 @@ fn tell_texts(told: &mut Answer, alloc: Global, db: &Db) -> Result<(), AllocErro
 }
 
 /// What is told of a library: some orders, lists and counts, and how many texts there are.
-fn told_of(
-    alloc: Global,
-    db: &Db,
-    orders: &[Order],
-    lists: &[List],
-    counts: &[Count],
-) -> Result<String, AllocError> {
+fn told_of(alloc: Global, db: Result<Db, AllocError>, asked: &Asked) -> Result<String, AllocError> {
+    let db = db?;
+    let (orders, lists, counts) = *asked;
     let mut told = Answer::new(alloc);
     for order in orders {
-        tell_order(&mut told, alloc, db, order)?;
+        tell_order(&mut told, alloc, &db, order)?;
     }
     for list in lists {
-        tell_list(&mut told, alloc, db, list)?;
+        tell_list(&mut told, alloc, &db, list)?;
     }
     for count in counts {
-        tell_count(&mut told, alloc, db, count)?;
+        tell_count(&mut told, alloc, &db, count)?;
     }
-    tell_texts(&mut told, alloc, db)?;
+    tell_texts(&mut told, alloc, &db)?;
     Ok(told.into_string())
 }
 
@@ -149,35 +148,23 @@ albums: 0
 ";
 
 // A song has no track: a list has no line then, and a count one group.
-fn rows(alloc: Global) -> Result<String, AllocError> {
-    told_of(
-        alloc,
-        &library(alloc, ROWS)?,
-        &[
-            (Some(TagName::Artist), false),
-            (Some(TagName::Artist), true),
-            (None, true),
-        ],
-        &[
-            (
-                &["AlbumArtist", "Title"],
-                &[Some(TagName::Artist), Some(TagName::Title)],
-            ),
-            (&["Track"], &[None]),
-        ],
-        &[("Artist", Some(TagName::Artist)), ("Track", None)],
-    )
-}
+const ROWS_ASKED: Asked = (
+    &[
+        (Some(TagName::Artist), false),
+        (Some(TagName::Artist), true),
+        (None, true),
+    ],
+    &[
+        (
+            &["AlbumArtist", "Title"],
+            &[Some(TagName::Artist), Some(TagName::Title)],
+        ),
+        (&["Track"], &[None]),
+    ],
+    &[("Artist", Some(TagName::Artist)), ("Track", None)],
+);
 
-fn no_songs(alloc: Global) -> Result<String, AllocError> {
-    told_of(
-        alloc,
-        &library(alloc, &[])?,
-        &[],
-        &[],
-        &[("Artist", Some(TagName::Artist))],
-    )
-}
+const NO_SONGS_ASKED: Asked = (&[], &[], &[("Artist", Some(TagName::Artist))]);
 
 /// Two artists have an album of one name; one title is there twice; a song has no title, and one no album.
 const ALBUMS: &[Given] = &[
@@ -267,29 +254,18 @@ artists: 4
 albums: 3
 ";
 
-fn albums(alloc: Global) -> Result<String, AllocError> {
-    told_of(
-        alloc,
-        &library(alloc, ALBUMS)?,
-        &[(Some(TagName::Album), true)],
-        &[(
-            &["Artist", "Album", "Title"],
-            &[
-                Some(TagName::Artist),
-                Some(TagName::Album),
-                Some(TagName::Title),
-            ],
-        )],
-        &[],
-    )
-}
-
-#[test]
-fn small_libraries(rt: HostRuntime) -> Result<(), Fail> {
-    wants(rows(rt.alloc()), ROWS_TOLD)?;
-    wants(no_songs(rt.alloc()), "artists: 0\nalbums: 0\n")?;
-    wants(albums(rt.alloc()), ALBUMS_TOLD)
-}
+const ALBUMS_ASKED: Asked = (
+    &[(Some(TagName::Album), true)],
+    &[(
+        &["Artist", "Album", "Title"],
+        &[
+            Some(TagName::Artist),
+            Some(TagName::Album),
+            Some(TagName::Title),
+        ],
+    )],
+    &[],
+);
 
 /// Adds the song of a number: with the greatest number of frames, an artist of its own and one title.
 fn add_numbered(songs: &mut Vec<Song>, alloc: Global, number: u32) -> Result<(), AllocError> {
@@ -309,45 +285,47 @@ fn many(alloc: Global) -> Result<Db, AllocError> {
     Db::of_songs(alloc, songs).ok().ok_or(AllocError)
 }
 
-fn many_told(alloc: Global) -> Result<String, AllocError> {
-    told_of(
-        alloc,
-        &many(alloc)?,
-        &[(Some(TagName::Artist), true)],
-        &[(
-            &["Artist", "Title"],
-            &[Some(TagName::Artist), Some(TagName::Title)],
-        )],
-        &[
-            ("Artist", Some(TagName::Artist)),
-            ("Title", Some(TagName::Title)),
-        ],
-    )
-}
+const MANY_ASKED: Asked = (
+    &[(Some(TagName::Artist), true)],
+    &[(
+        &["Artist", "Title"],
+        &[Some(TagName::Artist), Some(TagName::Title)],
+    )],
+    &[
+        ("Artist", Some(TagName::Artist)),
+        ("Title", Some(TagName::Title)),
+    ],
+);
 
 /// The last artist is first. At 8,000 a second 2^64-1 frames are 2305843009213693951 thousandths, cut; and all
 /// songs are 300 times those thousandths.
 fn many_wanted(alloc: Global) -> Result<String, AllocError> {
-    let mut all = String::new(alloc);
+    let mut all = Told::new(alloc);
     for place in 0..300u32 {
         let number = 299u32.saturating_sub(place);
-        all.write_fmt(format_args!("song: {number:03}.wav\n"))?;
+        all.add(format_args!("song: {number:03}.wav\n"));
     }
     for number in 0..300u32 {
-        all.write_fmt(format_args!("Artist: Artist {number:03}\nTitle: One\n"))?;
+        all.add(format_args!("Artist: Artist {number:03}\nTitle: One\n"));
     }
     for number in 0..300u32 {
-        all.write_fmt(format_args!(
-            "Artist: Artist {number:03}\nsongs: 1\nplaytime: 2305843009213693\n"
-        ))?;
+        all.add(format_args!("Artist: Artist {number:03}\nsongs: 1\nplaytime: 2305843009213693\n"));
     }
-    all.push_str(
-        "Title: One\nsongs: 300\nplaytime: 691752902764108185\nartists: 300\nalbums: 0\n",
-    )?;
-    Ok(all)
+    all.add("Title: One\nsongs: 300\nplaytime: 691752902764108185\nartists: 300\nalbums: 0\n");
+    all.into_text()
 }
 
 #[test]
-fn three_hundred_artists(rt: HostRuntime) -> Result<(), Fail> {
-    wants_made(many_told(rt.alloc()), many_wanted(rt.alloc()))
+fn small_and_large_libraries(rt: HostRuntime) -> Result<(), Fail> {
+    let alloc = rt.alloc();
+    wants(told_of(alloc, library(alloc, ROWS), &ROWS_ASKED), ROWS_TOLD)?;
+    wants(
+        told_of(alloc, library(alloc, &[]), &NO_SONGS_ASKED),
+        "artists: 0\nalbums: 0\n",
+    )?;
+    wants(
+        told_of(alloc, library(alloc, ALBUMS), &ALBUMS_ASKED),
+        ALBUMS_TOLD,
+    )?;
+    wants_made(told_of(alloc, many(alloc), &MANY_ASKED), many_wanted(alloc))
 }

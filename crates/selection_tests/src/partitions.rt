@@ -9,7 +9,7 @@ use player_state::{Client, Outputs};
 use std::alloc::{AllocError, Global};
 use std::test::Fail;
 use transitions::{Asked, Move, Stand, Transition};
-use wanted::wants;
+use wanted::{Told, wants};
 
 /// The partitions of a daemon, and its two clients.
 #[derive(Drop)]
@@ -63,12 +63,7 @@ fn cross(parts: &mut Parts, crossing: Crossing) {
 }
 
 /// Does it, and adds what the client at this place is answered.
-fn tell_done(
-    told: &mut String,
-    daemon: &mut Daemon,
-    at: usize,
-    transition: Transition,
-) -> Result<(), AllocError> {
+fn tell_done(told: &mut Told, daemon: &mut Daemon, at: usize, transition: Transition) {
     let mut transition = transition;
     let crossing = std::mem::replace(&mut transition.crossing, Crossing::Stays);
     cross(&mut daemon.parts, crossing);
@@ -76,17 +71,17 @@ fn tell_done(
     if let Move::Enter(place) = response.moves() {
         daemon.clients[at.min(1)].place = place;
     }
-    told.push_str(response.into_reply().text())
+    told.add(response.into_reply().text());
 }
 
 fn tell_run(
-    told: &mut String,
+    told: &mut Told,
     alloc: Global,
     daemon: &mut Daemon,
     at: usize,
     name: Name,
     command: &PartitionCommand,
-) -> Result<(), AllocError> {
+) {
     let own = daemon.clients[at.min(1)].place;
     let asked = Asked {
         client: daemon.clients[at.min(1)].number,
@@ -94,7 +89,7 @@ fn tell_run(
         name,
         stand: Stand::Alone,
     };
-    let transition = run(
+    let done = run(
         alloc,
         &daemon.parts,
         &daemon.clients,
@@ -102,32 +97,31 @@ fn tell_run(
         asked,
         own,
         command,
-    )?;
-    tell_done(told, daemon, at, transition)
+    );
+    match done {
+        Ok(transition) => tell_done(told, daemon, at, transition),
+        Err(_) => told.fail(),
+    }
 }
 
 /// Adds what a line of the client at this place is answered.
-fn tell_answer(
-    told: &mut String,
-    alloc: Global,
-    daemon: &mut Daemon,
-    at: usize,
-    line: &str,
-) -> Result<(), AllocError> {
-    let request = Request::of_line(alloc, line, CommandSet::base())?;
+fn tell_answer(told: &mut Told, alloc: Global, daemon: &mut Daemon, at: usize, line: &str) {
+    let Ok(request) = Request::of_line(alloc, line, CommandSet::base()) else {
+        return told.fail();
+    };
     match &request {
         Request::Run(name, Command::Partitions(command)) => {
-            tell_run(told, alloc, daemon, at, *name, command)
+            tell_run(told, alloc, daemon, at, *name, command);
         }
-        _ => told.push_str("no command of partitions\n"),
+        _ => told.add("no command of partitions\n"),
     }
 }
 
 /// Adds where an output is, and how.
-fn tell_output(told: &mut String, parts: &Parts, output: usize) -> Result<(), AllocError> {
+fn tell_output(told: &mut Told, parts: &Parts, output: usize) {
     for part in parts.items() {
         if part.outputs.is_output(output) {
-            return told.write_fmt(format_args!(
+            return told.add(format_args!(
                 "in {}, on {}, moved {}\n",
                 part.place,
                 part.outputs.is_enabled(output),
@@ -135,92 +129,93 @@ fn tell_output(told: &mut String, parts: &Parts, output: usize) -> Result<(), Al
             ));
         }
     }
-    told.push_str("nowhere\n")
+    told.add("nowhere\n");
 }
 
 /// Adds where an output is, or the number of a partition.
-fn tell_seen(told: &mut String, parts: &Parts, word: &str) -> Result<(), AllocError> {
+fn tell_seen(told: &mut Told, parts: &Parts, word: &str) {
     match word {
         "0" => tell_output(told, parts, 0),
         "1" => tell_output(told, parts, 1),
         "2" => tell_output(told, parts, 2),
-        name => told.write_fmt(format_args!("{:?}\n", parts.place_named(name))),
+        name => told.add(format_args!("{:?}\n", parts.place_named(name))),
     }
 }
 
-/// Adds what a line of a client is answered, or what is there to be seen.
-fn tell_line(
-    told: &mut String,
-    alloc: Global,
-    daemon: &mut Daemon,
-    line: &str,
-) -> Result<(), AllocError> {
-    match line.split_once(' ') {
-        Some(("1", rest)) => tell_answer(told, alloc, daemon, 0, rest),
-        Some(("2", rest)) => tell_answer(told, alloc, daemon, 1, rest),
-        Some(("see", word)) => tell_seen(told, &daemon.parts, word),
-        _ => told.push_str("no line\n"),
-    }
-}
-
-/// What all lines are answered, one after the other.
+/// What each line of a client is answered, or what is there to be seen, one after the other.
 fn all_told(alloc: Global, lines: &str) -> Result<String, AllocError> {
     let mut daemon = opening(alloc)?;
-    let mut told = String::new(alloc);
+    let mut told = Told::new(alloc);
     for line in lines.lines() {
-        tell_line(&mut told, alloc, &mut daemon, line)?;
+        match line.split_once(' ') {
+            Some(("1", rest)) => tell_answer(&mut told, alloc, &mut daemon, 0, rest),
+            Some(("2", rest)) => tell_answer(&mut told, alloc, &mut daemon, 1, rest),
+            Some(("see", word)) => tell_seen(&mut told, &daemon.parts, word),
+            _ => told.add("no line\n"),
+        }
     }
-    Ok(told)
+    told.into_text()
 }
 
-#[test]
-fn names_are_refused_first(rt: HostRuntime) -> Result<(), Fail> {
-    let lines = "1 newpartition a.b\n1 newpartition \"\"\n1 partition \"x y\"\n1 delpartition é\n\
-        1 newpartition 0123456789abcdef0123456789ABCDEF0123456789_-cdef0123456789abcdef0\n\
-        1 newpartition 0123456789abcdef0123456789ABCDEF0123456789_-cdef0123456789abcdef\n\
-        1 delpartition 0123456789abcdef0123456789ABCDEF0123456789_-cdef0123456789abcdef\n";
-    let wanted = "ACK [2@0] {newpartition} bad name \"a.b\"\n\
-        ACK [2@0] {newpartition} bad name \"\"\n\
-        ACK [2@0] {partition} bad name \"x y\"\n\
-        ACK [2@0] {delpartition} bad name \"é\"\n\
-        ACK [2@0] {newpartition} bad name \"0123456789abcdef0123456789ABCDEF0123456789_-cdef0123456789abcdef0\"\n\
-        OK\nOK\n";
-    wants(all_told(rt.alloc(), lines), wanted)
-}
+/// Names are refused first.
+const REFUSED_NAMES: &str =
+    "1 newpartition a.b\n1 newpartition \"\"\n1 partition \"x y\"\n1 delpartition é\n\
+    1 newpartition 0123456789abcdef0123456789ABCDEF0123456789_-cdef0123456789abcdef0\n\
+    1 newpartition 0123456789abcdef0123456789ABCDEF0123456789_-cdef0123456789abcdef\n\
+    1 delpartition 0123456789abcdef0123456789ABCDEF0123456789_-cdef0123456789abcdef\n";
+
+const REFUSED_NAMES_TELL: &str = "ACK [2@0] {newpartition} bad name \"a.b\"\n\
+    ACK [2@0] {newpartition} bad name \"\"\n\
+    ACK [2@0] {partition} bad name \"x y\"\n\
+    ACK [2@0] {delpartition} bad name \"é\"\n\
+    ACK [2@0] {newpartition} bad name \"0123456789abcdef0123456789ABCDEF0123456789_-cdef0123456789abcdef0\"\n\
+    OK\nOK\n";
+
+/// Clients and outputs are in use.
+const IN_USE: &str =
+    "1 newpartition default\n1 newpartition k\n1 newpartition k\n1 newpartition Z\n\
+    1 listpartitions\nsee k\nsee Z\n\
+    1 partition x\n1 partition default\n2 partition k\n\
+    1 delpartition x\n1 delpartition default\n1 delpartition k\n\
+    1 moveoutput nosuch\n2 moveoutput out0\n2 moveoutput out0\nsee 0\nsee 1\nsee 2\n\
+    2 partition default\n1 delpartition k\n1 moveoutput out0\nsee 0\n\
+    1 delpartition k\n1 delpartition k\n1 listpartitions\n1 newpartition b\nsee b\n";
+
+const IN_USE_TELLS: &str = "ACK [56@0] {newpartition} partition exists\nOK\n\
+    ACK [56@0] {newpartition} partition exists\nOK\n\
+    partition: Z\npartition: default\npartition: k\nOK\nSome(1)\nSome(2)\n\
+    ACK [50@0] {partition} no such partition\nOK\nOK\n\
+    ACK [50@0] {delpartition} no such partition\n\
+    ACK [2@0] {delpartition} partition is the default\n\
+    ACK [52@0] {delpartition} partition is in use\n\
+    ACK [50@0] {moveoutput} no such output\nOK\nOK\n\
+    in 1, on true, moved 1\nin 0, on false, moved 0\nin 0, on true, moved 0\n\
+    OK\nACK [52@0] {delpartition} partition is in use\nOK\nin 0, on true, moved 2\n\
+    OK\nACK [50@0] {delpartition} no such partition\n\
+    partition: Z\npartition: default\nOK\nOK\nSome(1)\n";
+
+/// Sixteen partitions are the most.
+const SIXTEEN: &str = "1 newpartition b\n1 newpartition c\n1 newpartition d\n1 newpartition e\n\
+    1 newpartition f\n1 newpartition g\n1 newpartition h\n1 newpartition i\n\
+    1 newpartition j\n1 newpartition k\n1 newpartition l\n1 newpartition m\n\
+    1 newpartition n\n1 newpartition o\n1 newpartition p\nsee p\n\
+    1 newpartition q\n1 newpartition p\n1 delpartition c\n1 newpartition q\nsee q\n";
+
+const SIXTEEN_TELL: &str = "OK\nOK\nOK\nOK\nOK\nOK\nOK\nOK\nOK\nOK\nOK\nOK\nOK\nOK\nOK\nSome(15)\n\
+    ACK [52@0] {newpartition} too many partitions\n\
+    ACK [56@0] {newpartition} partition exists\nOK\nOK\nSome(2)\n";
+
+/// Lines of a daemon that is just opened, and what is told of them.
+const SESSIONS: &[(&str, &str)] = &[
+    (REFUSED_NAMES, REFUSED_NAMES_TELL),
+    (IN_USE, IN_USE_TELLS),
+    (SIXTEEN, SIXTEEN_TELL),
+];
 
 #[test]
-fn clients_and_outputs_are_in_use(rt: HostRuntime) -> Result<(), Fail> {
-    let lines = "1 newpartition default\n1 newpartition k\n1 newpartition k\n1 newpartition Z\n\
-        1 listpartitions\nsee k\nsee Z\n\
-        1 partition x\n1 partition default\n2 partition k\n\
-        1 delpartition x\n1 delpartition default\n1 delpartition k\n\
-        1 moveoutput nosuch\n2 moveoutput out0\n2 moveoutput out0\nsee 0\nsee 1\nsee 2\n\
-        2 partition default\n1 delpartition k\n1 moveoutput out0\nsee 0\n\
-        1 delpartition k\n1 delpartition k\n1 listpartitions\n1 newpartition b\nsee b\n";
-    let wanted = "ACK [56@0] {newpartition} partition exists\nOK\n\
-        ACK [56@0] {newpartition} partition exists\nOK\n\
-        partition: Z\npartition: default\npartition: k\nOK\nSome(1)\nSome(2)\n\
-        ACK [50@0] {partition} no such partition\nOK\nOK\n\
-        ACK [50@0] {delpartition} no such partition\n\
-        ACK [2@0] {delpartition} partition is the default\n\
-        ACK [52@0] {delpartition} partition is in use\n\
-        ACK [50@0] {moveoutput} no such output\nOK\nOK\n\
-        in 1, on true, moved 1\nin 0, on false, moved 0\nin 0, on true, moved 0\n\
-        OK\nACK [52@0] {delpartition} partition is in use\nOK\nin 0, on true, moved 2\n\
-        OK\nACK [50@0] {delpartition} no such partition\n\
-        partition: Z\npartition: default\nOK\nOK\nSome(1)\n";
-    wants(all_told(rt.alloc(), lines), wanted)
-}
-
-#[test]
-fn sixteen_are_the_most(rt: HostRuntime) -> Result<(), Fail> {
-    let lines = "1 newpartition b\n1 newpartition c\n1 newpartition d\n1 newpartition e\n\
-        1 newpartition f\n1 newpartition g\n1 newpartition h\n1 newpartition i\n\
-        1 newpartition j\n1 newpartition k\n1 newpartition l\n1 newpartition m\n\
-        1 newpartition n\n1 newpartition o\n1 newpartition p\nsee p\n\
-        1 newpartition q\n1 newpartition p\n1 delpartition c\n1 newpartition q\nsee q\n";
-    let wanted = "OK\nOK\nOK\nOK\nOK\nOK\nOK\nOK\nOK\nOK\nOK\nOK\nOK\nOK\nOK\nSome(15)\n\
-        ACK [52@0] {newpartition} too many partitions\n\
-        ACK [56@0] {newpartition} partition exists\nOK\nOK\nSome(2)\n";
-    wants(all_told(rt.alloc(), lines), wanted)
+fn partitions_come_and_go(rt: HostRuntime) -> Result<(), Fail> {
+    for (lines, wanted) in SESSIONS {
+        wants(all_told(rt.alloc(), lines), wanted)?;
+    }
+    Ok(())
 }

@@ -9,7 +9,7 @@ use mpd_text::{Answer, Song, TAG_NAMES, TagName};
 use song_db::{Rate, SharedSong, push_song, texts_and_length_are_the_song};
 use std::alloc::{AllocError, Global};
 use std::test::Fail;
-use wanted::wants;
+use wanted::{Told, wants};
 
 /// The 31 names, in letters of which every second one is large.
 const ODD_WORDS: &str =
@@ -42,63 +42,45 @@ fn shown(name: Option<TagName>) -> &'static str {
 }
 
 /// Adds what a word names.
-fn tell_named(told: &mut String, word: &str) -> Result<(), AllocError> {
+fn tell_named(told: &mut Told, word: &str) {
     match KnownTag::of_word(word) {
-        Some(tag) => {
-            told.write_fmt(format_args!(
-                "{}:{}:{} ",
-                tag.text(),
-                shown(tag.read_as()),
-                shown(tag.base())
-            ))
-        }
-        None => told.push_str("none "),
+        Some(tag) => told.add(format_args!(
+            "{}:{}:{} ",
+            tag.text(),
+            shown(tag.read_as()),
+            shown(tag.base())
+        )),
+        None => told.add("none "),
     }
 }
 
 /// What each of some words names.
 fn named_told(alloc: Global, words: &str) -> Result<String, AllocError> {
-    let mut told = String::new(alloc);
+    let mut told = Told::new(alloc);
     for word in words.split_whitespace() {
-        tell_named(&mut told, word)?;
+        tell_named(&mut told, word);
     }
-    Ok(told)
+    told.into_text()
 }
 
 /// What each name names, in their order.
 fn names_told(alloc: Global) -> Result<String, AllocError> {
-    let mut told = String::new(alloc);
+    let mut told = Told::new(alloc);
     for tag in KNOWN_TAGS.iter() {
-        tell_named(&mut told, tag.text())?;
+        tell_named(&mut told, tag.text());
     }
-    Ok(told)
-}
-
-#[test]
-fn names(rt: HostRuntime) -> Result<(), Fail> {
-    each_name_is_read_back();
-    wants(named_told(rt.alloc(), ODD_WORDS), READ)?;
-    wants(names_told(rt.alloc()), READ)?;
-    let others = "Nosuch Art_ist Artis Artists any file MUSICBRAINZ_ARTIS\u{212a} Zo\u{eb}";
-    wants(
-        named_told(rt.alloc(), others),
-        "none none none none none none none none ",
-    )
-}
-
-fn tell_text(told: &mut String, tag: KnownTag, song: &Song) -> Result<(), AllocError> {
-    let text = tag.text_in(song);
-    told.write_fmt(format_args!("{} ", if text.is_empty() { "-" } else { text }))
+    told.into_text()
 }
 
 /// The text of each known tag in a song.
 fn texts_told(alloc: Global, given: Tags) -> Result<String, AllocError> {
     let song = song(alloc, "b.wav", given, 16_000)?;
-    let mut told = String::new(alloc);
+    let mut told = Told::new(alloc);
     for tag in KNOWN_TAGS.iter() {
-        tell_text(&mut told, *tag, &song)?;
+        let text = tag.text_in(&song);
+        told.add(format_args!("{} ", if text.is_empty() { "-" } else { text }));
     }
-    Ok(told)
+    told.into_text()
 }
 
 const SIX_TAGS: Tags = &[
@@ -112,44 +94,40 @@ const SIX_TAGS: Tags = &[
 ];
 
 #[test]
-fn a_song_has_texts_of_six_tags(rt: HostRuntime) -> Result<(), Fail> {
-    wants(texts_told(rt.alloc(), SIX_TAGS), TEXTS)
+fn names_and_texts(rt: HostRuntime) -> Result<(), Fail> {
+    each_name_is_read_back();
+    let alloc = rt.alloc();
+    wants(named_told(alloc, ODD_WORDS), READ)?;
+    wants(names_told(alloc), READ)?;
+    let others = "Nosuch Art_ist Artis Artists any file MUSICBRAINZ_ARTIS\u{212a} Zo\u{eb}";
+    wants(
+        named_told(alloc, others),
+        "none none none none none none none none ",
+    )?;
+    wants(texts_told(alloc, SIX_TAGS), TEXTS)
 }
 
 /// Adds a sign for each tag, `+` where the set has it.
-fn tell_held(told: &mut String, set: TagSet) -> Result<(), AllocError> {
+fn tell_held(told: &mut Told, set: TagSet) {
     for name in TAG_NAMES.iter() {
-        told.push(if set.holds(*name) { '+' } else { '-' })?;
+        told.add(if set.holds(*name) { "+" } else { "-" });
     }
-    told.push(' ')
+    told.add(" ");
 }
 
-/// Adds what sets hold to which this one tag was added, and from which it was taken away.
-fn tell_one(told: &mut String, name: TagName) -> Result<(), AllocError> {
-    let only = TagSet::empty().with(name);
-    let others = TagSet::all().without(name);
-    tell_held(told, only)?;
-    tell_held(told, others)?;
-    let is_whole = !others.is_all() && others.with(name).is_all();
-    let is_empty = only != others && only.without(name) == TagSet::empty();
-    told.write_fmt(format_args!("{is_whole} {is_empty}\n"))
-}
-
+/// For each tag, what sets hold to which this one was added, and from which it was taken away.
 fn all_told(alloc: Global) -> Result<String, AllocError> {
-    let mut told = String::new(alloc);
+    let mut told = Told::new(alloc);
     for name in TAG_NAMES.iter() {
-        tell_one(&mut told, *name)?;
+        let only = TagSet::empty().with(*name);
+        let others = TagSet::all().without(*name);
+        tell_held(&mut told, only);
+        tell_held(&mut told, others);
+        let is_whole = !others.is_all() && others.with(*name).is_all();
+        let is_empty = only != others && only.without(*name) == TagSet::empty();
+        told.add(format_args!("{is_whole} {is_empty}\n"));
     }
-    Ok(told)
-}
-
-#[test]
-fn one_tag_joins_and_leaves(rt: HostRuntime) -> Result<(), Fail> {
-    wants(
-        all_told(rt.alloc()),
-        "+----- -+++++ true true\n-+---- +-++++ true true\n--+--- ++-+++ true true\n\
-         ---+-- +++-++ true true\n----+- ++++-+ true true\n-----+ +++++- true true\n",
-    )
+    told.into_text()
 }
 
 /// The known tags that these words name.
@@ -164,7 +142,12 @@ fn named(alloc: Global, words: &str) -> Result<Vec<KnownTag>, AllocError> {
 }
 
 /// The lines of `tagtypes` of a set, and those of a song with the tags of the set, by itself and shared.
-fn set_told(alloc: Global, song: Song, set: TagSet) -> Result<String, AllocError> {
+fn set_told(
+    alloc: Global,
+    song: Result<Song, AllocError>,
+    set: TagSet,
+) -> Result<String, AllocError> {
+    let song = song?;
     let mut answer = Answer::new(alloc);
     push_tagtypes(&mut answer, set)?;
     push_song_with(&mut answer, &song, &Rate::lowest(), set)?;
@@ -180,17 +163,18 @@ fn bee(alloc: Global) -> Result<Song, AllocError> {
 }
 
 fn bee_told(alloc: Global, set: TagSet) -> Result<String, AllocError> {
-    set_told(alloc, bee(alloc)?, set)
+    set_told(alloc, bee(alloc), set)
 }
 
-fn enabled_told(alloc: Global, words: &str) -> Result<String, AllocError> {
+/// The same of an empty set that the named tags join, or of the set of all that they leave.
+fn changed_told(alloc: Global, words: &str, is_joined: bool) -> Result<String, AllocError> {
     let named = named(alloc, words)?;
-    bee_told(alloc, TagSet::empty().enable(&named))
-}
-
-fn disabled_told(alloc: Global, words: &str) -> Result<String, AllocError> {
-    let named = named(alloc, words)?;
-    bee_told(alloc, TagSet::all().disable(&named))
+    let set = if is_joined {
+        TagSet::empty().enable(&named)
+    } else {
+        TagSet::all().disable(&named)
+    };
+    bee_told(alloc, set)
 }
 
 /// The lines that show the whole song.
@@ -198,11 +182,6 @@ fn whole_told(alloc: Global) -> Result<String, AllocError> {
     let mut answer = Answer::new(alloc);
     push_song(&mut answer, &bee(alloc)?, &Rate::lowest())?;
     Ok(answer.into_string())
-}
-
-/// The longest song, which has no tags.
-fn longest_told(alloc: Global) -> Result<String, AllocError> {
-    set_told(alloc, song(alloc, "l.wav", &[], u64::MAX)?, TagSet::empty())
 }
 
 /// All 31 names.
@@ -247,41 +226,46 @@ Time: 2
 duration: 2.000
 ";
 
+/// Whether an empty set is joined or the set of all is left, by which words, and what is told then.
+const CHANGES: &[(bool, &str, &str)] = &[
+    (true, ALL_WORDS, ALL),
+    (false, ALL_WORDS, NONE),
+    (
+        true,
+        "Artist AlbumArtist Title Name Composer Performer",
+        "tagtype: Title\ntagtype: Artist\nfile: b.wav\nTitle: Bee\nArtist: Zo\u{eb}\nTime: 2\nduration: 2.000\n\
+         file: b.wav\nTitle: Bee\nArtist: Zo\u{eb}\nTime: 2\nduration: 2.000\n",
+    ),
+    (
+        false,
+        "genre ALBUM comment AlbumSort title",
+        "tagtype: Artist\ntagtype: Date\nfile: b.wav\nArtist: Zo\u{eb}\nTime: 2\nduration: 2.000\n\
+         file: b.wav\nArtist: Zo\u{eb}\nTime: 2\nduration: 2.000\n",
+    ),
+    (true, "AlbumArtist ArtistSort AlbumSort", NONE),
+    (false, "AlbumArtist ArtistSort AlbumSort", ALL),
+];
+
 #[test]
-fn all_and_none(rt: HostRuntime) -> Result<(), Fail> {
+fn sets_and_their_songs(rt: HostRuntime) -> Result<(), Fail> {
     all_tags_show_the_whole_song();
     texts_and_length_are_the_song();
     let alloc = rt.alloc();
+    wants(
+        all_told(alloc),
+        "+----- -+++++ true true\n-+---- +-++++ true true\n--+--- ++-+++ true true\n\
+         ---+-- +++-++ true true\n----+- ++++-+ true true\n-----+ +++++- true true\n",
+    )?;
     wants(whole_told(alloc), WHOLE)?;
     wants(bee_told(alloc, TagSet::all()), ALL)?;
     wants(bee_told(alloc, TagSet::empty()), NONE)?;
-    wants(enabled_told(alloc, ALL_WORDS), ALL)?;
-    wants(disabled_told(alloc, ALL_WORDS), NONE)
-}
-
-#[test]
-fn names_join_and_leave(rt: HostRuntime) -> Result<(), Fail> {
-    let alloc = rt.alloc();
-    wants(
-        enabled_told(alloc, "Artist AlbumArtist Title Name Composer Performer"),
-        "tagtype: Title\ntagtype: Artist\nfile: b.wav\nTitle: Bee\nArtist: Zo\u{eb}\nTime: 2\nduration: 2.000\n\
-         file: b.wav\nTitle: Bee\nArtist: Zo\u{eb}\nTime: 2\nduration: 2.000\n",
-    )?;
-    wants(
-        disabled_told(alloc, "genre ALBUM comment AlbumSort title"),
-        "tagtype: Artist\ntagtype: Date\nfile: b.wav\nArtist: Zo\u{eb}\nTime: 2\nduration: 2.000\n\
-         file: b.wav\nArtist: Zo\u{eb}\nTime: 2\nduration: 2.000\n",
-    )?;
-    let others = "AlbumArtist ArtistSort AlbumSort";
-    wants(enabled_told(alloc, others), NONE)?;
-    wants(disabled_told(alloc, others), ALL)
-}
-
-#[test]
-fn the_longest_song(rt: HostRuntime) -> Result<(), Fail> {
+    for (is_joined, words, wanted) in CHANGES {
+        wants(changed_told(alloc, words, *is_joined), wanted)?;
+    }
     // 18,446,744,073,709,551,615 frames, 8,000 a second, are 2,305,843,009,213,693.951875 seconds.
+    let longest = song(alloc, "l.wav", &[], u64::MAX);
     wants(
-        longest_told(rt.alloc()),
+        set_told(alloc, longest, TagSet::empty()),
         "file: l.wav\nTime: 2305843009213694\nduration: 2305843009213693.951\n\
          file: l.wav\nTime: 2305843009213694\nduration: 2305843009213693.951\n",
     )

@@ -2,11 +2,11 @@
 
 use shelf::ShelfFault;
 use shelf_database::SqlShelf;
-use shelf_tests::calls::wants;
 use shelf_tests::cases::{CASES, Case, look_at};
 use sqlite::{Connection, MemStore, params};
 use std::alloc::Global;
 use std::test::Fail;
+use wanted::{Told, wants};
 
 pub(crate) fn over(
     alloc: Global,
@@ -18,41 +18,47 @@ pub(crate) fn over(
     }
 }
 
-pub(crate) fn opened(alloc: Global) -> Result<SqlShelf<MemStore>, Fail> {
-    Ok(over(alloc, Connection::open_in_memory(alloc)?)?)
-}
-
-/// Here alone it is proved that this is a shelf: once, and not in each test.
-fn look_at_database(alloc: Global, shelf: &mut SqlShelf<MemStore>, case: Case) -> Result<(), Fail> {
-    look_at(alloc, shelf, case)
-}
-
-/// Looks at an empty shelf.
-fn look(alloc: Global, case: Case) -> Result<(), Fail> {
-    look_at_database(alloc, &mut opened(alloc)?, case)
-}
-
-#[test]
-fn every_case_over_a_database(rt: HostRuntime) -> Result<(), Fail> {
-    for case in CASES {
-        look(rt.alloc(), case)?;
-    }
-    Ok(())
-}
-
-/// A database in memory that these statements were run on.
+/// A database in memory, empty or with the tables of a shelf, that these statements were run on.
 pub(crate) fn after(
     alloc: Global,
     is_shelf: bool,
     statements: &str,
 ) -> Result<Connection<MemStore>, Fail> {
-    let mut connection = if is_shelf {
-        opened(alloc)?.into_connection()
-    } else {
-        Connection::open_in_memory(alloc)?
-    };
+    let mut connection = Connection::open_in_memory(alloc)?;
+    if is_shelf {
+        connection = over(alloc, connection)?.into_connection();
+    }
     connection.execute_batch(statements)?;
     Ok(connection)
+}
+
+/// Looks at a shelf in these cases, one after the other. Here alone it is proved that this is a shelf: once,
+/// and not in each test.
+fn look_at_database(
+    alloc: Global,
+    shelf: &mut SqlShelf<MemStore>,
+    cases: &[Case],
+) -> Result<(), Fail> {
+    for case in cases {
+        look_at(alloc, shelf, *case)?;
+    }
+    Ok(())
+}
+
+/// Looks at an empty shelf over a database that these statements were run on.
+fn look(alloc: Global, is_shelf: bool, statements: &str, cases: &[Case]) -> Result<(), Fail> {
+    let Ok(mut shelf) = over(alloc, after(alloc, is_shelf, statements)?) else {
+        return Err(Fail::new(statements));
+    };
+    look_at_database(alloc, &mut shelf, cases)
+}
+
+#[test]
+fn every_case_over_a_database(rt: HostRuntime) -> Result<(), Fail> {
+    for case in CASES.iter() {
+        look(rt.alloc(), false, "", &[*case])?;
+    }
+    Ok(())
 }
 
 /// What is run on the tables of a shelf, each line on its own, so that they are refused.
@@ -74,8 +80,8 @@ BEGIN";
 
 fn is_refused(alloc: Global, is_shelf: bool, statements: &str) -> Result<(), Fail> {
     match over(alloc, after(alloc, is_shelf, statements)?) {
-        Ok(_) => Err(Fail::new(statements)),
-        Err(fault) => wants(fault == ShelfFault::StoreFault, statements),
+        Err(ShelfFault::StoreFault) => Ok(()),
+        _ => Err(Fail::new(statements)),
     }
 }
 
@@ -92,12 +98,6 @@ fn other_tables_are_refused(rt: HostRuntime) -> Result<(), Fail> {
     are_refused(rt.alloc(), false, REFUSED_TABLES)
 }
 
-#[test]
-fn the_number_of_the_profile_is_taken(rt: HostRuntime) -> Result<(), Fail> {
-    let again = after(rt.alloc(), true, "UPDATE profile SET number = 2")?;
-    wants(over(rt.alloc(), again).is_ok(), "the profile's own number")
-}
-
 /// The profile's tables, made in another order.
 const OTHER_ORDER: &str =
     "CREATE TABLE note (kind TEXT NOT NULL, target TEXT NOT NULL, name TEXT NOT NULL, value TEXT NOT NULL, PRIMARY KEY (kind, target, name));
@@ -106,19 +106,30 @@ const OTHER_ORDER: &str =
     CREATE TABLE profile (one INTEGER PRIMARY KEY CHECK (one = 1), number INTEGER NOT NULL);
     INSERT INTO profile (one, number) VALUES (1, 2)";
 
-fn is_taken(alloc: Global, is_shelf: bool, statements: &str) -> Result<(), Fail> {
-    let Ok(mut shelf) = over(alloc, after(alloc, is_shelf, statements)?) else {
-        return Err(Fail::new(statements));
-    };
-    look_at_database(alloc, &mut shelf, Case::ListIsKept)?;
-    look_at_database(alloc, &mut shelf, Case::StickersRise)
-}
+/// The tables of profile 1, made in another order and with nothing in them.
+const EMPTY_FIRST_PROFILE: &str =
+    "CREATE TABLE sticker (uri TEXT NOT NULL, name TEXT NOT NULL, value TEXT NOT NULL, PRIMARY KEY (uri, name));
+    CREATE TABLE list (name TEXT NOT NULL PRIMARY KEY, uris TEXT NOT NULL);
+    CREATE TABLE profile (one INTEGER PRIMARY KEY CHECK (one = 1), number INTEGER NOT NULL);
+    INSERT INTO profile (one, number) VALUES (1, 1)";
+
+/// Whether there are tables of a shelf before, and what is run, so that an empty shelf is taken: the profile's
+/// own number, its tables in another order, an index or a table more, and tables of profile 1, which are moved.
+const TAKEN: [(bool, &str); 5] = [
+    (true, "UPDATE profile SET number = 2"),
+    (false, OTHER_ORDER),
+    (true, "CREATE INDEX by_value ON sticker (value)"),
+    (true, "CREATE TABLE other (a INTEGER)"),
+    (false, EMPTY_FIRST_PROFILE),
+];
 
 #[test]
-fn tables_in_another_order_are_taken(rt: HostRuntime) -> Result<(), Fail> {
-    is_taken(rt.alloc(), false, OTHER_ORDER)?;
-    is_taken(rt.alloc(), true, "CREATE INDEX by_value ON sticker (value)")?;
-    is_taken(rt.alloc(), true, "CREATE TABLE other (a INTEGER)")
+fn tables_of_a_shelf_are_taken(rt: HostRuntime) -> Result<(), Fail> {
+    let cases = [Case::ListIsKept, Case::StickersRise];
+    for (is_shelf, statements) in TAKEN.iter() {
+        look(rt.alloc(), *is_shelf, statements, &cases)?;
+    }
+    Ok(())
 }
 
 /// The tables of profile 1 as the release before made them, with one list and one sticker.
@@ -132,83 +143,71 @@ pub(crate) const FIRST_PROFILE: &str =
     INSERT INTO sticker (uri, name, value) VALUES ('a.wav', 'r', '5')";
 
 /// The number that the first row of a query shows.
-fn number_of(connection: &mut Connection<MemStore>, query: &str) -> Result<i64, Fail> {
-    let rows = connection.query_all(query, &[])?;
-    match rows.first() {
-        Some(row) => Ok(row.get::<i64>(0)?),
-        None => Err(Fail::new(query)),
+fn number_of(connection: &mut Connection<MemStore>, query: &str) -> Option<i64> {
+    let Ok(rows) = connection.query_all(query, &[]) else {
+        return None;
+    };
+    rows.first()?.get::<i64>(0).ok()
+}
+
+/// Adds the number that each query shows, with an end of line after it.
+fn add_numbers(told: &mut Told, connection: &mut Connection<MemStore>, queries: &[&str]) {
+    for query in queries {
+        match number_of(connection, query) {
+            Some(number) => told.add(format_args!("{number}\n")),
+            None => told.fail(),
+        }
     }
 }
 
-fn add_sticker(
-    alloc: Global,
-    connection: &mut Connection<MemStore>,
-    number: u32,
-) -> Result<(), Fail> {
-    let uri = format!(in alloc; "{number:05}.wav")?;
+/// Whether a sticker was added.
+fn add_sticker(alloc: Global, connection: &mut Connection<MemStore>, number: u32) -> bool {
     let insert = "INSERT INTO sticker (uri, name, value) VALUES (?1, 'r', ?1)";
-    connection.execute(insert, params![uri.as_str()])?;
-    Ok(())
-}
-
-fn add_stickers(
-    alloc: Global,
-    connection: &mut Connection<MemStore>,
-    count: u32,
-) -> Result<(), Fail> {
-    connection.execute_batch("BEGIN")?;
-    for number in 0..count {
-        add_sticker(alloc, connection, number)?;
+    match format!(in alloc; "{number:05}.wav") {
+        Ok(uri) => connection.execute(insert, params![uri.as_str()]).is_ok(),
+        Err(_) => false,
     }
-    connection.execute_batch("COMMIT")?;
-    Ok(())
 }
 
-/// A store of profile 1 that was moved, with more stickers of one name.
-fn moved(alloc: Global, more: u32) -> Result<Connection<MemStore>, Fail> {
+/// Whether so many stickers were added.
+fn add_stickers(alloc: Global, connection: &mut Connection<MemStore>, count: u32) -> bool {
+    let mut is_added = connection.execute_batch("BEGIN").is_ok();
+    for number in 0..count {
+        is_added = is_added && add_sticker(alloc, connection, number);
+    }
+    is_added && connection.execute_batch("COMMIT").is_ok()
+}
+
+/// Fails where queries show other numbers of a store of profile 1 that was moved, with so many stickers more of
+/// one name.
+fn look_at_moved(alloc: Global, more: u32, queries: &[&str], wanted: &str) -> Result<(), Fail> {
+    let mut told = Told::new(alloc);
     let mut connection = after(alloc, false, FIRST_PROFILE)?;
-    add_stickers(alloc, &mut connection, more)?;
-    Ok(over(alloc, connection)?.into_connection())
+    if !add_stickers(alloc, &mut connection, more) {
+        told.fail();
+    }
+    let mut connection = over(alloc, connection)?.into_connection();
+    add_numbers(&mut told, &mut connection, queries);
+    wants(told.into_text(), wanted)
 }
 
-fn wants_number(
-    connection: &mut Connection<MemStore>,
-    query: &str,
-    number: i64,
-) -> Result<(), Fail> {
-    wants(number_of(connection, query)? == number, query)
-}
+/// The profile is 2, the old table is empty, the sticker is in the new one, and the list stays.
+const MOVED: &[&str] = &[
+    "SELECT number FROM profile",
+    "SELECT count(*) FROM sticker",
+    "SELECT count(*) FROM note WHERE kind = 'song' AND target = 'a.wav' AND name = 'r' AND value = '5'",
+    "SELECT count(*) FROM list WHERE name = 'x'",
+];
+
+/// The old table is empty, and the new one has all stickers, of which the first has another value.
+const MANY_MOVED: &[&str] = &[
+    "SELECT count(*) FROM sticker",
+    "SELECT count(*) FROM note WHERE kind = 'song' AND name = 'r' AND value = target",
+    "SELECT count(*) FROM note",
+];
 
 #[test]
-fn a_store_of_profile_1_is_moved(rt: HostRuntime) -> Result<(), Fail> {
-    let mut store = moved(rt.alloc(), 0)?;
-    wants_number(&mut store, "SELECT number FROM profile", 2)?;
-    wants_number(&mut store, "SELECT count(*) FROM sticker", 0)?;
-    let note =
-        "SELECT count(*) FROM note WHERE kind = 'song' AND target = 'a.wav' AND name = 'r' AND value = '5'";
-    wants_number(&mut store, note, 1)?;
-    let list = "SELECT count(*) FROM list WHERE name = 'x'";
-    wants_number(&mut store, list, 1)
+fn stores_of_profile_1_are_moved(rt: HostRuntime) -> Result<(), Fail> {
+    look_at_moved(rt.alloc(), 0, MOVED, "2\n0\n1\n1\n")?;
+    look_at_moved(rt.alloc(), 10_000, MANY_MOVED, "0\n10000\n10001\n")
 }
-
-#[test]
-fn ten_thousand_stickers_are_moved(rt: HostRuntime) -> Result<(), Fail> {
-    let mut store = moved(rt.alloc(), 10_000)?;
-    wants_number(&mut store, "SELECT count(*) FROM sticker", 0)?;
-    let same = "SELECT count(*) FROM note WHERE kind = 'song' AND name = 'r' AND value = target";
-    wants_number(&mut store, same, 10_000)?;
-    wants_number(&mut store, "SELECT count(*) FROM note", 10_001)
-}
-
-/// A store of profile 1 that is moved is the same shelf after.
-#[test]
-fn a_moved_store_is_a_shelf(rt: HostRuntime) -> Result<(), Fail> {
-    is_taken(rt.alloc(), false, EMPTY_FIRST_PROFILE)
-}
-
-/// The tables of profile 1, made in another order and with nothing in them.
-const EMPTY_FIRST_PROFILE: &str =
-    "CREATE TABLE sticker (uri TEXT NOT NULL, name TEXT NOT NULL, value TEXT NOT NULL, PRIMARY KEY (uri, name));
-    CREATE TABLE list (name TEXT NOT NULL PRIMARY KEY, uris TEXT NOT NULL);
-    CREATE TABLE profile (one INTEGER PRIMARY KEY CHECK (one = 1), number INTEGER NOT NULL);
-    INSERT INTO profile (one, number) VALUES (1, 1)";

@@ -9,6 +9,7 @@ use shelf::Shelf;
 use song_db::{Db, Rate, SharedDb};
 use std::alloc::{AllocError, Global};
 use transitions::Stand;
+use wanted::Told;
 
 /// A song without tags.
 fn song(alloc: Global, uri: &str, frames: u64) -> Result<Song, AllocError> {
@@ -57,21 +58,25 @@ fn opened(alloc: Global) -> Result<Partition, AllocError> {
 }
 
 /// Applies an event, and adds what the client hears of it.
-fn happens<S: Shelf>(
-    player: &mut Partition,
-    shelf: &mut S,
-    event: Event,
-    all: &mut String,
-) -> Result<(), AllocError> {
+fn happens<S: Shelf>(told: &mut Told, player: &mut Partition, shelf: &mut S, event: Event) {
     match player.apply(3, shelf, event) {
-        Ok(outcome) => all.push_str(outcome.reply().text()),
-        Err(_) => all.push_str("not applied\n"),
+        Ok(outcome) => told.add(outcome.reply().text()),
+        Err(_) => told.add("not applied\n"),
     }
 }
 
-fn line_of(alloc: Global, line: &str) -> Result<Event, AllocError> {
-    let request = Request::of_line(alloc, line, CommandSet::base())?;
-    Ok(Event::line(1, Stand::Alone, request))
+/// Says a line that is no list, and adds what the client hears.
+fn says<S: Shelf>(
+    told: &mut Told,
+    alloc: Global,
+    player: &mut Partition,
+    shelf: &mut S,
+    line: &str,
+) {
+    match Request::of_line(alloc, line, CommandSet::base()) {
+        Ok(request) => happens(told, player, shelf, Event::line(1, Stand::Alone, request)),
+        Err(_) => told.fail(),
+    }
 }
 
 /// The requests of the commands between semicolons.
@@ -84,53 +89,42 @@ fn requests(alloc: Global, commands: &str) -> Result<Vec<Request>, AllocError> {
 }
 
 /// Adds what the client hears of a list before its end.
-fn add_answer(alloc: Global, outcome: &ListOutcome, all: &mut String) -> Result<(), AllocError> {
+fn add_answer(told: &mut Told, alloc: Global, outcome: &ListOutcome) {
     let mut bytes = Vec::new(alloc);
-    outcome.push_text(&mut bytes)?;
-    all.push_str(str::from_utf8(&bytes).unwrap_or("no text\n"))
+    if outcome.push_text(&mut bytes).is_err() {
+        told.fail();
+    }
+    told.add(str::from_utf8(&bytes).unwrap_or("no text\n"));
 }
 
 /// Runs a list of the commands between semicolons, and adds what the client hears before its end.
 fn lists<S: Shelf>(
+    told: &mut Told,
     alloc: Global,
     player: &mut Partition,
     shelf: &mut S,
     commands: &str,
-    all: &mut String,
-) -> Result<(), AllocError> {
-    let requests = requests(alloc, commands)?;
+) {
+    let Ok(requests) = requests(alloc, commands) else {
+        return told.fail();
+    };
     match player.run_list(3, shelf, 1, ListForm::ListOk, requests) {
-        Ok(outcome) => add_answer(alloc, &outcome, all),
-        Err(_) => all.push_str("not run\n"),
+        Ok(outcome) => add_answer(told, alloc, &outcome),
+        Err(_) => told.add("not run\n"),
     }
 }
 
-/// Says these lines to the player, and adds what the client hears. A line with semicolons is a list.
-fn say<S: Shelf>(
-    alloc: Global,
-    player: &mut Partition,
-    shelf: &mut S,
-    lines: &str,
-    all: &mut String,
-) -> Result<(), AllocError> {
+/// Adds what a client hears that comes to a new player and says these lines. A line with semicolons is a list.
+pub fn session<S: Shelf>(told: &mut Told, alloc: Global, shelf: &mut S, lines: &str) {
+    let Ok(mut player) = opened(alloc) else {
+        return told.fail();
+    };
+    happens(told, &mut player, shelf, Event::Connect(1));
     for line in lines.lines() {
         if line.contains(';') {
-            lists(alloc, player, shelf, line, all)?;
+            lists(told, alloc, &mut player, shelf, line);
         } else {
-            happens(player, shelf, line_of(alloc, line)?, all)?;
+            says(told, alloc, &mut player, shelf, line);
         }
     }
-    Ok(())
-}
-
-/// Adds what a client hears that comes to a new player and says these lines.
-pub fn session<S: Shelf>(
-    alloc: Global,
-    shelf: &mut S,
-    lines: &str,
-    all: &mut String,
-) -> Result<(), AllocError> {
-    let mut player = opened(alloc)?;
-    happens(&mut player, shelf, Event::Connect(1), all)?;
-    say(alloc, &mut player, shelf, lines, all)
 }

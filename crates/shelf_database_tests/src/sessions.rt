@@ -1,10 +1,10 @@
 //! Worked sessions of a player that is lent a shelf over a database: in memory, on files that are opened
 //! again, and on files of which one fails.
-use crate::memory::{after, opened as opened_in_memory, over};
-use crate::stops::{Disks, Side, Step, Visit, filled, look_again, visited};
-use shelf_tests::calls::{wants, wants_text};
-use std::alloc::Global;
+use crate::memory::{after, over};
+use crate::stops::{Call, Disks, Side, Step, Visit, disks_before, look_again, visited};
+use std::alloc::{AllocError, Global};
 use std::test::Fail;
+use wanted::{Told, wants};
 
 const LISTS: &str = "add s.wav
 save x
@@ -47,35 +47,6 @@ OK
 ACK [50@0] {sticker} no such sticker
 ";
 
-/// What a session tells over a shelf in memory.
-fn in_memory(alloc: Global, lines: &str) -> Result<String, Fail> {
-    let mut told = String::new(alloc);
-    let mut shelf = opened_in_memory(alloc)?;
-    let is_told = visited(alloc, &mut shelf, Visit::Say(lines), &mut told);
-    wants(is_told, "the session is not told")?;
-    Ok(told)
-}
-
-#[test]
-fn lists_and_stickers_in_memory(rt: HostRuntime) -> Result<(), Fail> {
-    let told = in_memory(rt.alloc(), LISTS)?;
-    wants_text(rt.alloc(), told.as_str(), LISTS_TELL)
-}
-
-/// What a session tells over a shelf in memory of which another wrote one list that is no text.
-fn over_a_broken_list(alloc: Global, lines: &str) -> Result<String, Fail> {
-    let connection = after(
-        alloc,
-        true,
-        "INSERT INTO list VALUES ('x', x'ff'), ('y', '')",
-    )?;
-    let mut told = String::new(alloc);
-    let mut shelf = over(alloc, connection)?;
-    let is_told = visited(alloc, &mut shelf, Visit::Say(lines), &mut told);
-    wants(is_told, "the session is not told")?;
-    Ok(told)
-}
-
 const BROKEN: &str = "listplaylist x
 ping;listplaylist y;listplaylist x;ping
 load x
@@ -94,11 +65,28 @@ playlist: y
 OK
 ";
 
-/// A list that the store cannot read is its fault, and no want of memory; other lists are read.
+/// Fails where a session tells something else over a shelf in memory, on a database that statements were run on.
+fn tell_in_memory(
+    alloc: Global,
+    is_shelf: bool,
+    statements: &str,
+    (lines, wanted): (&str, &str),
+) -> Result<(), Fail> {
+    let mut told = Told::new(alloc);
+    let mut shelf = over(alloc, after(alloc, is_shelf, statements)?)?;
+    if !visited(alloc, &mut shelf, Visit::Say(lines), &mut told) {
+        told.add("not told\n");
+    }
+    wants(told.into_text(), wanted)
+}
+
+/// Lists and stickers are kept. A list that another wrote, and that is no text, is the store's fault and no
+/// want of memory; other lists are read.
 #[test]
-fn a_list_that_is_no_text(rt: HostRuntime) -> Result<(), Fail> {
-    let told = over_a_broken_list(rt.alloc(), BROKEN)?;
-    wants_text(rt.alloc(), told.as_str(), BROKEN_TELLS)
+fn sessions_in_memory(rt: HostRuntime) -> Result<(), Fail> {
+    tell_in_memory(rt.alloc(), false, "", (LISTS, LISTS_TELL))?;
+    let no_text = "INSERT INTO list VALUES ('x', x'ff'), ('y', '')";
+    tell_in_memory(rt.alloc(), true, no_text, (BROKEN, BROKEN_TELLS))
 }
 
 /// What is told of a session beside what the client hears: where no player was lent the shelf, and where the
@@ -113,17 +101,11 @@ fn words_of(step: Option<Step>) -> &'static str {
 }
 
 /// What a session tells over a shelf on files.
-fn on_disks(alloc: Global, disks: &mut Disks, lines: &str) -> Result<String, Fail> {
-    let mut told = String::new(alloc);
+fn on_disks(alloc: Global, disks: &mut Disks, lines: &str) -> Result<String, AllocError> {
+    let mut told = Told::new(alloc);
     let step = disks.run(alloc, Visit::Say(lines), &mut told);
-    told.push_str(words_of(step))?;
-    Ok(told)
-}
-
-/// Fails where a session over the files tells something else.
-fn tells(alloc: Global, disks: &mut Disks, lines: &str, wanted: &str) -> Result<(), Fail> {
-    let told = on_disks(alloc, disks, lines)?;
-    wants_text(alloc, told.as_str(), wanted)
+    told.add(words_of(step));
+    told.into_text()
 }
 
 const AGAIN: &str = "listplaylists
@@ -170,13 +152,24 @@ OK
 OK
 ";
 
+/// Sessions on the same files, one after the other, and what each tells.
+const ON_FILES: [(&str, &str); 3] = [
+    (LISTS, LISTS_TELL),
+    (AGAIN, AGAIN_TELLS),
+    (GONE, GONE_TELLS),
+];
+
+/// Fails where one of these sessions over the files tells something else.
+fn tell(alloc: Global, disks: &mut Disks) -> Result<(), Fail> {
+    for (lines, wanted) in ON_FILES.iter() {
+        wants(on_disks(alloc, disks, lines), wanted)?;
+    }
+    Ok(())
+}
+
 #[test]
 fn files_keep_lists_and_stickers(rt: HostRuntime) -> Result<(), Fail> {
-    let alloc = rt.alloc();
-    let mut disks = Disks::empty(alloc);
-    tells(alloc, &mut disks, LISTS, LISTS_TELL)?;
-    tells(alloc, &mut disks, AGAIN, AGAIN_TELLS)?;
-    tells(alloc, &mut disks, GONE, GONE_TELLS)
+    tell(rt.alloc(), &mut Disks::empty(rt.alloc()))
 }
 
 const SAVING: &str = "add a.wav
@@ -238,7 +231,7 @@ const BEFORE: &str = "x=s.wav,;a.wav:5;x:7;";
 const AFTER: &str = "x=s.wav,;y=a.wav,;a.wav:5;x:7;";
 
 /// What a run told whose log failed from some call on.
-#[derive(Clone, Copy, PartialEq, Eq)]
+#[derive(Clone, Copy)]
 enum Run {
     NotOpened,
     Fault,
@@ -256,50 +249,51 @@ fn run_of(told: &str) -> Run {
     }
 }
 
-/// The two texts of which a shelf may show either after such a run, where the files were opened.
-fn texts_after(run: Run) -> Option<(&'static str, &'static str)> {
+/// What a session that saves a list told, where the files' log fails. What a shelf then shows is looked at
+/// where the files were opened; what the session told is added where it is none of the three that may be.
+fn saving(told: &mut Told, alloc: Global, disks: &mut Disks) -> Run {
+    let Ok(heard) = on_disks(alloc, disks, SAVING) else {
+        told.fail();
+        return Run::Other;
+    };
+    let run = run_of(heard.as_str());
     match run {
-        Run::Fault => Some((BEFORE, AFTER)),
-        Run::Saved => Some((AFTER, AFTER)),
-        Run::NotOpened | Run::Other => None,
+        Run::NotOpened => {}
+        Run::Fault => look_again(told, alloc, disks, (BEFORE, AFTER)),
+        Run::Saved => look_again(told, alloc, disks, (AFTER, AFTER)),
+        Run::Other => told.add(heard.as_str()),
     }
+    run
 }
 
-/// What is told of a session that saves a list, where it is one of the three that may be.
-fn told_of_save(alloc: Global, disks: &mut Disks) -> Result<Run, Fail> {
-    let told = on_disks(alloc, disks, SAVING)?;
-    let run = run_of(told.as_str());
-    wants(run != Run::Other, told.as_str())?;
-    Ok(run)
-}
-
-/// What is told where the log fails after so many calls. What a shelf then shows is looked at where the files
-/// were opened.
-fn saving(alloc: Global, disks: &mut Disks) -> Result<Run, Fail> {
-    let run = told_of_save(alloc, disks)?;
-    if let Some(texts) = texts_after(run) {
-        look_again(alloc, disks, texts)?;
-    }
-    Ok(run)
-}
-
-/// How many calls of the log fail in the save, counting upwards until one comes after it.
-fn faults(alloc: Global) -> Result<u32, Fail> {
-    let disks = filled(alloc)?;
+/// Adds how many calls of the log fail in the save, counting upwards until one comes after it.
+fn add_faults(told: &mut Told, alloc: Global) {
+    let Some(disks) = disks_before(alloc, Call::Put) else {
+        return told.add("the files are not filled");
+    };
     let mut faults = 0u32;
     for calls in 0..1_000u64 {
-        match saving(alloc, &mut disks.copied(alloc, Side::Log, calls)?)? {
-            Run::Saved => return Ok(faults),
+        let Some(mut copy) = disks.copied(alloc, Side::Log, calls) else {
+            return told.fail();
+        };
+        match saving(told, alloc, &mut copy) {
+            Run::Saved => return told.add(format_args!("{faults} faults")),
             Run::Fault => faults = faults.saturating_add(1),
-            Run::NotOpened | Run::Other => {}
+            Run::NotOpened => {}
+            Run::Other => return told.add("not as a save may end"),
         }
     }
-    Err(Fail::new("no run saved the list"))
+    told.add("no run saved the list");
 }
 
-/// A commit makes six calls of the log: see [`crate::stops`].
+fn faults(alloc: Global) -> Result<String, AllocError> {
+    let mut told = Told::new(alloc);
+    add_faults(&mut told, alloc);
+    told.into_text()
+}
+
+/// A commit makes six calls of the log, of which each fails in turn: see [`crate::stops`].
 #[test]
 fn a_save_whose_store_fails(rt: HostRuntime) -> Result<(), Fail> {
-    let faults = faults(rt.alloc())?;
-    wants(faults == 6, "a fault at each call of the log in the save")
+    wants(faults(rt.alloc()), "6 faults")
 }

@@ -3,6 +3,7 @@
 use shelf::{Entry, Shelf, ShelfFault, StickerKind, UriList};
 use std::alloc::{AllocError, Global};
 use std::test::Fail;
+use wanted::{Told, wants};
 
 /// A call, with names, URIs and texts as the trait has them.
 #[derive(Clone, Copy)]
@@ -26,7 +27,7 @@ pub enum Call<'a> {
 pub type Step<'a> = (Call<'a>, &'a str);
 
 /// What a fault is called.
-pub fn fault_name(fault: ShelfFault) -> &'static str {
+fn fault_name(fault: ShelfFault) -> &'static str {
     match fault {
         ShelfFault::NoSuchList => "no such list",
         ShelfFault::Exists => "exists",
@@ -44,214 +45,111 @@ fn done(answer: Result<(), ShelfFault>) -> &'static str {
     }
 }
 
-/// Puts the URIs at the name by `create`, or else by `put`.
+/// Puts these URIs at the name by `create`, or else by `put`.
 pub fn keep<S: Shelf>(
+    alloc: Global,
     shelf: &mut S,
     name: &str,
-    uris: &UriList,
+    uris: &[&str],
     is_new: bool,
 ) -> Result<(), ShelfFault> {
+    let uris = uri_list(alloc, uris)?;
     if is_new {
-        shelf.create(name, uris)
+        shelf.create(name, &uris)
     } else {
-        shelf.put(name, uris)
+        shelf.put(name, &uris)
     }
-}
-
-/// What is answered where these URIs are put at a name that is new.
-pub fn created<S: Shelf>(shelf: &mut S, name: &str, uris: &UriList) -> &'static str {
-    done(keep(shelf, name, uris, true))
-}
-
-fn put<S: Shelf>(shelf: &mut S, name: &str, uris: &UriList) -> &'static str {
-    done(keep(shelf, name, uris, false))
-}
-
-pub fn renamed<S: Shelf>(shelf: &mut S, name: &str, new_name: &str) -> &'static str {
-    done(shelf.rename(name, new_name))
-}
-
-fn removed<S: Shelf>(shelf: &mut S, name: &str) -> &'static str {
-    done(shelf.remove(name))
-}
-
-fn sticker_set<S: Shelf>(
-    shelf: &mut S,
-    kind: StickerKind,
-    target: &str,
-    name: &str,
-    value: &str,
-) -> &'static str {
-    done(shelf.set_sticker(kind, target, name, value))
-}
-
-fn sticker_deleted<S: Shelf>(
-    shelf: &mut S,
-    kind: StickerKind,
-    target: &str,
-    name: &str,
-) -> &'static str {
-    done(shelf.delete_sticker(kind, target, name))
-}
-
-fn stickers_deleted<S: Shelf>(shelf: &mut S, kind: StickerKind, target: &str) -> &'static str {
-    done(shelf.delete_stickers(kind, target))
 }
 
 /// The list of these URIs.
 pub fn uri_list(alloc: Global, uris: &[&str]) -> Result<UriList, AllocError> {
-    let mut text = String::new(alloc);
+    let mut text = Told::new(alloc);
     for uri in uris {
-        text.push_str(uri)?;
-        text.push('\n')?;
+        text.add(format_args!("{uri}\n"));
     }
-    Ok(UriList::of_text(text))
+    Ok(UriList::of_text(text.into_text()?))
 }
 
-/// Appends the URIs of a list, with the character after each.
-pub fn add_uris(all: &mut String, uris: &UriList, after: char) -> Result<(), AllocError> {
+/// Adds the URIs of a list, with the character after each.
+pub fn add_uris(told: &mut Told, uris: &UriList, after: char) {
     for c in uris.text().chars() {
-        all.push(if c == '\n' { after } else { c })?;
+        told.add(if c == '\n' { after } else { c });
     }
-    Ok(())
 }
 
-/// The texts with a bar after each, or the fault.
-fn texts_told(
-    alloc: Global,
-    answer: Result<Vec<String>, ShelfFault>,
-) -> Result<String, AllocError> {
+fn add_list(told: &mut Told, answer: Result<UriList, ShelfFault>) {
     match answer {
-        Ok(texts) => joined(alloc, texts.as_slice()),
-        Err(fault) => String::from_str(alloc, fault_name(fault)),
+        Ok(uris) => add_uris(told, &uris, '|'),
+        Err(fault) => told.add(fault_name(fault)),
     }
 }
 
-fn joined(alloc: Global, texts: &[String]) -> Result<String, AllocError> {
-    let mut all = String::new(alloc);
-    for text in texts {
-        all.push_str(text.as_str())?;
-        all.push('|')?;
-    }
-    Ok(all)
-}
-
-fn entries_told(
-    alloc: Global,
-    answer: Result<Vec<Entry>, ShelfFault>,
-) -> Result<String, AllocError> {
+fn add_lists(told: &mut Told, answer: Result<Vec<String>, ShelfFault>) {
     match answer {
-        Ok(entries) => joined_entries(alloc, entries.as_slice()),
-        Err(fault) => String::from_str(alloc, fault_name(fault)),
+        Ok(names) => {
+            for name in &names {
+                told.add(format_args!("{name}|"));
+            }
+        }
+        Err(fault) => told.add(fault_name(fault)),
     }
 }
 
-fn joined_entries(alloc: Global, entries: &[Entry]) -> Result<String, AllocError> {
-    let mut all = String::new(alloc);
-    for entry in entries {
-        let (key, value) = (entry.key.as_str(), entry.value.as_str());
-        all.write_fmt(format_args!("{key}={value}|"))?;
-    }
-    Ok(all)
-}
-
-fn uris_told(alloc: Global, answer: Result<UriList, ShelfFault>) -> Result<String, AllocError> {
+fn add_sticker(told: &mut Told, answer: Result<String, ShelfFault>) {
     match answer {
-        Ok(uris) => joined_uris(alloc, &uris),
-        Err(fault) => String::from_str(alloc, fault_name(fault)),
+        Ok(value) => told.add(format_args!("{value}|")),
+        Err(fault) => told.add(fault_name(fault)),
     }
 }
 
-/// The URIs with a bar after each.
-pub fn joined_uris(alloc: Global, uris: &UriList) -> Result<String, AllocError> {
-    let mut all = String::new(alloc);
-    add_uris(&mut all, uris, '|')?;
-    Ok(all)
-}
-
-fn list<S: Shelf>(alloc: Global, shelf: &mut S, name: &str) -> Result<String, AllocError> {
-    uris_told(alloc, shelf.list(name))
-}
-
-fn lists<S: Shelf>(alloc: Global, shelf: &mut S) -> Result<String, AllocError> {
-    texts_told(alloc, shelf.lists())
-}
-
-fn sticker<S: Shelf>(
-    alloc: Global,
-    shelf: &mut S,
-    kind: StickerKind,
-    target: &str,
-    name: &str,
-) -> Result<String, AllocError> {
-    match shelf.sticker(kind, target, name) {
-        Ok(value) => format!(in alloc; "{value}|"),
-        Err(fault) => String::from_str(alloc, fault_name(fault)),
+fn add_entries(told: &mut Told, answer: Result<Vec<Entry>, ShelfFault>) {
+    match answer {
+        Ok(entries) => {
+            for entry in &entries {
+                let (key, value) = (entry.key.as_str(), entry.value.as_str());
+                told.add(format_args!("{key}={value}|"));
+            }
+        }
+        Err(fault) => told.add(fault_name(fault)),
     }
 }
 
-fn found<S: Shelf>(
-    alloc: Global,
-    shelf: &mut S,
-    kind: StickerKind,
-    name: &str,
-) -> Result<String, AllocError> {
-    entries_told(alloc, shelf.find_stickers(kind, name))
-}
-
-fn stickers<S: Shelf>(
-    alloc: Global,
-    shelf: &mut S,
-    kind: StickerKind,
-    target: &str,
-) -> Result<String, AllocError> {
-    entries_told(alloc, shelf.stickers_of(kind, target))
+/// Adds what a call tells.
+fn add_answer<S: Shelf>(told: &mut Told, alloc: Global, shelf: &mut S, call: Call<'_>) {
+    let answer = match call {
+        Call::List(name) => return add_list(told, shelf.list(name)),
+        Call::Lists => return add_lists(told, shelf.lists()),
+        Call::Sticker(kind, target, name) => {
+            return add_sticker(told, shelf.sticker(kind, target, name));
+        }
+        Call::FindStickers(kind, name) => {
+            return add_entries(told, shelf.find_stickers(kind, name));
+        }
+        Call::StickersOf(kind, target) => {
+            return add_entries(told, shelf.stickers_of(kind, target));
+        }
+        Call::Create(name, uris) => keep(alloc, shelf, name, uris, true),
+        Call::Put(name, uris) => keep(alloc, shelf, name, uris, false),
+        Call::Rename(name, new_name) => shelf.rename(name, new_name),
+        Call::Remove(name) => shelf.remove(name),
+        Call::SetSticker(kind, target, name, value) => shelf.set_sticker(kind, target, name, value),
+        Call::DeleteSticker(kind, target, name) => shelf.delete_sticker(kind, target, name),
+        Call::DeleteStickers(kind, target) => shelf.delete_stickers(kind, target),
+    };
+    told.add(done(answer));
 }
 
 /// What a call tells.
 fn told<S: Shelf>(alloc: Global, shelf: &mut S, call: Call<'_>) -> Result<String, AllocError> {
-    let answer = match call {
-        Call::List(name) => return list(alloc, shelf, name),
-        Call::Lists => return lists(alloc, shelf),
-        Call::Sticker(kind, target, name) => return sticker(alloc, shelf, kind, target, name),
-        Call::FindStickers(kind, name) => return found(alloc, shelf, kind, name),
-        Call::StickersOf(kind, target) => return stickers(alloc, shelf, kind, target),
-        Call::Create(name, uris) => created(shelf, name, &uri_list(alloc, uris)?),
-        Call::Put(name, uris) => put(shelf, name, &uri_list(alloc, uris)?),
-        Call::Rename(name, new_name) => renamed(shelf, name, new_name),
-        Call::Remove(name) => removed(shelf, name),
-        Call::SetSticker(kind, target, name, value) => {
-            sticker_set(shelf, kind, target, name, value)
-        }
-        Call::DeleteSticker(kind, target, name) => sticker_deleted(shelf, kind, target, name),
-        Call::DeleteStickers(kind, target) => stickers_deleted(shelf, kind, target),
-    };
-    String::from_str(alloc, answer)
-}
-
-/// Fails with the words where a test's fact does not hold.
-pub fn wants(holds: bool, words: &str) -> Result<(), Fail> {
-    if holds { Ok(()) } else { Err(Fail::new(words)) }
-}
-
-/// Fails with what is told where it is not what is wanted.
-pub fn wants_text(alloc: Global, told: &str, wanted: &str) -> Result<(), Fail> {
-    if told == wanted {
-        return Ok(());
-    }
-    let words = format!(in alloc; "{told}, and not {wanted}")?;
-    Err(Fail::new(words.as_str()))
-}
-
-fn follow_one<S: Shelf>(alloc: Global, shelf: &mut S, step: &Step<'_>) -> Result<(), Fail> {
-    let told = told(alloc, shelf, step.0)?;
-    wants_text(alloc, told.as_str(), step.1)
+    let mut told = Told::new(alloc);
+    add_answer(&mut told, alloc, shelf, call);
+    told.into_text()
 }
 
 /// Makes the calls one after the other, and fails where one tells something else.
 pub fn follow<S: Shelf>(alloc: Global, shelf: &mut S, steps: &[Step<'_>]) -> Result<(), Fail> {
     for step in steps {
-        follow_one(alloc, shelf, step)?;
+        wants(told(alloc, shelf, step.0), step.1)?;
     }
     Ok(())
 }

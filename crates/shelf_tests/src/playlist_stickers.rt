@@ -1,12 +1,10 @@
 //! What a shelf of any kind answers about stickers of stored playlists.
 
-use crate::calls::{Call, Step, follow};
-use shelf::Shelf;
+use crate::calls::{Call, Step};
 use shelf::StickerKind::{Playlist, Song};
-use std::alloc::Global;
-use std::test::Fail;
 
-const KEPT: &[Step<'_>] = &[
+/// A playlist's stickers are set, read, found, listed and deleted, and stay where its URIs are replaced.
+pub const KEPT: &[Step<'_>] = &[
     (Call::Create("x", &["s.wav"]), "ok"),
     (Call::SetSticker(Playlist, "x", "r", "1"), "ok"),
     (Call::SetSticker(Playlist, "x", "Z", "4"), "ok"),
@@ -26,12 +24,8 @@ const KEPT: &[Step<'_>] = &[
     (Call::List("x"), "t.wav|"),
 ];
 
-/// A playlist's stickers are set, read, found, listed and deleted, and stay where its URIs are replaced.
-pub fn a_playlist_has_stickers<S: Shelf>(alloc: Global, shelf: &mut S) -> Result<(), Fail> {
-    follow(alloc, shelf, KEPT)
-}
-
-const REFUSALS: &[Step<'_>] = &[
+/// A missing list comes before a bad name of a sticker, and both before a missing sticker.
+pub const REFUSALS: &[Step<'_>] = &[
     (Call::SetSticker(Playlist, "x", "", "5"), "no such list"),
     (Call::Sticker(Playlist, "x", "r"), "no such list"),
     (Call::DeleteSticker(Playlist, "x", "r"), "no such list"),
@@ -47,12 +41,8 @@ const REFUSALS: &[Step<'_>] = &[
     (Call::StickersOf(Playlist, "x"), ""),
 ];
 
-/// A missing list comes before a bad name of a sticker, and both before a missing sticker.
-pub fn a_missing_list_comes_first<S: Shelf>(alloc: Global, shelf: &mut S) -> Result<(), Fail> {
-    follow(alloc, shelf, REFUSALS)
-}
-
-const APART: &[Step<'_>] = &[
+/// A song and a playlist of one name have stickers of their own.
+pub const APART: &[Step<'_>] = &[
     (Call::Create("x", &["s.wav"]), "ok"),
     (Call::SetSticker(Song, "x", "r", "1"), "ok"),
     (Call::Sticker(Playlist, "x", "r"), "no sticker"),
@@ -71,12 +61,8 @@ const APART: &[Step<'_>] = &[
     (Call::StickersOf(Playlist, "x"), "q=2|r=3|"),
 ];
 
-/// A song and a playlist of one name have stickers of their own.
-pub fn kinds_are_apart<S: Shelf>(alloc: Global, shelf: &mut S) -> Result<(), Fail> {
-    follow(alloc, shelf, APART)
-}
-
-const RENAMED: &[Step<'_>] = &[
+/// A rename takes the stickers along, and leaves none for a new list of the old name.
+pub const RENAMED: &[Step<'_>] = &[
     (Call::Create("x", &["s.wav"]), "ok"),
     (Call::SetSticker(Playlist, "x", "r", "5"), "ok"),
     (Call::SetSticker(Playlist, "x", "q", "6"), "ok"),
@@ -95,12 +81,8 @@ const RENAMED: &[Step<'_>] = &[
     (Call::StickersOf(Playlist, "z"), ""),
 ];
 
-/// A rename takes the stickers along, and leaves none for a new list of the old name.
-pub fn a_rename_takes_stickers<S: Shelf>(alloc: Global, shelf: &mut S) -> Result<(), Fail> {
-    follow(alloc, shelf, RENAMED)
-}
-
-const REMOVED: &[Step<'_>] = &[
+/// A list that is removed takes its stickers away: a new one of its name has none.
+pub const REMOVED: &[Step<'_>] = &[
     (Call::Create("x", &["s.wav"]), "ok"),
     (Call::Create("y", &["s.wav"]), "ok"),
     (Call::SetSticker(Playlist, "x", "r", "5"), "ok"),
@@ -114,8 +96,3 @@ const REMOVED: &[Step<'_>] = &[
     (Call::StickersOf(Playlist, "x"), ""),
     (Call::Sticker(Song, "x", "r"), "1|"),
 ];
-
-/// A list that is removed takes its stickers away: a new one of its name has none.
-pub fn a_removed_list_has_none<S: Shelf>(alloc: Global, shelf: &mut S) -> Result<(), Fail> {
-    follow(alloc, shelf, REMOVED)
-}

@@ -1,11 +1,13 @@
 //! What a shelf of any kind answers about stored playlists.
 
-use crate::calls::{Call, Step, created, follow, renamed, wants};
+use crate::calls::{Call, Step, follow};
 use shelf::{Shelf, UriList};
 use std::alloc::{AllocError, Global};
 use std::test::Fail;
+use wanted::{Told, wants};
 
-const KEPT_AND_RENAMED: &[Step<'_>] = &[
+/// A list is kept once, read, renamed, and then missed under its first name.
+pub const KEPT_AND_RENAMED: &[Step<'_>] = &[
     (Call::Create("x", &["s.wav"]), "ok"),
     (Call::Create("x", &["s.wav"]), "exists"),
     (Call::List("x"), "s.wav|"),
@@ -16,12 +18,8 @@ const KEPT_AND_RENAMED: &[Step<'_>] = &[
     (Call::Lists, ""),
 ];
 
-/// A list is kept once, read, renamed, and then missed under its first name.
-pub fn a_list_is_kept_and_renamed<S: Shelf>(alloc: Global, shelf: &mut S) -> Result<(), Fail> {
-    follow(alloc, shelf, KEPT_AND_RENAMED)
-}
-
-const REFUSALS: &[Step<'_>] = &[
+/// A missing list comes before a taken name, and this before a bad one.
+pub const REFUSALS: &[Step<'_>] = &[
     (Call::Create("x", &["s.wav"]), "ok"),
     (Call::Rename("y", "a/b"), "no such list"),
     (Call::Rename("x", "x"), "exists"),
@@ -32,12 +30,8 @@ const REFUSALS: &[Step<'_>] = &[
     (Call::Lists, "x|"),
 ];
 
-/// A missing list comes before a taken name, and this before a bad one.
-pub fn refusals_have_their_order<S: Shelf>(alloc: Global, shelf: &mut S) -> Result<(), Fail> {
-    follow(alloc, shelf, REFUSALS)
-}
-
-const NAMES: &[Step<'_>] = &[
+/// Names are listed by their bytes, and a put replaces all URIs of its list alone.
+pub const NAMES: &[Step<'_>] = &[
     (Call::Create("é", &["a.wav", "b.wav"]), "ok"),
     (Call::Create("b", &["a.wav", "b.wav"]), "ok"),
     (Call::Create("B", &["a.wav", "b.wav"]), "ok"),
@@ -47,11 +41,6 @@ const NAMES: &[Step<'_>] = &[
     (Call::List("B"), "a.wav|b.wav|"),
 ];
 
-/// Names are listed by their bytes, and a put replaces all URIs of its list alone.
-pub fn names_rise_by_bytes<S: Shelf>(alloc: Global, shelf: &mut S) -> Result<(), Fail> {
-    follow(alloc, shelf, NAMES)
-}
-
 /// A text of this many bytes, all of them the letter.
 pub fn repeated(alloc: Global, letter: &str, bytes: usize) -> Result<String, AllocError> {
     letter.repeat(alloc, bytes)
@@ -60,19 +49,11 @@ pub fn repeated(alloc: Global, letter: &str, bytes: usize) -> Result<String, All
 /// So many URIs, told apart by a number of five digits before so many equal bytes.
 fn numbered(alloc: Global, count: u32, more: usize) -> Result<UriList, AllocError> {
     let rest = repeated(alloc, "u", more)?;
-    let mut text = String::new(alloc);
+    let mut text = Told::new(alloc);
     for number in 0..count {
-        text.write_fmt(format_args!("{number:05}{rest}\n"))?;
+        text.add(format_args!("{number:05}{rest}\n"));
     }
-    Ok(UriList::of_text(text))
-}
-
-fn count(uris: &UriList) -> usize {
-    uris.len()
-}
-
-fn bytes(uris: &UriList) -> usize {
-    uris.text().len()
+    Ok(UriList::of_text(text.into_text()?))
 }
 
 /// A list of a name that is put, and renamed to another.
@@ -105,7 +86,10 @@ pub fn names_of_255_bytes_are_taken<S: Shelf>(alloc: Global, shelf: &mut S) -> R
     follow_names(alloc, shelf, name.as_str(), other.as_str())
 }
 
-fn follow_refusals<S: Shelf>(alloc: Global, shelf: &mut S, name: &str) -> Result<(), Fail> {
+/// A name of 256 bytes is refused by the calls that would put it on the shelf, and is missing for the others.
+pub fn names_of_256_bytes_are_refused<S: Shelf>(alloc: Global, shelf: &mut S) -> Result<(), Fail> {
+    let name = repeated(alloc, "n", 256)?;
+    let name = name.as_str();
     follow(
         alloc,
         shelf,
@@ -121,12 +105,6 @@ fn follow_refusals<S: Shelf>(alloc: Global, shelf: &mut S, name: &str) -> Result
     )
 }
 
-/// A name of 256 bytes is refused by the calls that would put it on the shelf, and is missing for the others.
-pub fn names_of_256_bytes_are_refused<S: Shelf>(alloc: Global, shelf: &mut S) -> Result<(), Fail> {
-    let name = repeated(alloc, "n", 256)?;
-    follow_refusals(alloc, shelf, name.as_str())
-}
-
 /// Whether the list of a name has these URIs.
 fn has<S: Shelf>(shelf: &mut S, name: &str, uris: &UriList) -> bool {
     match shelf.list(name) {
@@ -137,22 +115,34 @@ fn has<S: Shelf>(shelf: &mut S, name: &str, uris: &UriList) -> bool {
 
 /// Whether the URIs come back under a name, and under another after a rename.
 fn come_back<S: Shelf>(shelf: &mut S, uris: &UriList) -> bool {
-    created(shelf, "x", uris) == "ok"
+    shelf.create("x", uris).is_ok()
         && has(shelf, "x", uris)
-        && renamed(shelf, "x", "y") == "ok"
+        && shelf.rename("x", "y").is_ok()
         && has(shelf, "y", uris)
+}
+
+/// How many URIs a numbered list has, of how many bytes with an end of line after each, and whether they come
+/// back.
+fn numbered_told<S: Shelf>(
+    alloc: Global,
+    shelf: &mut S,
+    count: u32,
+    more: usize,
+) -> Result<String, AllocError> {
+    let uris = numbered(alloc, count, more)?;
+    let (len, bytes) = (uris.len(), uris.text().len());
+    let is_back = come_back(shelf, &uris);
+    format!(in alloc; "{len} URIs, {bytes} bytes, {is_back}")
 }
 
 /// A list of 16,384 URIs comes back.
 pub fn the_longest_list_is_kept<S: Shelf>(alloc: Global, shelf: &mut S) -> Result<(), Fail> {
-    let uris = numbered(alloc, 16_384, 8)?;
-    wants(count(&uris) == 16_384, "16,384 URIs")?;
-    wants(come_back(shelf, &uris), "a list of 16,384 URIs")
+    let told = numbered_told(alloc, shelf, 16_384, 8);
+    wants(told, "16384 URIs, 229376 bytes, true")
 }
 
 /// URIs of 1,024 bytes come back.
 pub fn long_uris_come_back<S: Shelf>(alloc: Global, shelf: &mut S) -> Result<(), Fail> {
-    let uris = numbered(alloc, 300, 1_019)?;
-    wants(bytes(&uris) == 300 * 1_025, "URIs of 1,024 bytes")?;
-    wants(come_back(shelf, &uris), "a list of long URIs")
+    let told = numbered_told(alloc, shelf, 300, 1_019);
+    wants(told, "300 URIs, 307500 bytes, true")
 }

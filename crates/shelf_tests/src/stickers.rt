@@ -7,7 +7,8 @@ use shelf::StickerKind::Song;
 use std::alloc::Global;
 use std::test::Fail;
 
-const KEPT: &[Step<'_>] = &[
+/// A sticker is set, read, found, and missed where it is not there.
+pub const KEPT: &[Step<'_>] = &[
     (Call::SetSticker(Song, "a.wav", "r", "5"), "ok"),
     (Call::Sticker(Song, "a.wav", "r"), "5|"),
     (Call::FindStickers(Song, "r"), "a.wav=5|"),
@@ -18,12 +19,8 @@ const KEPT: &[Step<'_>] = &[
     (Call::DeleteStickers(Song, "a.wav"), "no sticker"),
 ];
 
-/// A sticker is set, read, found, and missed where it is not there.
-pub fn a_sticker_is_kept<S: Shelf>(alloc: Global, shelf: &mut S) -> Result<(), Fail> {
-    follow(alloc, shelf, KEPT)
-}
-
-const RISING: &[Step<'_>] = &[
+/// Stickers are listed by bytes, of one URI or of one name, and all of a URI go together.
+pub const RISING: &[Step<'_>] = &[
     (Call::SetSticker(Song, "b.wav", "r", "1"), "ok"),
     (Call::SetSticker(Song, "é.wav", "r", "2"), "ok"),
     (Call::SetSticker(Song, "B.wav", "r", "3"), "ok"),
@@ -36,12 +33,9 @@ const RISING: &[Step<'_>] = &[
     (Call::FindStickers(Song, "r"), "B.wav=3|é.wav=2|"),
 ];
 
-/// Stickers are listed by bytes, of one URI or of one name, and all of a URI go together.
-pub fn stickers_rise_by_bytes<S: Shelf>(alloc: Global, shelf: &mut S) -> Result<(), Fail> {
-    follow(alloc, shelf, RISING)
-}
-
-const ANY_TEXT: &[Step<'_>] = &[
+/// Control bytes, a zero byte among them, quotes and letters of other scripts come back as they were put; a
+/// name that is empty or has `=` is refused.
+pub const ANY_TEXT: &[Step<'_>] = &[
     (
         Call::SetSticker(Song, "a\u{0}\n'\".wav", "\u{0}n\u{1}", "v\u{0}\u{1f}\n'\"%"),
         "ok",
@@ -77,12 +71,6 @@ const ANY_TEXT: &[Step<'_>] = &[
     (Call::SetSticker(Song, "a.wav", "=", "5"), "bad name"),
 ];
 
-/// Control bytes, a zero byte among them, quotes and letters of other scripts come back as they were put; a
-/// name that is empty or has `=` is refused.
-pub fn any_text_comes_back<S: Shelf>(alloc: Global, shelf: &mut S) -> Result<(), Fail> {
-    follow(alloc, shelf, ANY_TEXT)
-}
-
 /// A sticker of this text comes back from each call that shows it.
 fn comes_back<'x, S: Shelf>(
     alloc: Global,
@@ -106,13 +94,16 @@ fn comes_back<'x, S: Shelf>(
     )
 }
 
-/// A sticker that is there is deleted.
-fn goes<'x, S: Shelf>(
-    alloc: Global,
-    shelf: &mut S,
-    uri: &'x str,
-    name: &'x str,
-) -> Result<(), Fail> {
+/// A URI of 1,024 bytes, a name of 1,024 bytes and texts of 4,096 bytes, of one more and of a million come
+/// back from each call that shows a sticker; then it is deleted.
+pub fn long_stickers_come_back<S: Shelf>(alloc: Global, shelf: &mut S) -> Result<(), Fail> {
+    let uri = repeated(alloc, "u", 1_024)?;
+    let name = repeated(alloc, "n", 1_024)?;
+    let (uri, name) = (uri.as_str(), name.as_str());
+    for bytes in &[4_096usize, 4_097, 1_000_000] {
+        let value = repeated(alloc, "v", *bytes)?;
+        comes_back(alloc, shelf, uri, name, value.as_str())?;
+    }
     follow(
         alloc,
         shelf,
@@ -121,17 +112,4 @@ fn goes<'x, S: Shelf>(
             (Call::StickersOf(Song, uri), ""),
         ],
     )
-}
-
-/// A URI of 1,024 bytes, a name of 1,024 bytes and texts of 4,096 bytes, of one more and of a million come
-/// back from each call that shows a sticker.
-pub fn long_stickers_come_back<S: Shelf>(alloc: Global, shelf: &mut S) -> Result<(), Fail> {
-    let uri = repeated(alloc, "u", 1_024)?;
-    let name = repeated(alloc, "n", 1_024)?;
-    let (uri, name) = (uri.as_str(), name.as_str());
-    for bytes in [4_096, 4_097, 1_000_000] {
-        let value = repeated(alloc, "v", bytes)?;
-        comes_back(alloc, shelf, uri, name, value.as_str())?;
-    }
-    goes(alloc, shelf, uri, name)
 }

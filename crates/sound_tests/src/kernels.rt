@@ -2,7 +2,6 @@
 ghost use Rattle.std.specs.Prelude.{◌≡◌, length};
 
 use pcm_mix::{Channels, Depth, Fading, fade, from_bytes, gain, mix, to_bytes};
-use std::test::Fail;
 
 const FULL: [i16; 2] = [-32768, 32767];
 
@@ -32,16 +31,6 @@ fn are_gained(count: usize, volume: u8, before: [i16; 2], after: [i16; 2]) -> bo
     &frames[..count] == &[after; 1_024][..count] && &frames[count..] == &[before; 1_024][count..]
 }
 
-#[test]
-fn volumes_at_each_length(rt: HostRuntime) {
-    for (volume, before, after) in GAINS.iter() {
-        for step in 0..70usize {
-            let wanted = are_gained(length_at(step), *volume, *before, *after);
-            assert!(rt; wanted, "step {step} at {volume}");
-        }
-    }
-}
-
 // Whether frames that all differ, each twice what it is at half the volume, stay in their places.
 fn stay_in_place(count: usize) -> bool {
     let mut frames = [[0i16; 2]; 1_024];
@@ -54,13 +43,6 @@ fn stay_in_place(count: usize) -> bool {
     let count = count.min(1_024);
     gain(&mut frames[..count], 50);
     &frames[..count] == &halves[..count]
-}
-
-#[test]
-fn frames_stay_in_place_at_each_length(rt: HostRuntime) {
-    for step in 0..70usize {
-        assert!(rt; stay_in_place(length_at(step)), "step {step}");
-    }
 }
 
 // Whether so many frames of a block at the end of the greatest fade, which is 3,600 seconds at 192,000 frames a
@@ -77,13 +59,6 @@ fn are_faded(count: usize) -> bool {
     );
     let wanted = [[32_766i16, -32_767]; 1_024];
     &frames[..count] == &wanted[..count] && &frames[count..] == &[FULL; 1_024][count..]
-}
-
-#[test]
-fn fades_at_each_length(rt: HostRuntime) {
-    for step in 0..70usize {
-        assert!(rt; are_faded(length_at(step)), "step {step}");
-    }
 }
 
 #[test]
@@ -109,7 +84,7 @@ fn fades(rt: HostRuntime) {
 }
 
 #[test]
-fn frames_from_bytes(rt: HostRuntime) -> Result<(), Fail> {
+fn frames_from_bytes(rt: HostRuntime) {
     let mut frames = [[9, 9]; 2];
     from_bytes(
         &[0, 1, 0, 255, 255, 255, 127],
@@ -148,7 +123,6 @@ fn frames_from_bytes(rt: HostRuntime) -> Result<(), Fail> {
         &mut frames,
     );
     assert_eq!(rt; frames, [[1, -1], [256, -256]]);
-    Ok(())
 }
 
 // What each sample is whose bytes are all 127: 127 - 128 times 256, and 127 times 257 above what is cut.
@@ -174,16 +148,6 @@ fn are_read(count: usize, depth: Depth, channels: Channels, sample: i16) -> bool
     &frames[..count] == &wanted[..count] && &frames[count..] == &[[9i16; 2]; 1_024][count..]
 }
 
-#[test]
-fn layouts_at_each_length(rt: HostRuntime) {
-    for (depth, channels, sample) in LAYOUTS.iter() {
-        for step in 0..70usize {
-            let wanted = are_read(length_at(step), *depth, *channels, *sample);
-            assert!(rt; wanted, "step {step}, {depth:?}, {channels:?}");
-        }
-    }
-}
-
 // Whether the bytes of so many frames of a block, whose bytes are all 1, are written, and the others stay.
 fn are_written(count: usize) -> bool {
     let mut bytes = [7u8; 4_096];
@@ -194,23 +158,27 @@ fn are_written(count: usize) -> bool {
 }
 
 #[test]
-fn bytes_at_each_length(rt: HostRuntime) {
+fn blocks_of_each_length(rt: HostRuntime) {
     for step in 0..70usize {
-        assert!(rt; are_written(length_at(step)), "step {step}");
+        let count = length_at(step);
+        for (volume, before, after) in GAINS.iter() {
+            let wanted = are_gained(count, *volume, *before, *after);
+            assert!(rt; wanted, "step {step} at {volume}");
+        }
+        for (depth, channels, sample) in LAYOUTS.iter() {
+            let wanted = are_read(count, *depth, *channels, *sample);
+            assert!(rt; wanted, "step {step}, {depth:?}, {channels:?}");
+        }
+        assert!(rt; stay_in_place(count), "step {step} in place");
+        assert!(rt; are_faded(count), "step {step} faded");
+        assert!(rt; are_written(count), "step {step} written");
     }
-}
-
-#[test]
-fn bytes_of_frames(rt: HostRuntime) {
-    let mut bytes = [0; 12];
-    to_bytes(&[[1, -1], [2, -32768], [32767, 256]], &mut bytes);
-    assert_eq!(rt; bytes, [1, 0, 255, 255, 2, 0, 0, 128, 255, 127, 0, 1]);
 }
 
 // 7 fades into -5 by 7, 4, 1, -2, which at volume 50 are 3, 2, 0, -1. At volume 50 first, 3 would fade into
 // -2 by 3, 1, 0, 0.
 #[test]
-fn blocks(rt: HostRuntime) {
+fn blocks_and_their_bytes(rt: HostRuntime) {
     let mut plain = [[301, -3]; 2];
     mix(&mut plain, None, 50);
     assert_eq!(rt; plain, [[150, -1]; 2]);
@@ -223,11 +191,8 @@ fn blocks(rt: HostRuntime) {
     };
     mix(&mut faded, Some(fading), 50);
     assert_eq!(rt; faded, [[3, 2], [2, 14], [0, 26], [-1, 37]]);
-}
 
-// The last block of the greatest fade is the other song but for what is rounded off.
-#[test]
-fn the_last_block_of_the_greatest_fade(rt: HostRuntime) {
+    // the last block of the greatest fade is the other song but for what is rounded off
     let mut block = [[0i16; 2]; 1_024];
     let fading = Fading {
         others: &[[32_767, -32_768]; 1_024],
@@ -236,4 +201,8 @@ fn the_last_block_of_the_greatest_fade(rt: HostRuntime) {
     };
     mix(&mut block, Some(fading), 50);
     assert_eq!(rt; block, [[16_383i16, -16_383]; 1_024]);
+
+    let mut bytes = [0; 12];
+    to_bytes(&[[1, -1], [2, -32768], [32767, 256]], &mut bytes);
+    assert_eq!(rt; bytes, [1, 0, 255, 255, 2, 0, 0, 128, 255, 127, 0, 1]);
 }

@@ -8,7 +8,7 @@ use std::alloc::{AllocError, Global};
 use std::io;
 use std::io::{ErrorKind, Write};
 use std::test::Fail;
-use wanted::{wants, wants_made};
+use wanted::{Told, wants, wants_made};
 
 const FIRST: Cut = Cut {
     moves: 0,
@@ -77,37 +77,28 @@ fn pop(drainer: &mut Drainer) -> usize {
 }
 
 // Adds the fates of a hand, or those at a fault, with the bytes of a torn frame.
-fn tell_fates(told: &mut String, found: Result<Fates, WriteFault>) -> Result<(), AllocError> {
+fn tell_fates(told: &mut Told, found: Result<Fates, WriteFault>) {
     match found {
         Ok(fates) => {
-            told.write_fmt(format_args!(
-                "{} written, {} discarded\n",
-                fates.written, fates.discarded
-            ))
+            let (written, discarded) = (fates.written, fates.discarded);
+            told.add(format_args!("{written} written, {discarded} discarded\n"));
         }
         Err(fault) => {
-            told.write_fmt(format_args!(
-                "fault: {} written, {} discarded, {} torn\n",
-                fault.fates.written, fault.fates.discarded, fault.torn
-            ))
+            let (written, discarded) = (fault.fates.written, fault.fates.discarded);
+            let torn = fault.torn;
+            told.add(format_args!(
+                "fault: {written} written, {discarded} discarded, {torn} torn\n"
+            ));
         }
     }
 }
 
 // Adds what a call answers.
-fn tell_step(
-    told: &mut String,
-    ends: &mut (Feeder, Drainer),
-    out: &mut FailAt,
-    step: &Step,
-) -> Result<(), AllocError> {
+fn tell_step(told: &mut Told, ends: &mut (Feeder, Drainer), out: &mut FailAt, step: &Step) {
     match *step {
-        Step::Take(cut, frames) => {
-            offer(&mut ends.0, frames, cut);
-            Ok(())
-        }
-        Step::Push => told.write_fmt(format_args!("{} pushed\n", push(&mut ends.0))),
-        Step::Pop => told.write_fmt(format_args!("{} popped\n", pop(&mut ends.1))),
+        Step::Take(cut, frames) => offer(&mut ends.0, frames, cut),
+        Step::Push => told.add(format_args!("{} pushed\n", push(&mut ends.0))),
+        Step::Pop => told.add(format_args!("{} popped\n", pop(&mut ends.1))),
         Step::Play(cut) => tell_fates(told, written_out(&mut ends.1, out, cut, true, false)),
         Step::Pause => tell_fates(told, written_out(&mut ends.1, out, FIRST, false, true)),
         Step::Off => tell_fates(told, written_out(&mut ends.1, out, FIRST, false, false)),
@@ -115,16 +106,16 @@ fn tell_step(
 }
 
 // Adds all bytes that were written, and the totals.
-fn tell_totals(told: &mut String, drainer: &Drainer, out: &FailAt) -> Result<(), AllocError> {
+fn tell_totals(told: &mut Told, drainer: &Drainer, out: &FailAt) {
     let Totals {
         written,
         discarded,
         torn,
     } = drainer.totals();
-    told.write_fmt(format_args!(
+    told.add(format_args!(
         "{:?}: {written} written, {discarded} discarded, {torn} bytes torn\n",
         out.bytes()
-    ))
+    ));
 }
 
 // What all steps answer, with a ring and a hand of these sizes, and what was written in the end.
@@ -136,12 +127,12 @@ fn told_of(
 ) -> Result<String, AllocError> {
     let mut out = FailAt::new(Vec::new(alloc), point);
     let mut ends = ring(alloc, sizes.0, sizes.1)?;
-    let mut told = String::new(alloc);
+    let mut told = Told::new(alloc);
     for step in steps {
-        tell_step(&mut told, &mut ends, &mut out, step)?;
+        tell_step(&mut told, &mut ends, &mut out, step);
     }
-    tell_totals(&mut told, &ends.1, &out)?;
-    Ok(told)
+    tell_totals(&mut told, &ends.1, &out);
+    told.into_text()
 }
 
 const OLD_CUT: &[Step] = &[
@@ -231,21 +222,20 @@ fault: 0 written, 2 discarded, 0 torn
 []: 0 written, 5 discarded, 0 bytes torn
 ";
 
-#[test]
-fn worked_steps(rt: HostRuntime) -> Result<(), Fail> {
-    let alloc = rt.alloc();
-    let never = FailurePoint::Never;
-    wants(told_of(alloc, (8, 3), never, OLD_CUT), OLD_CUT_TOLD)?;
-    wants(told_of(alloc, (8, 4), never, MOVED), MOVED_TOLD)?;
-    wants(
-        told_of(alloc, (8, 3), FailurePoint::Byte(6), FAILS_WITHIN),
+// The sizes of a ring and of a hand, where the writer fails, steps, and what they tell.
+type Row = ((usize, usize), FailurePoint, &'static [Step], &'static str);
+
+const ROWS: &[Row] = &[
+    ((8, 3), FailurePoint::Never, OLD_CUT, OLD_CUT_TOLD),
+    ((8, 4), FailurePoint::Never, MOVED, MOVED_TOLD),
+    (
+        (8, 3),
+        FailurePoint::Byte(6),
+        FAILS_WITHIN,
         FAILS_WITHIN_TOLD,
-    )?;
-    wants(
-        told_of(alloc, (8, 2), FailurePoint::Byte(0), ORDER),
-        ORDER_TOLD,
-    )
-}
+    ),
+    ((8, 2), FailurePoint::Byte(0), ORDER, ORDER_TOLD),
+];
 
 const THREE_FRAMES: &[Step] = &[
     Step::Take(FIRST, &[[1, 2], [3, 4], [5, 6]]),
@@ -264,17 +254,6 @@ fn failed_after_wanted(alloc: Global, place: u64) -> Result<String, AllocError> 
         "3 pushed\n3 popped\nfault: {written} written, {discarded} discarded, {torn} torn\n\
          {bytes:?}: {written} written, {discarded} discarded, {torn} bytes torn\n"
     )
-}
-
-#[test]
-fn a_writer_that_fails_after_each_byte(rt: HostRuntime) -> Result<(), Fail> {
-    for place in 0..12 {
-        wants_made(
-            told_of(rt.alloc(), (3, 3), FailurePoint::Byte(place), THREE_FRAMES),
-            failed_after_wanted(rt.alloc(), place),
-        )?;
-    }
-    Ok(())
 }
 
 // A writer that answers its first call so, and takes all at the others.
@@ -311,21 +290,36 @@ fn first_call_told(alloc: Global, answer: Option<ErrorKind>) -> Result<String, A
     offer(&mut feeder, &[[1, 2]], FIRST);
     let _pushed = push(&mut feeder);
     let _popped = pop(&mut drainer);
-    let mut told = String::new(alloc);
+    let mut told = Told::new(alloc);
     tell_fates(
         &mut told,
         drainer.write_out(&mut out, live(FIRST, true, false)),
-    )?;
-    Ok(told)
+    );
+    told.into_text()
 }
 
+const FIRST_ANSWERS: [Option<ErrorKind>; 3] = [
+    Some(ErrorKind::Interrupted),
+    Some(ErrorKind::WouldBlock),
+    None,
+];
+
+// A writer that fails after each byte; and interrupted, blocked and empty writes, which are faults.
 #[test]
-fn interrupted_blocked_and_empty_writes_are_faults(rt: HostRuntime) -> Result<(), Fail> {
-    let alloc = rt.alloc();
-    let wanted = "fault: 0 written, 1 discarded, 0 torn\n";
-    wants(first_call_told(alloc, Some(ErrorKind::Interrupted)), wanted)?;
-    wants(first_call_told(alloc, Some(ErrorKind::WouldBlock)), wanted)?;
-    wants(first_call_told(alloc, None), wanted)
+fn writers_that_fail(rt: HostRuntime) -> Result<(), Fail> {
+    for place in 0..12 {
+        wants_made(
+            told_of(rt.alloc(), (3, 3), FailurePoint::Byte(place), THREE_FRAMES),
+            failed_after_wanted(rt.alloc(), place),
+        )?;
+    }
+    for answer in FIRST_ANSWERS.iter() {
+        wants(
+            first_call_told(rt.alloc(), *answer),
+            "fault: 0 written, 1 discarded, 0 torn\n",
+        )?;
+    }
+    Ok(())
 }
 
 // What a ring of four answers: to a push and a pop of seven frames, how many are in the ring, how many are
@@ -349,15 +343,9 @@ fn both_ends(alloc: Global) -> Result<String, AllocError> {
     )
 }
 
-#[test]
-fn both_ends_in_one_thread(rt: HostRuntime) -> Result<(), Fail> {
-    wants(
-        both_ends(rt.alloc()),
-        "4 pushed, 2 popped, 2 in the ring\n\
-         3 owed at the end, Some(2) in the ring after it, 2 held\n\
-         0 written, 0 discarded not reported",
-    )
-}
+const BOTH_ENDS: &str = "4 pushed, 2 popped, 2 in the ring
+3 owed at the end, Some(2) in the ring after it, 2 held
+0 written, 0 discarded not reported";
 
 // Two blocks, of three frames of the first cut and two of the second.
 fn feed(feeder: &mut Feeder, blocks: u8) -> u8 {
@@ -477,11 +465,15 @@ fn greatest_ring(alloc: Global) -> Result<String, AllocError> {
 }
 
 // The greatest ring holds 64 blocks and no frame more, and each hand is one write.
+const GREATEST_RING: &str = "64 blocks and 0 frames pushed; 65 hands written and 0 frames left
+266240 bytes, 66560 frames written";
+
+// Worked steps, both ends in one thread, and the greatest ring.
 #[test]
-fn the_greatest_ring(rt: HostRuntime) -> Result<(), Fail> {
-    wants(
-        greatest_ring(rt.alloc()),
-        "64 blocks and 0 frames pushed; 65 hands written and 0 frames left\n\
-         266240 bytes, 66560 frames written",
-    )
+fn worked_rings(rt: HostRuntime) -> Result<(), Fail> {
+    for (sizes, point, steps, tells) in ROWS.iter() {
+        wants(told_of(rt.alloc(), *sizes, *point, steps), tells)?;
+    }
+    wants(both_ends(rt.alloc()), BOTH_ENDS)?;
+    wants(greatest_ring(rt.alloc()), GREATEST_RING)
 }

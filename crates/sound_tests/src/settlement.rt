@@ -10,7 +10,7 @@ use std::alloc::{AllocError, Global};
 use std::marker::Brand;
 use std::sync::ledger::{Blank, Ledger};
 use std::test::Fail;
-use wanted::wants;
+use wanted::{Told, wants};
 
 // A hand that is filled and written out, and perhaps reported.
 #[derive(Clone, Copy)]
@@ -99,27 +99,28 @@ fn settled(
 }
 
 // Adds what is settled: the frames decoded, written, discarded and left, and the bytes of a torn one.
-fn tell_answer(told: &mut String, answer: Answer) -> Result<(), AllocError> {
+fn tell_answer(told: &mut Told, answer: Result<Answer, AllocError>) {
     match answer {
-        Ok(found) => {
+        Ok(Ok(found)) => {
             let (decoded, written, discarded) = (found.decoded, found.written, found.discarded);
             let (left, torn) = (found.left, found.torn);
-            told.write_fmt(format_args!(
+            told.add(format_args!(
                 "{decoded} decoded: {written} written, {discarded} discarded, {left} left; {torn} bytes torn\n"
-            ))
+            ));
         }
-        Err(SettleFault::Mismatch) => told.push_str("mismatch\n"),
-        Err(_) => told.push_str("another fault\n"),
+        Ok(Err(SettleFault::Mismatch)) => told.add("mismatch\n"),
+        Ok(Err(_)) => told.add("another fault\n"),
+        Err(_) => told.fail(),
     }
 }
 
 // The same for each of several books: the frames decoded, written and discarded.
 fn told_of(alloc: Global, run: Run<'_>, books: &[[u64; 3]]) -> Result<String, AllocError> {
-    let mut told = String::new(alloc);
+    let mut told = Told::new(alloc);
     for book in books {
-        tell_answer(&mut told, settled(alloc, run, book[0], book[1], book[2])?)?;
+        tell_answer(&mut told, settled(alloc, run, book[0], book[1], book[2]));
     }
-    Ok(told)
+    told.into_text()
 }
 
 const PLAYED: Turn = Turn {
@@ -190,34 +191,36 @@ const GREATEST: Run<'static> = Run {
     turns: &[PLAYED],
 };
 
-#[test]
-fn books_are_settled(rt: HostRuntime) -> Result<(), Fail> {
-    let alloc = rt.alloc();
-    wants(
-        told_of(
-            alloc,
-            OLD_CUT,
-            &[[12, 3, 5], [12, 3, 6], [12, 2, 5], [11, 3, 5]],
-        ),
+// A run, books of the frames decoded, written and discarded, and how each is settled.
+type Row = (Run<'static>, &'static [[u64; 3]], &'static str);
+
+const ROWS: &[Row] = &[
+    (
+        OLD_CUT,
+        &[[12, 3, 5], [12, 3, 6], [12, 2, 5], [11, 3, 5]],
         "12 decoded: 3 written, 5 discarded, 4 left; 0 bytes torn\nmismatch\nmismatch\nmismatch\n",
-    )?;
-    wants(
-        told_of(alloc, ONE_UNREPORTED, &[[12, 3, 3], [12, 3, 5]]),
+    ),
+    (
+        ONE_UNREPORTED,
+        &[[12, 3, 3], [12, 3, 5]],
         "12 decoded: 3 written, 5 discarded, 4 left; 0 bytes torn\nmismatch\n",
-    )?;
-    wants(
-        told_of(alloc, ONE_PAUSED, &[[3, 2, 0]]),
+    ),
+    (
+        ONE_PAUSED,
+        &[[3, 2, 0]],
         "3 decoded: 2 written, 0 discarded, 1 left; 0 bytes torn\n",
-    )?;
-    wants(
-        told_of(alloc, TORN, &[[3, 1, 2]]),
+    ),
+    (
+        TORN,
+        &[[3, 1, 2]],
         "3 decoded: 1 written, 2 discarded, 0 left; 2 bytes torn\n",
-    )?;
-    wants(
-        told_of(alloc, GREATEST, &[[1_024, 1_024, 0]]),
+    ),
+    (
+        GREATEST,
+        &[[1_024, 1_024, 0]],
         "1024 decoded: 1024 written, 0 discarded, 0 left; 0 bytes torn\n",
-    )
-}
+    ),
+];
 
 // The first of eight outputs has all that a book can count, and the last one asks for one more.
 fn full_at<L: Ledger>(alloc: Global, blank: Blank) -> Result<(Result<(), AtLimit>, u64), AllocError>
@@ -235,7 +238,10 @@ fn full(alloc: Global) -> Result<(Result<(), AtLimit>, u64), AllocError> {
 }
 
 #[test]
-fn a_full_book(rt: HostRuntime) -> Result<(), Fail> {
+fn settled_and_full_books(rt: HostRuntime) -> Result<(), Fail> {
+    for (run, books, tells) in ROWS.iter() {
+        wants(told_of(rt.alloc(), *run, books), tells)?;
+    }
     assert_eq!(rt; full(rt.alloc())?, (Err(AtLimit), 0x7fff_ffff_ffff_ffff));
     Ok(())
 }

@@ -3,13 +3,13 @@ use crate::tables::{Reads, all_agree, repeated};
 use mpd_text::{Answer, ErrorNumber, SharedText, Text, number};
 use std::alloc::{AllocError, Global};
 use std::test::Fail;
-use wanted::{wants, wants_made};
+use wanted::{Told, wants, wants_made};
 
 /// Adds the number of a text, or that there is none.
-pub fn add_number(told: &mut String, text: &str) -> Result<(), AllocError> {
+pub fn add_number(told: &mut Told, text: &str) {
     match number(text) {
-        Some(number) => told.write_fmt(format_args!("{number}")),
-        None => told.push_str("none"),
+        Some(number) => told.add(number),
+        None => told.add("none"),
     }
 }
 
@@ -25,11 +25,6 @@ const NUMBERS: &str = "0 => 0
  1 => none
 1.5 => none
 \u{663} => none";
-
-#[test]
-fn numbers(rt: HostRuntime) -> Result<(), Fail> {
-    all_agree(rt.alloc(), Reads::Number, NUMBERS)
-}
 
 /// Whether its bytes are those of its text, the same of what an answer is shared as, and the text of a clone.
 fn shared_told(alloc: Global, answer: Answer) -> Result<String, AllocError> {
@@ -55,14 +50,6 @@ fn told_of_each(alloc: Global) -> Result<String, AllocError> {
     shared_told(alloc, answer)
 }
 
-#[test]
-fn answers(rt: HostRuntime) -> Result<(), Fail> {
-    wants(
-        told_of_each(rt.alloc()),
-        "true true volume: 100\npartition: default\nOK\nlist_OK\nACK [50@2] {add} no such song\n",
-    )
-}
-
 /// Adds lines of numbers, and lines that a text is already.
 fn fill_with_number(answer: &mut Answer, number: u64) -> Result<(), AllocError> {
     answer.pair_number("Pos", number)?;
@@ -79,11 +66,7 @@ fn numbered(alloc: Global) -> Result<String, AllocError> {
     Ok(answer.into_string())
 }
 
-#[test]
-fn answers_of_numbers(rt: HostRuntime) -> Result<(), Fail> {
-    wants(
-        numbered(rt.alloc()),
-        "Pos: 61005
+const NUMBERED: &str = "Pos: 61005
 duration: 61.005
 file: a.wav
 Pos: 0
@@ -92,9 +75,7 @@ file: a.wav
 Pos: 18446744073709551615
 duration: 18446744073709551.615
 file: a.wav
-",
-    )
-}
+";
 
 const ERRORS: [ErrorNumber; 9] = [
     ErrorNumber::Argument,
@@ -109,15 +90,17 @@ const ERRORS: [ErrorNumber; 9] = [
 ];
 
 fn error_numbers(alloc: Global) -> Result<String, AllocError> {
-    let mut told = String::new(alloc);
+    let mut told = Told::new(alloc);
     for error in ERRORS.iter() {
-        told.write_fmt(format_args!("{} ", error.number()))?;
+        told.add(format_args!("{} ", error.number()));
     }
-    Ok(told)
+    told.into_text()
 }
 
+/// What texts are read as, and the numbers of the errors.
 #[test]
-fn numbers_of_errors(rt: HostRuntime) -> Result<(), Fail> {
+fn numbers(rt: HostRuntime) -> Result<(), Fail> {
+    all_agree(rt.alloc(), Reads::Number, NUMBERS)?;
     wants(error_numbers(rt.alloc()), "2 4 5 50 51 52 54 55 56 ")
 }
 
@@ -137,15 +120,6 @@ fn told_of_long(alloc: Global) -> Result<String, AllocError> {
     shared_told(alloc, answer)
 }
 
-/// An answer of 100,003 bytes.
-#[test]
-fn a_long_answer(rt: HostRuntime) -> Result<(), Fail> {
-    wants_made(
-        told_of_long(rt.alloc()),
-        repeated(rt.alloc(), "true true ", LINE, 2_000, "OK\n"),
-    )
-}
-
 /// Two texts, and one that was a `Text` for a while.
 fn texts(alloc: Global) -> Result<String, AllocError> {
     let text = Text::new(alloc, "a.wav")?;
@@ -154,7 +128,17 @@ fn texts(alloc: Global) -> Result<String, AllocError> {
     format!(in alloc; "{} {} {passed_on}", text.as_str(), shared.as_str())
 }
 
+/// Lines of each kind, lines of numbers, an answer of 100,003 bytes, and texts.
 #[test]
-fn plain_data_of_texts(rt: HostRuntime) -> Result<(), Fail> {
+fn answers_and_texts(rt: HostRuntime) -> Result<(), Fail> {
+    wants(
+        told_of_each(rt.alloc()),
+        "true true volume: 100\npartition: default\nOK\nlist_OK\nACK [50@2] {add} no such song\n",
+    )?;
+    wants(numbered(rt.alloc()), NUMBERED)?;
+    wants_made(
+        told_of_long(rt.alloc()),
+        repeated(rt.alloc(), "true true ", LINE, 2_000, "OK\n"),
+    )?;
     wants(texts(rt.alloc()), "a.wav evening OK")
 }

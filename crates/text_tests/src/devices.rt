@@ -94,7 +94,6 @@ pub fn read_at<M: Media>(media: &mut M, place: u64, buf: &mut [u8]) -> Result<us
 }
 
 /// A call of a writer, and its answer.
-#[derive(Clone, Copy)]
 enum Output {
     Write(&'static str, Result<usize, ErrorKind>),
     Flush(Result<(), ErrorKind>),
@@ -120,7 +119,6 @@ fn first_untaken<W: Sink>(out: &mut W, steps: &[Output]) -> Option<usize> {
 }
 
 /// A call of a reader, and its answer. The bytes are all those of the room, which a read finds with zeros.
-#[derive(Clone, Copy)]
 enum Input {
     Read(usize, &'static str),
     ReadFails(ErrorKind),
@@ -185,12 +183,6 @@ fn follow_blocking_reader(alloc: Global) -> Result<(Option<usize>, (u64, u64, u6
         ],
     );
     Ok((wrong, inner_counts(&reader)))
-}
-
-#[test]
-fn a_counted_reader(rt: HostRuntime) {
-    assert!(rt; follow_failing_reader(rt.alloc()) == Ok(None));
-    assert!(rt; follow_blocking_reader(rt.alloc()) == Ok((None, (0, 1, 2))));
 }
 
 /// Follows a writer that fails, and says whether it holds the bytes.
@@ -278,8 +270,11 @@ fn follow_counted_bytes() -> Option<usize> {
     )
 }
 
+/// Readers that fail and that would block, and seeks.
 #[test]
-fn counted_seeks(rt: HostRuntime) {
+fn counted_readers(rt: HostRuntime) {
+    assert!(rt; follow_failing_reader(rt.alloc()) == Ok(None));
+    assert!(rt; follow_blocking_reader(rt.alloc()) == Ok((None, (0, 1, 2))));
     assert!(rt; follow_failing_media(rt.alloc()) == Ok(None));
     assert!(rt; follow_counted_bytes().is_none());
 }

@@ -3,7 +3,7 @@ use crate::tables::repeated;
 use mpd_text::{Line, SplitFault, Splitter, any_cut, lines_make_the_stream, pieces_do_not_matter};
 use std::alloc::{AllocError, Global};
 use std::test::Fail;
-use wanted::{wants, wants_made};
+use wanted::{Told, wants, wants_made};
 
 fn text_of(line: &Line) -> &str {
     match line {
@@ -13,44 +13,44 @@ fn text_of(line: &Line) -> &str {
 }
 
 /// Adds the lines with a bar after each, and `!` for a line that is not text.
-fn add_lines(all: &mut String, lines: &[Line]) -> Result<(), AllocError> {
+fn add_lines(told: &mut Told, lines: &[Line]) {
     for line in lines {
-        all.write_fmt(format_args!("{}|", text_of(line)))?;
+        told.add(format_args!("{}|", text_of(line)));
     }
-    all.push_str("\n")
+    told.add("\n");
 }
 
 /// Adds the lines that a piece gives, after `too long: ` where the line after them is.
-fn feed(splitter: &mut Splitter, piece: &[u8], all: &mut String) -> Result<(), AllocError> {
+fn feed(splitter: &mut Splitter, piece: &[u8], told: &mut Told) {
     match splitter.feed(piece) {
-        Ok(lines) => add_lines(all, lines.as_slice()),
+        Ok(lines) => add_lines(told, lines.as_slice()),
         Err(SplitFault::LineTooLong(lines)) => {
-            all.push_str("too long: ")?;
-            add_lines(all, lines.as_slice())
+            told.add("too long: ");
+            add_lines(told, lines.as_slice());
         }
-        Err(SplitFault::NoMemory) => Err(AllocError),
+        Err(SplitFault::NoMemory) => told.fail(),
     }
 }
 
 /// What each of these pieces of a stream gives, and whether the splitter is closed after them.
 fn fed(alloc: Global, pieces: &[&[u8]]) -> Result<String, AllocError> {
-    let mut all = String::new(alloc);
+    let mut told = Told::new(alloc);
     let mut splitter = Splitter::new(alloc);
     for piece in pieces {
-        feed(&mut splitter, piece, &mut all)?;
+        feed(&mut splitter, piece, &mut told);
     }
-    all.push_str(if splitter.is_closed() {
+    told.add(if splitter.is_closed() {
         "closed"
     } else {
         "open"
-    })?;
-    Ok(all)
+    });
+    told.into_text()
 }
 
-#[test]
-fn a_stream_in_pieces(rt: HostRuntime) -> Result<(), Fail> {
-    let told = fed(
-        rt.alloc(),
+/// Lines in pieces, an empty one, one that is not text, and one whose character is cut.
+fn short_lines(alloc: Global) -> Result<String, AllocError> {
+    fed(
+        alloc,
         &[
             b"\x70\x69",
             b"\x6e\x67\x0a",
@@ -60,8 +60,7 @@ fn a_stream_in_pieces(rt: HostRuntime) -> Result<(), Fail> {
             b"\xab\r",
             b"\nstatus\n",
         ],
-    );
-    wants(told, "\nping|\nping|\n!|\n|ping\r|\n\n\u{eb}|status|\nopen")
+    )
 }
 
 /// A line of 16,384 bytes and one of 16,385 by its carriage return.
@@ -78,7 +77,11 @@ fn line_too_long(alloc: Global) -> Result<String, AllocError> {
 }
 
 #[test]
-fn a_line_too_long(rt: HostRuntime) -> Result<(), Fail> {
+fn a_stream_as_lines(rt: HostRuntime) -> Result<(), Fail> {
+    wants(
+        short_lines(rt.alloc()),
+        "\nping|\nping|\n!|\n|ping\r|\n\n\u{eb}|status|\nopen",
+    )?;
     wants_made(
         longest_line(rt.alloc()),
         repeated(rt.alloc(), "\n", "x", 16_384, "|\n\ntoo long: \nclosed"),

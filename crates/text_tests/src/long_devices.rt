@@ -38,11 +38,6 @@ fn sizes(alloc: Global) -> Result<String, std::io::Error> {
     Ok(format!(in alloc; "{of_device} {of_cursor}")?)
 }
 
-#[test]
-fn a_long_device_has_all_its_bytes(rt: HostRuntime) -> Result<(), Fail> {
-    wants(sizes(rt.alloc()), "40000 40000")
-}
-
 /// Whether these bytes stand there twice, with nothing else.
 fn is_twice(twice: &[u8], bytes: &[u8]) -> bool {
     twice.len() == 80_000 && twice.starts_with(bytes) && twice.ends_with(bytes)
@@ -122,6 +117,7 @@ fn long_calls(alloc: Global) -> Result<String, AllocError> {
 }
 
 #[test]
-fn long_calls_are_handed_on(rt: HostRuntime) -> Result<(), Fail> {
+fn a_long_device_is_handed_on_whole(rt: HostRuntime) -> Result<(), Fail> {
+    wants(sizes(rt.alloc()), "40000 40000")?;
     wants(long_calls(rt.alloc()), "true true true true")
 }

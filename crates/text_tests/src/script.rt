@@ -4,16 +4,14 @@ use crate::tables::{Reads, all_agree, read, repeated};
 use script_lines::{JobStep, LimitName, ScriptLine, Step};
 use std::alloc::{AllocError, Global};
 use std::test::Fail;
-use wanted::{wants, wants_made};
+use wanted::{Told, wants, wants_made};
 
 /// Adds whose line it is, and what follows in brackets.
-pub fn add_head(told: &mut String, line: &str) -> Result<(), AllocError> {
+pub fn add_head(told: &mut Told, line: &str) {
     match ScriptLine::of(line) {
-        ScriptLine::Client(client, text) => told.write_fmt(format_args!(
-            "client {client} [{text}]"
-        )),
-        ScriptLine::Step(text) => told.write_fmt(format_args!("step [{text}]")),
-        ScriptLine::Bad => told.push_str("neither"),
+        ScriptLine::Client(client, text) => told.add(format_args!("client {client} [{text}]")),
+        ScriptLine::Step(text) => told.add(format_args!("step [{text}]")),
+        ScriptLine::Bad => told.add("neither"),
     }
 }
 
@@ -38,37 +36,38 @@ fn heads(rt: HostRuntime) -> Result<(), Fail> {
 }
 
 /// Adds what a step says, or that it is bad.
-pub fn add_step(told: &mut String, alloc: Global, rest: &str) -> Result<(), AllocError> {
-    match Step::of_line(alloc, rest)? {
-        Some(step) => add_said(told, &step),
-        None => told.push_str("bad"),
+pub fn add_step(told: &mut Told, alloc: Global, rest: &str) {
+    match Step::of_line(alloc, rest) {
+        Ok(Some(step)) => add_said(told, &step),
+        Ok(None) => told.add("bad"),
+        Err(_) => told.fail(),
     }
 }
 
-fn add_said(told: &mut String, step: &Step) -> Result<(), AllocError> {
+fn add_said(told: &mut Told, step: &Step) {
     match step {
         Step::Song(song) => songs::add_song(told, song),
-        Step::Limit(name, value) => told.write_fmt(format_args!("{name:?} {value}")),
-        Step::Gone(number) => told.write_fmt(format_args!("gone {number}")),
-        Step::Scanned => told.push_str("scanned"),
-        Step::Window => told.push_str("window"),
+        Step::Limit(name, value) => told.add(format_args!("{name:?} {value}")),
+        Step::Gone(number) => told.add(format_args!("gone {number}")),
+        Step::Scanned => told.add("scanned"),
+        Step::Window => told.add("window"),
         Step::Job(job) => add_job(told, job),
         Step::JobIn(name, job) => {
-            told.write_fmt(format_args!("in {} ", name.as_str()))?;
-            add_job(told, job)
+            told.add(format_args!("in {} ", name.as_str()));
+            add_job(told, job);
         }
         Step::Turn(written, discarded, failed) => {
-            told.write_fmt(format_args!("turn {written} {discarded} {failed}"))
+            told.add(format_args!("turn {written} {discarded} {failed}"));
         }
     }
 }
 
 /// Adds what a step of the decoder says.
-fn add_job(told: &mut String, step: &JobStep) -> Result<(), AllocError> {
+fn add_job(told: &mut Told, step: &JobStep) {
     match step {
-        JobStep::Want => told.push_str("want"),
-        JobStep::Have(job, count) => told.write_fmt(format_args!("have {job} {count}")),
-        JobStep::Failed(job, partner) => told.write_fmt(format_args!("failed {job} {partner}")),
+        JobStep::Want => told.add("want"),
+        JobStep::Have(job, count) => told.add(format_args!("have {job} {count}")),
+        JobStep::Failed(job, partner) => told.add(format_args!("failed {job} {partner}")),
     }
 }
 
@@ -91,12 +90,6 @@ song a.wav \"8 => bad
 Song a.wav 8 => bad
 nosuch => bad
  => bad";
-
-#[test]
-fn songs(rt: HostRuntime) -> Result<(), Fail> {
-    all_agree(rt.alloc(), Reads::Step, SONGS)?;
-    wants(read(rt.alloc(), Reads::Step, "song \"a\nb\" 8"), "bad")
-}
 
 const LIMITS: &str = "limit max_queue 1 => MaxQueue 1
 limit max_queue 16384 => MaxQueue 16384
@@ -142,29 +135,16 @@ Window => bad";
 
 const NAMES: &str = "everyday|history|max_cut|max_id|max_queue|max_version";
 
-/// The limit that a word names, and its greatest value.
-fn add_limit(told: &mut String, word: &str) -> Result<(), AllocError> {
-    match LimitName::of_word(word) {
-        Some(name) => told.write_fmt(format_args!("{name:?} {}|", name.greatest())),
-        None => told.push_str("none"),
-    }
-}
-
+/// The limits that words name, each with its greatest value.
 fn greatest(alloc: Global) -> Result<String, AllocError> {
-    let mut told = String::new(alloc);
+    let mut told = Told::new(alloc);
     for word in NAMES.split('|') {
-        add_limit(&mut told, word)?;
+        match LimitName::of_word(word) {
+            Some(name) => told.add(format_args!("{name:?} {}|", name.greatest())),
+            None => told.add("none"),
+        }
     }
-    Ok(told)
-}
-
-#[test]
-fn limits(rt: HostRuntime) -> Result<(), Fail> {
-    all_agree(rt.alloc(), Reads::Step, LIMITS)?;
-    wants(
-        greatest(rt.alloc()),
-        "Everyday 1|History 4096|MaxCut 4294967295|MaxId 2147483647|MaxQueue 16384|MaxVersion 2147483647|",
-    )
+    told.into_text()
 }
 
 const JOBS: &str = "want => want
@@ -200,11 +180,6 @@ failed 1 \"\" => bad
 failed 1 partner partner => bad
 Failed 1 => bad";
 
-#[test]
-fn jobs(rt: HostRuntime) -> Result<(), Fail> {
-    all_agree(rt.alloc(), Reads::Step, JOBS)
-}
-
 const JOBS_IN: &str = "in k want => in k want
 in \"k\" have 1 1024 => in k have 1 1024
 in up_stairs-2 failed 3 partner => in up_stairs-2 failed 3 true
@@ -218,11 +193,6 @@ in k turn 0 0 0 => bad
 in k in k want => bad
 in k scanned => bad
 In k want => bad";
-
-#[test]
-fn jobs_in_a_partition(rt: HostRuntime) -> Result<(), Fail> {
-    all_agree(rt.alloc(), Reads::Step, JOBS_IN)
-}
 
 const TURNS: &str = "turn 0 0 0 => turn 0 0 false
 turn 0 5 6 => turn 5 6 false
@@ -250,8 +220,18 @@ turn 0 1 2 \"\" => bad
 turn 0 1 2 failed failed => bad
 Turn 0 1 2 => bad";
 
+/// Songs, limits, jobs, jobs in a partition, and turns.
 #[test]
-fn turns(rt: HostRuntime) -> Result<(), Fail> {
+fn steps(rt: HostRuntime) -> Result<(), Fail> {
+    all_agree(rt.alloc(), Reads::Step, SONGS)?;
+    wants(read(rt.alloc(), Reads::Step, "song \"a\nb\" 8"), "bad")?;
+    all_agree(rt.alloc(), Reads::Step, LIMITS)?;
+    wants(
+        greatest(rt.alloc()),
+        "Everyday 1|History 4096|MaxCut 4294967295|MaxId 2147483647|MaxQueue 16384|MaxVersion 2147483647|",
+    )?;
+    all_agree(rt.alloc(), Reads::Step, JOBS)?;
+    all_agree(rt.alloc(), Reads::Step, JOBS_IN)?;
     all_agree(rt.alloc(), Reads::Step, TURNS)
 }
 
@@ -274,7 +254,7 @@ fn long_song(alloc: Global, uri: usize, text: usize) -> Result<String, AllocErro
 }
 
 #[test]
-fn longest(rt: HostRuntime) -> Result<(), Fail> {
+fn the_longest_song(rt: HostRuntime) -> Result<(), Fail> {
     wants_made(
         long_song(rt.alloc(), 1_024, 1_024),
         with_long(rt.alloc(), "", 1_024, " 8|Album=", 1_024),

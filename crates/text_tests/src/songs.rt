@@ -2,21 +2,14 @@
 use mpd_text::{Song, TAG_NAMES, Tag, TagName};
 use std::alloc::{AllocError, Global};
 use std::test::Fail;
-use wanted::{wants, wants_made};
+use wanted::{Told, wants, wants_made};
 
 /// Adds the URI, the frames, and each tag after a bar.
-pub fn add_song(told: &mut String, song: &Song) -> Result<(), AllocError> {
-    told.write_fmt(format_args!("{} {}", song.uri(), song.frames()))?;
+pub fn add_song(told: &mut Told, song: &Song) {
+    told.add(format_args!("{} {}", song.uri(), song.frames()));
     for tag in song.tags() {
-        told.write_fmt(format_args!("|{:?}={}", tag.name(), tag.text()))?;
+        told.add(format_args!("|{:?}={}", tag.name(), tag.text()));
     }
-    Ok(())
-}
-
-fn shown(alloc: Global, song: &Song) -> Result<String, AllocError> {
-    let mut told = String::new(alloc);
-    add_song(&mut told, song)?;
-    Ok(told)
 }
 
 /// A tag of each name, with this text.
@@ -28,12 +21,7 @@ fn tags(alloc: Global, names: &[TagName], text: &str) -> Result<Vec<Tag>, AllocE
     Ok(tags)
 }
 
-/// A song of a URI, tags and frames, or nothing where it is refused.
-fn made(alloc: Global, uri: &str, tags: Vec<Tag>, frames: u64) -> Result<Option<Song>, AllocError> {
-    Ok(Song::new(String::from_str(alloc, uri)?, tags, frames))
-}
-
-/// A song as it is shown, with these tags of one text.
+/// A song as it is shown, with these tags of one text, or that it is refused.
 fn made_and_shown(
     alloc: Global,
     uri: &str,
@@ -41,18 +29,14 @@ fn made_and_shown(
     text: &str,
     frames: u64,
 ) -> Result<String, AllocError> {
-    match made(alloc, uri, tags(alloc, names, text)?, frames)? {
-        Some(song) => shown(alloc, &song),
-        None => String::from_str(alloc, "a newline"),
+    let uri = String::from_str(alloc, uri)?;
+    let song = Song::new(uri, tags(alloc, names, text)?, frames);
+    let mut told = Told::new(alloc);
+    match song {
+        Some(song) => add_song(&mut told, &song),
+        None => told.add("a newline"),
     }
-}
-
-#[test]
-fn songs(rt: HostRuntime) -> Result<(), Fail> {
-    let told = made_and_shown(rt.alloc(), "folder/b.wav", &[TagName::Title], "Bee", 16_000);
-    wants(told, "folder/b.wav 16000|Title=Bee")?;
-    let refused = made_and_shown(rt.alloc(), "a\n.wav", &[], "", 1);
-    wants(refused, "a newline")
+    told.into_text()
 }
 
 fn longest_told(alloc: Global) -> Result<String, AllocError> {
@@ -76,21 +60,22 @@ fn longest(alloc: Global) -> Result<String, AllocError> {
     )
 }
 
-#[test]
-fn the_longest_texts_of_a_song(rt: HostRuntime) -> Result<(), Fail> {
-    wants_made(longest_told(rt.alloc()), longest(rt.alloc()))
-}
-
 fn names_in_order(alloc: Global) -> Result<String, AllocError> {
-    let mut told = String::new(alloc);
+    let mut told = Told::new(alloc);
     for name in TAG_NAMES.iter() {
-        told.write_fmt(format_args!("{}|", name.text()))?;
+        told.add(format_args!("{}|", name.text()));
     }
-    Ok(told)
+    told.into_text()
 }
 
+/// A song and one that is refused, the longest texts, and the order of tags.
 #[test]
-fn tags_are_shown_in_one_order(rt: HostRuntime) -> Result<(), Fail> {
+fn songs_and_tags(rt: HostRuntime) -> Result<(), Fail> {
+    let told = made_and_shown(rt.alloc(), "folder/b.wav", &[TagName::Title], "Bee", 16_000);
+    wants(told, "folder/b.wav 16000|Title=Bee")?;
+    let refused = made_and_shown(rt.alloc(), "a\n.wav", &[], "", 1);
+    wants(refused, "a newline")?;
+    wants_made(longest_told(rt.alloc()), longest(rt.alloc()))?;
     wants(
         names_in_order(rt.alloc()),
         "Title|Artist|Album|Date|Genre|Comment|",

@@ -2,7 +2,7 @@
 use crate::{answers, script, words};
 use std::alloc::{AllocError, Global};
 use std::test::Fail;
-use wanted::wants;
+use wanted::{Told, wants};
 
 /// What reads the left side of a line of a table.
 #[derive(Clone, Copy)]
@@ -19,21 +19,17 @@ pub enum Reads {
     Step,
 }
 
-fn add_read(told: &mut String, alloc: Global, reads: Reads, text: &str) -> Result<(), AllocError> {
-    match reads {
-        Reads::Number => answers::add_number(told, text),
-        Reads::Words => words::add_words(told, alloc, text),
-        Reads::Quoted => words::add_quoted(told, alloc, text),
-        Reads::Head => script::add_head(told, text),
-        Reads::Step => script::add_step(told, alloc, text),
-    }
-}
-
 /// What is read of a text.
 pub fn read(alloc: Global, reads: Reads, text: &str) -> Result<String, AllocError> {
-    let mut told = String::new(alloc);
-    add_read(&mut told, alloc, reads, text)?;
-    Ok(told)
+    let mut told = Told::new(alloc);
+    match reads {
+        Reads::Number => answers::add_number(&mut told, text),
+        Reads::Words => words::add_words(&mut told, alloc, text),
+        Reads::Quoted => words::add_quoted(&mut told, alloc, text),
+        Reads::Head => script::add_head(&mut told, text),
+        Reads::Step => script::add_step(&mut told, alloc, text),
+    }
+    told.into_text()
 }
 
 fn agrees(alloc: Global, reads: Reads, line: &str) -> Result<(), Fail> {

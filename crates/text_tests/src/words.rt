@@ -3,27 +3,29 @@ use crate::tables::{Reads, all_agree, read, repeated};
 use mpd_text::{WordsFault, one_reading, quote, some_reading, words, words_read_quotes};
 use std::alloc::{AllocError, Global};
 use std::test::Fail;
-use wanted::{wants, wants_made};
+use wanted::{Told, wants, wants_made};
 
-fn add_each(told: &mut String, words: &[String]) -> Result<(), AllocError> {
+fn add_each(told: &mut Told, words: &[String]) {
     for word in words {
-        told.write_fmt(format_args!("{word}|"))?;
+        told.add(format_args!("{word}|"));
     }
-    Ok(())
 }
 
 /// Adds the words with a bar after each, or the fault's name.
-pub fn add_words(told: &mut String, alloc: Global, line: &str) -> Result<(), AllocError> {
+pub fn add_words(told: &mut Told, alloc: Global, line: &str) {
     match words(alloc, line) {
         Ok(found) => add_each(told, found.as_slice()),
-        Err(WordsFault::NoMemory) => Err(AllocError),
-        Err(fault) => told.write_fmt(format_args!("{fault:?}")),
+        Err(WordsFault::NoMemory) => told.fail(),
+        Err(fault) => told.add(format_args!("{fault:?}")),
     }
 }
 
 /// Adds a text in quotes.
-pub fn add_quoted(told: &mut String, alloc: Global, text: &str) -> Result<(), AllocError> {
-    told.push_str(quote(alloc, text)?.as_str())
+pub fn add_quoted(told: &mut Told, alloc: Global, text: &str) {
+    match quote(alloc, text) {
+        Ok(quoted) => told.add(quoted.as_str()),
+        Err(_) => told.fail(),
+    }
 }
 
 // The last lines have 65 words, the most, and one more with each fault.
@@ -46,19 +48,9 @@ ping x x x x x x x x x x x x x x x x x x x x x x x x x x x x x x x x x x x x x x
 ping x x x x x x x x x x x x x x x x x x x x x x x x x x x x x x x x x x x x x x x x x x x x x x x x x x x x x x x x x x x x x x x x a\"b => TooMany
 ping x x x x x x x x x x x x x x x x x x x x x x x x x x x x x x x x x x x x x x x x x x x x x x x x x x x x x x x x x x x x x x x x \" => TooMany";
 
-#[test]
-fn the_first_fault_of_words(rt: HostRuntime) -> Result<(), Fail> {
-    all_agree(rt.alloc(), Reads::Words, FAULTS)
-}
-
 const SEVERAL_BYTES: &str = "\u{eb}\u{20ac}\u{1f3b5} \u{eb} => \u{eb}\u{20ac}\u{1f3b5}|\u{eb}|
 \"\\\u{1f3b5}\\\u{eb}\" => \u{1f3b5}\u{eb}|
 \u{a0} => \u{a0}|";
-
-#[test]
-fn words_of_several_bytes_a_character(rt: HostRuntime) -> Result<(), Fail> {
-    all_agree(rt.alloc(), Reads::Words, SEVERAL_BYTES)
-}
 
 // The third is the reference's example of a filter, and of the same as an argument.
 const QUOTED: &str = "a\"b\\ => \"a\\\"b\\\\\"
@@ -67,8 +59,11 @@ const QUOTED: &str = "a\"b\\ => \"a\\\"b\\\\\"
 Zo\u{eb}\t\u{1f3b5} => \"Zo\u{eb}\t\u{1f3b5}\"
 1 \"\\\u{1f3b5}\\ => \"1 \\\"\\\\\u{1f3b5}\\\\\"";
 
+/// The first fault of words, words of several bytes a character, and texts in quotes.
 #[test]
-fn a_text_in_quotes(rt: HostRuntime) -> Result<(), Fail> {
+fn words_and_quotes(rt: HostRuntime) -> Result<(), Fail> {
+    all_agree(rt.alloc(), Reads::Words, FAULTS)?;
+    all_agree(rt.alloc(), Reads::Words, SEVERAL_BYTES)?;
     all_agree(rt.alloc(), Reads::Quoted, QUOTED)
 }
 
@@ -84,10 +79,13 @@ fn long_read(
     read(alloc, Reads::Words, line.as_str())
 }
 
+/// A text in quotes, as the table above has it, and a space after it.
+const IN_QUOTES: &str = "\"1 \\\"\\\\\u{1f3b5}\\\\\" ";
+
 /// Lines of 16,384 bytes: a command of 4 bytes, a space and an argument of 16,379; and one quoted word of 8,191
-/// characters, each after a backslash.
+/// characters, each after a backslash. And quoted texts are read back.
 #[test]
-fn the_longest_line(rt: HostRuntime) -> Result<(), Fail> {
+fn long_lines(rt: HostRuntime) -> Result<(), Fail> {
     wants_made(
         long_read(rt.alloc(), "find ", "x", 16_379, ""),
         repeated(rt.alloc(), "find|", "x", 16_379, "|"),
@@ -95,14 +93,7 @@ fn the_longest_line(rt: HostRuntime) -> Result<(), Fail> {
     wants_made(
         long_read(rt.alloc(), "\"", "\\\"", 8_191, "\""),
         repeated(rt.alloc(), "", "\"", 8_191, "|"),
-    )
-}
-
-/// A text in quotes, as the table above has it, and a space after it.
-const IN_QUOTES: &str = "\"1 \\\"\\\\\u{1f3b5}\\\\\" ";
-
-#[test]
-fn quoted_texts_are_read_back(rt: HostRuntime) -> Result<(), Fail> {
+    )?;
     wants_made(
         long_read(rt.alloc(), "", IN_QUOTES, 65, ""),
         repeated(rt.alloc(), "", "1 \"\\\u{1f3b5}\\|", 65, ""),

@@ -4,8 +4,11 @@
 
 ghost use Rattle.std.specs.Prelude.{◌≡◌, ◌≢◌, IfOk, IsOk, OnErr, OnOk, string_bytes};
 
+mod told;
+
 use std::alloc::AllocError;
 use std::test::Fail;
+pub use told::Told;
 
 /// Something is told, and it is what is wanted.
 pub fn wants<E: Drop>(told: Result<String, E>, wanted: &str) -> Result<(), Fail>

@@ -1,0 +1,69 @@
+//! What a test is told, piece by piece.
+ghost use Rattle.std.specs.Prelude.{◌≡◌, None, Some, [], IfOk, IfSome, OnErr, string_bytes};
+ghost use Rattle.std.specs.Fmt.{AppendsText};
+
+use std::alloc::{AllocError, Global};
+use std::fmt::Display;
+use std::marker::Model;
+
+/// A text that grows. A fault is kept: who adds to it need not ask after each piece, and a test that gives the
+/// text to [`crate::wants`] does not pass. A clause sees its bytes, or none after a fault.
+pub struct Told {
+    text: String,
+    is_whole: bool,
+}
+
+// Written out, so that a proof goes through one call where it lets one go (docs/DECISIONS.md).
+impl Drop for Told {
+    fn drop(self) {
+        let Told {
+            text: _,
+            is_whole: _,
+        } = self;
+    }
+}
+
+impl Model for Told {
+    ghost use Rattle.std.specs.Prelude.{List, Option, None, Some, ℕ, if◌then◌else◌, string_bytes};
+
+    ghost Value = { Option (List ℕ) };
+
+    ghost view = { λ t. if t.is_whole then Some (string_bytes t.text) else None };
+}
+
+impl Told {
+    pub fn new(alloc: Global) -> Told
+        ensures { result ≡ Some [] }
+    {
+        Told {
+            text: String::new(alloc),
+            is_whole: true,
+        }
+    }
+
+    /// Adds a piece, or keeps that there was no memory for it.
+    pub fn add<D: Display + Drop>(&mut self, piece: D)
+        ensures added { IfSome self.new (λ bytes. IfSome self.old (λ before. AppendsText before bytes (D.output piece))) }
+        ensures kept { self.old ≡ None → self.new ≡ None }
+    {
+        if self.text.write_fmt(piece).is_err() {
+            self.fail();
+        }
+    }
+
+    /// Keeps that there was a fault.
+    pub fn fail(&mut self)
+        ensures { self.new ≡ None }
+    {
+        self.is_whole = false;
+    }
+
+    /// The text; a fault where one was kept.
+    pub fn into_text(self) -> Result<String, AllocError>
+        ensures text { IfOk result (λ text. self ≡ Some (string_bytes text)) }
+        ensures fault { OnErr result (self ≡ None) }
+    {
+        let Told { text, is_whole } = self;
+        if is_whole { Ok(text) } else { Err(AllocError) }
+    }
+}
