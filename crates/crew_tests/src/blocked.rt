@@ -1,11 +1,9 @@
 //! An output that stands in a write delays no caller and no other output, and what it is not yet rid of is
 //! left at the end.
-use crate::door::{Rooms, behind_a_door};
-use crate::rooms::Day;
+use crate::door::behind_a_door;
 use crate::tunes::{Tone, Tune, listed, tune_of};
-use crate::wire::right_to_the_hall;
+use crate::wire::add_right_to_the_hall;
 use crate::wired::told_with_lines;
-use partition::PartitionFault;
 use std::alloc::{AllocError, Global};
 use std::sync::Wait;
 use std::test::Fail;
@@ -28,7 +26,7 @@ fn saw(alloc: Global, frames: i32) -> Result<Vec<Tune>, AllocError> {
 fn write_told<R: Threads + Wait + Clock + Copy + Drop + Send + Sync + 'static>(
     rt: R,
     alloc: Global,
-) -> Result<String, PartitionFault> {
+) -> Result<String, AllocError> {
     let script = "add a.wav
 play
 ~ an output stands in its write
@@ -38,8 +36,8 @@ setvol 100
 ping
 ~ the door opens
 ~ hall 8000";
-    let (day, mut rooms) = behind_a_door(rt, alloc, saw(alloc, 8_000)?, 0, 20_000, script)?;
-    told_with_lines(alloc, &day, &mut rooms.wires, Tone::Saw)
+    let (day, mut rooms) = behind_a_door(rt, alloc, saw(alloc, 8_000), 0, 20_000, script)?;
+    told_with_lines(day, &mut rooms.wires, Tone::Saw)
 }
 
 /// The song has fewer frames than a ring, so that the attic gets all of them though the hall takes none.
@@ -61,7 +59,7 @@ right frames in the hall 8000, in the attic 8000
 fn pause_told<R: Threads + Wait + Clock + Copy + Drop + Send + Sync + 'static>(
     rt: R,
     alloc: Global,
-) -> Result<String, PartitionFault> {
+) -> Result<String, AllocError> {
     let script = "add a.wav
 play
 ~ an output stands in its write
@@ -69,8 +67,8 @@ play
 ~ only 10240
 pause 1
 ~ the door opens";
-    let (day, _rooms) = behind_a_door(rt, alloc, saw(alloc, 20_000)?, 0, 20_000, script)?;
-    day.told(alloc)
+    let (day, _rooms) = behind_a_door(rt, alloc, saw(alloc, 20_000), 0, 20_000, script)?;
+    day.told().into_text()
 }
 
 /// The hall has 1,024 frames in its hand and 8,192 in its ring, and 1,024 are owed to it, so nothing more is
@@ -87,23 +85,19 @@ decoded 10240, written 1024, discarded 0, left 9216, torn 0
 decoded 10240, written 10240, discarded 0, left 0, torn 0
 ";
 
-/// What came of a day, with what its first output wrote and whether frames of its second are left.
-fn late_of(alloc: Global, day: &Day) -> Result<String, PartitionFault> {
-    let (heard, hall) = (&day.heard, day.balance(alloc, 0)?);
-    let attic = day.rest(alloc, 1)?;
-    Ok(format!(in alloc; "{heard}{hall}{attic}")?)
-}
-
+/// What its first output wrote, and whether frames of its second are left.
 fn late_told<R: Threads + Wait + Clock + Copy + Drop + Send + Sync + 'static>(
     rt: R,
     alloc: Global,
-) -> Result<String, PartitionFault> {
+) -> Result<String, AllocError> {
     let script = "add a.wav
 play
 ~ hall 3000
 ~ an output stands in its write";
-    let (day, _rooms) = behind_a_door(rt, alloc, saw(alloc, 3_000)?, 1, 2_000, script)?;
-    late_of(alloc, &day)
+    let (mut day, _rooms) = behind_a_door(rt, alloc, saw(alloc, 3_000), 1, 2_000, script)?;
+    day.balance(0);
+    day.rest(1);
+    day.into_heard()
 }
 
 /// The attic has its last turn long after the hall has ended.
@@ -115,20 +109,17 @@ written 3000 torn 0 balanced true
 left true balanced true
 ";
 
-/// What came of a day, with what its first output wrote.
-fn stop_of(alloc: Global, day: &Day, rooms: &mut Rooms) -> Result<String, PartitionFault> {
-    let (heard, hall) = (&day.heard, day.balance(alloc, 0)?);
-    let lines = right_to_the_hall(alloc, &mut rooms.wires, Tone::HandThenSteps)?;
-    Ok(format!(in alloc; "{heard}{hall}{lines}")?)
+/// A song and the next one that is played after a stop.
+fn saw_and_steps(alloc: Global) -> Result<Vec<Tune>, AllocError> {
+    let first = tune_of(alloc, "a.wav", 20_000, 20_000, Tone::Saw)?;
+    let second = tune_of(alloc, "b.wav", 3_000, 3_000, Tone::Steps)?;
+    listed(alloc, first, Some(second))
 }
 
 fn stop_told<R: Threads + Wait + Clock + Copy + Drop + Send + Sync + 'static>(
     rt: R,
     alloc: Global,
-) -> Result<String, PartitionFault> {
-    let first = tune_of(alloc, "a.wav", 20_000, 20_000, Tone::Saw)?;
-    let second = tune_of(alloc, "b.wav", 3_000, 3_000, Tone::Steps)?;
-    let tunes = listed(alloc, first, Some(second))?;
+) -> Result<String, AllocError> {
     let script = "add a.wav
 add b.wav
 play
@@ -138,8 +129,10 @@ stop
 play 1
 ~ the door opens
 ~ hall 4024";
-    let (day, mut rooms) = behind_a_door(rt, alloc, tunes, 0, 20_000, script)?;
-    stop_of(alloc, &day, &mut rooms)
+    let (mut day, mut rooms) = behind_a_door(rt, alloc, saw_and_steps(alloc), 0, 20_000, script)?;
+    day.balance(0);
+    add_right_to_the_hall(&mut rooms.wires, Tone::HandThenSteps, &mut day.heard);
+    day.into_heard()
 }
 
 /// The hall was in the write of its first hand of 1,024 frames. All else of the first song is of an old cut,

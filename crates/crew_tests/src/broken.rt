@@ -1,8 +1,7 @@
 //! Songs whose files are not there, or are shorter than the library says.
 use crate::tunes::{Tone, Tune, listed, lost_tune, tune_of};
 use crate::wired::{told_with_lines, wired_day};
-use partition::PartitionFault;
-use std::alloc::Global;
+use std::alloc::{AllocError, Global};
 use std::sync::Wait;
 use std::test::Fail;
 use std::thread::Threads;
@@ -16,16 +15,16 @@ fn told<R: Threads + Wait + Clock + Copy + Send + Sync + 'static>(
     second: Tune,
     script: &str,
     tone: Tone,
-) -> Result<String, PartitionFault> {
-    let tunes = listed(alloc, first, Some(second))?;
+) -> Result<String, AllocError> {
+    let tunes = listed(alloc, first, Some(second));
     let (day, mut wires) = wired_day(rt, alloc, tunes, 100_000, script)?;
-    told_with_lines(alloc, &day, &mut wires, tone)
+    told_with_lines(day, &mut wires, tone)
 }
 
 fn after_a_lost_song<R: Threads + Wait + Clock + Copy + Send + Sync + 'static>(
     rt: R,
     alloc: Global,
-) -> Result<String, PartitionFault> {
+) -> Result<String, AllocError> {
     let lost = lost_tune(alloc, "a.wav", 12_000);
     let next = tune_of(alloc, "b.wav", 3_000, 3_000, Tone::Steps)?;
     let script = "add a.wav
@@ -54,7 +53,7 @@ right frames in the hall 3000, in the attic 3000
 fn into_a_short_partner<R: Threads + Wait + Clock + Copy + Send + Sync + 'static>(
     rt: R,
     alloc: Global,
-) -> Result<String, PartitionFault> {
+) -> Result<String, AllocError> {
     let first = tune_of(alloc, "a.wav", 12_000, 12_000, Tone::Saw)?;
     let short = tune_of(alloc, "b.wav", 10_000, 100, Tone::Steps)?;
     let script = "crossfade 1

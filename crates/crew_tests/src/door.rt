@@ -4,7 +4,6 @@ use crate::tunes::Tune;
 use crate::wire::{Wire, Wires, two_wires};
 use counted_devices::Counting;
 use crew_steps::Open;
-use partition::PartitionFault;
 use std::alloc::{AllocError, Global};
 use std::io::Write;
 use std::sync::atomic::{AtomicU32, Ordering};
@@ -116,11 +115,12 @@ fn writers_of<R: Clock + Copy + Drop>(
 pub(crate) fn behind_a_door<R: Threads + Wait + Clock + Copy + Drop + Send + Sync + 'static>(
     rt: R,
     alloc: Global,
-    tunes: Vec<Tune>,
+    tunes: Result<Vec<Tune>, AllocError>,
     output: usize,
     patience: u32,
     script: &str,
-) -> Result<(Day, Rooms), PartitionFault> {
+) -> Result<(Day, Rooms), AllocError> {
+    let tunes = tunes?;
     let (writers, mut rooms) = writers_of(rt, alloc, output, patience)?;
     let stage = Stage {
         tunes,
@@ -128,6 +128,6 @@ pub(crate) fn behind_a_door<R: Threads + Wait + Clock + Copy + Drop + Send + Syn
         gate: shared(alloc, Open)?,
         scanner: Blind,
     };
-    let day = one_day(rt, alloc, stage, script, &mut rooms)?;
+    let day = one_day(rt, alloc, stage, script, &mut rooms);
     Ok((day, rooms))
 }

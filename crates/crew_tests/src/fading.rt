@@ -2,7 +2,6 @@
 //! formulas.
 use crate::tunes::{Tone, Tune, listed, tune_of};
 use crate::wired::{told_with_lines, wired_day};
-use partition::PartitionFault;
 use std::alloc::{AllocError, Global};
 use std::sync::Wait;
 use std::test::Fail;
@@ -19,11 +18,10 @@ fn two_songs(alloc: Global) -> Result<Vec<Tune>, AllocError> {
 fn told<R: Threads + Wait + Clock + Copy + Send + Sync + 'static>(
     rt: R,
     alloc: Global,
-) -> Result<String, PartitionFault> {
-    let tunes = two_songs(alloc)?;
+) -> Result<String, AllocError> {
     let script = "crossfade 1\nsetvol 50\nadd a.wav\nadd b.wav\nplay\n~ hall 14000\n~ attic 14000";
-    let (day, mut wires) = wired_day(rt, alloc, tunes, 100_000, script)?;
-    told_with_lines(alloc, &day, &mut wires, Tone::Faded)
+    let (day, mut wires) = wired_day(rt, alloc, two_songs(alloc), 100_000, script)?;
+    told_with_lines(day, &mut wires, Tone::Faded)
 }
 
 #[test]

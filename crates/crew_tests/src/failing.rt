@@ -1,28 +1,19 @@
 //! A writer that fails: its output is switched off, its frames are discarded, and the other output goes on.
-use crate::rooms::Day;
 use crate::tunes::{Tone, listed, tune_of};
-use crate::wire::{Wires, right_lines};
+use crate::wire::add_right;
 use crate::wired::wired_day;
-use partition::PartitionFault;
-use std::alloc::Global;
+use std::alloc::{AllocError, Global};
 use std::sync::Wait;
 use std::test::Fail;
 use std::thread::Threads;
 use std::time::Clock;
 use wanted::wants;
 
-fn balances(alloc: Global, day: &Day, wires: &mut Wires) -> Result<String, PartitionFault> {
-    let (heard, hall) = (&day.heard, day.balance(alloc, 0)?);
-    let attic = day.balance(alloc, 1)?;
-    let lines = right_lines(alloc, wires, Tone::Saw)?;
-    Ok(format!(in alloc; "{heard}{hall}{attic}{lines}")?)
-}
-
 fn told<R: Threads + Wait + Clock + Copy + Send + Sync + 'static>(
     rt: R,
     alloc: Global,
     room: usize,
-) -> Result<String, PartitionFault> {
+) -> Result<String, AllocError> {
     let song = tune_of(alloc, "a.wav", 12_000, 12_000, Tone::Saw)?;
     let script = "add a.wav
 play
@@ -30,9 +21,11 @@ outputs ~ outputenabled: 0
 enableoutput 0
 outputs
 ~ attic 12000";
-    let tunes = listed(alloc, song, None)?;
-    let (day, mut wires) = wired_day(rt, alloc, tunes, room, script)?;
-    balances(alloc, &day, &mut wires)
+    let (mut day, mut wires) = wired_day(rt, alloc, listed(alloc, song, None), room, script)?;
+    day.balance(0);
+    day.balance(1);
+    add_right(&mut wires, Tone::Saw, Tone::Saw, &mut day.heard);
+    day.into_heard()
 }
 
 // Six bytes are a frame and a half.

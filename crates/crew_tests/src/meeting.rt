@@ -1,11 +1,9 @@
 //! Two outputs run at once: each one's first asking waits for the other's.
 use crate::rooms::{Blind, Stage, one_day, shared};
 use crate::tunes::{Tone, listed, tune_of};
-use crate::wire::two_wires;
-use crate::wired::told_with_lines;
+use crate::wire::{add_right, two_wires};
 use crew_steps::Gate;
-use partition::PartitionFault;
-use std::alloc::Global;
+use std::alloc::{AllocError, Global};
 use std::sync::atomic::{AtomicU32, Ordering};
 use std::sync::{Arc, Wait};
 use std::test::Fail;
@@ -44,7 +42,7 @@ impl Gate for Meeting {
 fn told<R: Threads + Wait + Clock + Copy + Send + Sync + 'static>(
     rt: R,
     alloc: Global,
-) -> Result<String, PartitionFault> {
+) -> Result<String, AllocError> {
     let (writers, mut wires) = two_wires(alloc, 20_000, 20_000)?;
     let tunes = listed(
         alloc,
@@ -64,10 +62,11 @@ fn told<R: Threads + Wait + Clock + Copy + Send + Sync + 'static>(
         scanner: Blind,
     };
     let script = "add a.wav\nplay\n~ hall 3000\n~ attic 3000";
-    let day = one_day(rt, alloc, stage, script, &mut wires)?;
-    let told = told_with_lines(alloc, &day, &mut wires, Tone::Saw)?;
+    let mut told = one_day(rt, alloc, stage, script, &mut wires).told();
+    add_right(&mut wires, Tone::Saw, Tone::Saw, &mut told);
     let has_missed = gate.missed.load(Ordering::SeqCst) != 0;
-    Ok(format!(in alloc; "{told}missed: {has_missed}\n")?)
+    told.add(format_args!("missed: {has_missed}\n"));
+    told.into_text()
 }
 
 #[test]

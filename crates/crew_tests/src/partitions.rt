@@ -3,7 +3,6 @@
 use crate::door::behind_a_door;
 use crate::tunes::{Tone, Tune, listed, tune_of};
 use crate::wired::told_apart;
-use partition::PartitionFault;
 use std::alloc::{AllocError, Global};
 use std::sync::Wait;
 use std::test::Fail;
@@ -22,7 +21,7 @@ fn saw_and_steps(alloc: Global, saw: i32, steps: i32) -> Result<Vec<Tune>, Alloc
 fn apart<R: Threads + Wait + Clock + Copy + Drop + Send + Sync + 'static>(
     rt: R,
     alloc: Global,
-) -> Result<String, PartitionFault> {
+) -> Result<String, AllocError> {
     let script = "newpartition k
 partition k
 moveoutput attic
@@ -38,12 +37,12 @@ play
     let (day, mut rooms) = behind_a_door(
         rt,
         alloc,
-        saw_and_steps(alloc, 6_000, 5_000)?,
+        saw_and_steps(alloc, 6_000, 5_000),
         2,
         0,
         script,
     )?;
-    told_apart(alloc, &day, &mut rooms.wires, Tone::Saw, Tone::Steps)
+    told_apart(day, &mut rooms.wires, Tone::Saw, Tone::Steps)
 }
 
 /// Both entries have the id 1 in their own queues. Each file is opened once, though jobs of the partitions take
@@ -68,7 +67,7 @@ right frames in the hall 6000, in the attic 5000
 fn moved<R: Threads + Wait + Clock + Copy + Drop + Send + Sync + 'static>(
     rt: R,
     alloc: Global,
-) -> Result<String, PartitionFault> {
+) -> Result<String, AllocError> {
     let script = "add a.wav
 play
 ~ an output stands in its write
@@ -84,18 +83,12 @@ play
     let (day, mut rooms) = behind_a_door(
         rt,
         alloc,
-        saw_and_steps(alloc, 20_000, 3_000)?,
+        saw_and_steps(alloc, 20_000, 3_000),
         1,
         20_000,
         script,
     )?;
-    told_apart(
-        alloc,
-        &day,
-        &mut rooms.wires,
-        Tone::Saw,
-        Tone::HandThenSteps,
-    )
+    told_apart(day, &mut rooms.wires, Tone::Saw, Tone::HandThenSteps)
 }
 
 /// The attic has 1,024 frames in its hand, which it writes, and 8,192 in its ring, and 1,024 are owed to it. It is

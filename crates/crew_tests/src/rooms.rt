@@ -15,7 +15,7 @@ use house::House;
 use house_rooms::{blanks, comes, says};
 use mpd_text::SharedText;
 use partition::{Limits, Partition, PartitionFault, Setup};
-use player_state::{Library, Outputs};
+use player_state::Outputs;
 use song_db::SharedDb;
 use std::alloc::{AllocError, Global};
 use std::marker::Brand;
@@ -25,6 +25,7 @@ use std::sync::{Arc, Wait};
 use std::thread;
 use std::thread::Threads;
 use std::time::{Clock, Duration};
+use wanted::Told;
 
 /// What a house is opened with: its songs, what its two outputs `hall` and `attic` write to, what lets them
 /// go on, and what scans.
@@ -60,59 +61,71 @@ pub(crate) trait Watch<R> {
     fn does(&mut self, rt: &R, step: &str) -> bool;
 }
 
-/// What came of a day: what was heard and seen, how many files were opened, and how the outputs were settled.
+/// What came of a day: what was heard and seen, how many files were opened, and how the outputs were settled. What
+/// was heard keeps any fault of the day.
 #[derive(Drop)]
 pub(crate) struct Day {
-    pub(crate) heard: String,
+    pub(crate) heard: Told,
     opened: u32,
-    pub(crate) settled: Vec<Result<Settled, SettleFault>>,
-}
-
-fn settled_told(
-    alloc: Global,
-    settled: &Result<Settled, SettleFault>,
-) -> Result<String, AllocError> {
-    match settled {
-        Ok(s) => format!(in alloc;
-            "decoded {}, written {}, discarded {}, left {}, torn {}\n",
-            s.decoded, s.written, s.discarded, s.left, s.torn
-        ),
-        Err(_) => String::from_str(alloc, "not settled\n"),
-    }
+    settled: Vec<Result<Settled, SettleFault>>,
 }
 
 impl Day {
-    /// What was heard and seen, after it the files that were opened, and a line for each output: frames
-    /// decoded, written, discarded and left, and bytes torn.
-    pub(crate) fn told(&self, alloc: Global) -> Result<String, PartitionFault> {
-        let (heard, opened) = (&self.heard, self.opened);
-        let mut told = format!(in alloc; "{heard}files opened: {opened}\n")?;
-        for one in &self.settled {
-            told.push_str(settled_told(alloc, one)?.as_str())?;
-        }
-        Ok(told)
+    /// What was heard and seen.
+    pub(crate) fn into_heard(self) -> Result<String, AllocError> {
+        let Day {
+            heard,
+            opened: _,
+            settled: _,
+        } = self;
+        heard.into_text()
     }
 
-    /// The frames that an output wrote, the bytes that were torn, and whether those that were written,
+    /// What was heard and seen, after it the files that were opened, and a line for each output: frames
+    /// decoded, written, discarded and left, and bytes torn.
+    pub(crate) fn told(self) -> Told {
+        let Day {
+            heard,
+            opened,
+            settled,
+        } = self;
+        let mut told = heard;
+        told.add(format_args!("files opened: {opened}\n"));
+        for one in &settled {
+            match one {
+                Ok(s) => told.add(format_args!(
+                    "decoded {}, written {}, discarded {}, left {}, torn {}\n",
+                    s.decoded, s.written, s.discarded, s.left, s.torn
+                )),
+                Err(_) => told.add("not settled\n"),
+            }
+        }
+        told
+    }
+
+    /// Adds the frames that an output wrote, the bytes that were torn, and whether those that were written,
     /// discarded and left are the decoded ones.
-    pub(crate) fn balance(&self, alloc: Global, output: usize) -> Result<String, PartitionFault> {
+    pub(crate) fn balance(&mut self, output: usize) {
         let Some(Ok(s)) = self.settled.get(output) else {
-            return Ok(String::from_str(alloc, "not settled\n")?);
+            self.heard.add("not settled\n");
+            return;
         };
         let all = s.written.saturating_add(s.discarded).saturating_add(s.left);
         let same = all == s.decoded;
-        Ok(format!(in alloc; "written {} torn {} balanced {same}\n", s.written, s.torn)?)
+        self.heard.add(format_args!("written {} torn {} balanced {same}\n", s.written, s.torn));
     }
 
-    /// Whether some frames of an output are left, and those that were written, discarded and left are the
+    /// Adds whether some frames of an output are left, and those that were written, discarded and left are the
     /// decoded ones.
-    pub(crate) fn rest(&self, alloc: Global, output: usize) -> Result<String, PartitionFault> {
+    pub(crate) fn rest(&mut self, output: usize) {
         let Some(Ok(s)) = self.settled.get(output) else {
-            return Ok(String::from_str(alloc, "not settled\n")?);
+            self.heard.add("not settled\n");
+            return;
         };
         let all = s.written.saturating_add(s.discarded).saturating_add(s.left);
         let (some, same) = (s.left > 0, all == s.decoded);
-        Ok(format!(in alloc; "left {some} balanced {same}\n")?)
+        self.heard
+            .add(format_args!("left {some} balanced {same}\n"));
     }
 }
 
@@ -125,8 +138,8 @@ fn outputs(alloc: Global) -> Result<Outputs, AllocError> {
     Ok(outputs)
 }
 
-/// A player over a library, with two outputs that are on and a window of 64 events.
-fn player(alloc: Global, library: Library) -> Result<Partition, AllocError>
+/// A player over a library of these songs, with two outputs that are on and a window of 64 events.
+fn player(alloc: Global, tunes: &[Tune]) -> Result<Partition, AllocError>
     ensures { IfOk result (λ player. IsFresh player.present) }
 {
     let limits = Limits {
@@ -141,10 +154,10 @@ fn player(alloc: Global, library: Library) -> Result<Partition, AllocError>
         random_start: 0,
         outputs: outputs(alloc)?,
     };
-    Partition::open(alloc, setup, library)
+    Partition::open(alloc, setup, library(alloc, tunes)?)
 }
 
-/// Says a line again and again until its answer has a text, ten seconds at most.
+/// Says a line again and again until its answer has a text, ten seconds at most. Whether it came.
 fn says_until<L: Ledgers, R: Wait + Clock>(
     rt: &R,
     alloc: Global,
@@ -152,40 +165,49 @@ fn says_until<L: Ledgers, R: Wait + Clock>(
     seat: &mut Seat<L>,
     line: &str,
     text: &str,
-) -> Result<bool, PartitionFault> {
+    told: &mut Told,
+) -> bool {
     for _ in 0..5_000u32 {
-        if says(rt, alloc, house, seat, 1, line)?.contains(text) {
-            return Ok(true);
+        let Ok(heard) = says(rt, alloc, house, seat, 1, line) else {
+            told.fail();
+            return false;
+        };
+        if heard.contains(text) {
+            return true;
         }
         thread::sleep(rt, Duration::from_millis(2));
     }
-    Ok(false)
+    false
 }
 
-/// What is heard of a line of a script: `~ STEP` is a step of the test's own, `LINE ~ TEXT` is said until its
+/// Adds what is heard of a line of a script: `~ STEP` is a step of the test's own, `LINE ~ TEXT` is said until its
 /// answer has the text, and any other line is said once. Of each wait it is told whether what it is for came.
-fn heard_of<L: Ledgers, V: Watch<R>, R: Wait + Clock>(
+fn hears<L: Ledgers, V: Watch<R>, R: Wait + Clock>(
     rt: &R,
     alloc: Global,
     house: &House<L>,
     seat: &mut Seat<L>,
     line: &str,
     watch: &mut V,
-) -> Result<String, PartitionFault> {
+    told: &mut Told,
+) {
     if let Some(step) = line.strip_prefix("~ ") {
         let done = watch.does(rt, step);
-        return Ok(format!(in alloc; "{step}: {done}\n")?);
+        told.add(format_args!("{step}: {done}\n"));
+        return;
     }
-    match line.split_once(" ~ ") {
-        Some((line, text)) => {
-            let came = says_until(rt, alloc, house, seat, line, text)?;
-            Ok(format!(in alloc; "{text}: {came}\n")?)
-        }
-        None => says(rt, alloc, house, seat, 1, line),
+    if let Some((line, text)) = line.split_once(" ~ ") {
+        let came = says_until(rt, alloc, house, seat, line, text, told);
+        told.add(format_args!("{text}: {came}\n"));
+        return;
+    }
+    match says(rt, alloc, house, seat, 1, line) {
+        Ok(heard) => told.add(heard.as_str()),
+        Err(_) => told.fail(),
     }
 }
 
-/// A client comes and goes through a script. What was heard of all its lines.
+/// A client comes and goes through a script. Adds what was heard of all its lines.
 fn plays<L: Ledgers, V: Watch<R>, R: Wait + Clock>(
     rt: &R,
     alloc: Global,
@@ -193,13 +215,14 @@ fn plays<L: Ledgers, V: Watch<R>, R: Wait + Clock>(
     seat: &mut Seat<L>,
     script: &str,
     watch: &mut V,
-) -> Result<String, PartitionFault> {
-    let mut heard = String::new(alloc);
-    comes(rt, house, seat, 1)?;
-    for line in script.lines() {
-        heard.push_str(heard_of(rt, alloc, house, seat, line, watch)?.as_str())?;
+    told: &mut Told,
+) {
+    if comes(rt, house, seat, 1).is_err() {
+        told.fail();
     }
-    Ok(heard)
+    for line in script.lines() {
+        hears(rt, alloc, house, seat, line, watch, told);
+    }
 }
 
 /// The outputs' threads.
@@ -299,53 +322,34 @@ fn crew_of<
     with_scanner(rt, alloc, house, crew, scanner)
 }
 
-/// How each output was settled.
-fn settled_of<L: Ledgers>(
-    alloc: Global,
-    settlements: &[Settlement<L>],
-) -> Result<Vec<Result<Settled, SettleFault>>, AllocError> {
-    let mut settled = Vec::new(alloc);
-    for settlement in settlements {
-        settled.push(settlement.result)?;
-    }
-    Ok(settled)
-}
-
-/// A day of what was heard, and of how the outputs were settled.
-fn day_of<L: Ledgers>(
-    alloc: Global,
-    heard: Result<String, PartitionFault>,
-    opened: u32,
-    settlements: &[Settlement<L>],
-) -> Result<Day, PartitionFault> {
-    let heard = heard?;
-    let settled = settled_of(alloc, settlements)?;
-    Ok(Day {
-        heard,
-        opened,
-        settled,
-    })
-}
-
-/// Goes through a script beside these threads, and closes the house.
+/// Goes through a script beside these threads, and closes the house. Whether all went well but what was heard.
 fn day_with<L: Ledgers, V: Watch<R>, R: Threads + Wait + Clock>(
     rt: &R,
     alloc: Global,
     house: &House<L>,
     seat: &mut Seat<L>,
     crew: Crew<L>,
-    opened: &AtomicU32,
     script: &str,
     watch: &mut V,
-) -> Result<Day, PartitionFault> {
-    let heard = plays(rt, alloc, house, seat, script, watch);
+    day: &mut Day,
+) -> bool {
+    plays(rt, alloc, house, seat, script, watch, &mut day.heard);
     match close(rt, house, seat, crew) {
-        Ok(settlements) => day_of(alloc, heard, opened.load(Ordering::SeqCst), &settlements),
-        Err((crew, fault)) => {
+        Ok(settlements) => settles(day, &settlements),
+        Err((crew, _)) => {
             let_go(crew);
-            Err(fault)
+            false
         }
     }
+}
+
+/// Keeps how each output was settled. Whether there was memory for it.
+fn settles<L: Ledgers>(day: &mut Day, settlements: &[Settlement<L>]) -> bool {
+    let mut is_kept = true;
+    for settlement in settlements {
+        is_kept = day.settled.push(settlement.result).is_ok() && is_kept;
+    }
+    is_kept
 }
 
 /// Starts the threads of a house, goes through a script in it, and closes it.
@@ -365,14 +369,23 @@ fn day_in<
     stage: Stage<O, G, N>,
     script: &str,
     watch: &mut V,
-) -> Result<Day, PartitionFault>
+    day: &mut Day,
+) -> bool
     requires parts { HasAllParts shares.decoded.parts shares.outputs }
     requires empty { AreEmpty shares.outputs }
 {
-    let opened = shared(alloc, AtomicU32::new(0))?;
-    let theirs = Arc::try_clone(&opened)?;
-    let crew = crew_of(rt, alloc, house, shares, stage, theirs)?;
-    day_with(&rt, alloc, house, seat, crew, &opened, script, watch)
+    let Ok(opened) = shared(alloc, AtomicU32::new(0)) else {
+        return false;
+    };
+    let Ok(theirs) = Arc::try_clone(&opened) else {
+        return false;
+    };
+    let Ok(crew) = crew_of(rt, alloc, house, shares, stage, theirs) else {
+        return false;
+    };
+    let went_well = day_with(&rt, alloc, house, seat, crew, script, watch, day);
+    day.opened = opened.load(Ordering::SeqCst);
+    went_well
 }
 
 fn day_of_a_seat<
@@ -390,13 +403,16 @@ fn day_of_a_seat<
     stage: Stage<O, G, N>,
     script: &str,
     watch: &mut V,
-) -> Result<Day, PartitionFault>
+    day: &mut Day,
+) -> bool
     requires parts { HasAllParts shares.decoded.parts shares.outputs }
     requires empty { AreEmpty shares.outputs }
 {
     match house.seat(&rt) {
-        Ok(mut seat) => day_in(rt, alloc, house, &mut seat, shares, stage, script, watch),
-        Err(_) => Err(PartitionFault::NoMemory),
+        Ok(mut seat) => day_in(
+            rt, alloc, house, &mut seat, shares, stage, script, watch, day,
+        ),
+        Err(_) => false,
     }
 }
 
@@ -414,13 +430,29 @@ fn run_day<
     stage: Stage<O, G, N>,
     script: &String,
     watch: &mut V,
-) -> Result<Day, PartitionFault>
+    day: &mut Day,
+) -> bool
     requires blanks { AreFor L.names blanks }
 {
-    let player = player(alloc, library(alloc, &stage.tunes)?)?;
-    let (house, shares) = House::<L>::open(alloc, blanks, player)?;
-    let house = shared(alloc, house)?;
-    day_of_a_seat(rt, alloc, &house, shares, stage, script.as_str(), watch)
+    let Ok(player) = player(alloc, &stage.tunes) else {
+        return false;
+    };
+    let Ok((house, shares)) = House::<L>::open(alloc, blanks, player) else {
+        return false;
+    };
+    let Ok(house) = shared(alloc, house) else {
+        return false;
+    };
+    day_of_a_seat(
+        rt,
+        alloc,
+        &house,
+        shares,
+        stage,
+        script.as_str(),
+        watch,
+        day,
+    )
 }
 
 /// Opens a house, goes through a script in it, and closes it.
@@ -430,14 +462,21 @@ pub(crate) fn one_day<
     N: Scanner + Drop + Send + 'static,
     V: Watch<R>,
     R: Threads + Wait + Clock + Copy + Send + Sync + 'static,
->(
-    rt: R,
-    alloc: Global,
-    stage: Stage<O, G, N>,
-    script: &str,
-    watch: &mut V,
-) -> Result<Day, PartitionFault> {
+>(rt: R, alloc: Global, stage: Stage<O, G, N>, script: &str, watch: &mut V) -> Day {
+    let mut day = Day {
+        heard: Told::new(alloc),
+        opened: 0,
+        settled: Vec::new(alloc),
+    };
     // Ghost members cannot be picked at a call with a `&str`.
-    let script = String::from_str(alloc, script)?;
-    run_day::<Brand, O, G, N, V, R>(rt, alloc, blanks(), stage, &script, watch)
+    let went_well = match String::from_str(alloc, script) {
+        Ok(script) => {
+            run_day::<Brand, O, G, N, V, R>(rt, alloc, blanks(), stage, &script, watch, &mut day)
+        }
+        Err(_) => false,
+    };
+    if !went_well {
+        day.heard.fail();
+    }
+    day
 }

@@ -5,9 +5,8 @@ use crate::wire::{Wires, two_wires};
 use crate::wired::told_with_lines;
 use crew::Scanner;
 use crew_steps::Open;
-use partition::PartitionFault;
 use song_db::SharedDb;
-use std::alloc::Global;
+use std::alloc::{AllocError, Global};
 use std::sync::atomic::{AtomicU32, Ordering};
 use std::sync::{Arc, Wait};
 use std::test::Fail;
@@ -95,7 +94,7 @@ impl<R: Clock> Watch<R> for Scans {
 fn told<R: Threads + Wait + Clock + Copy + Drop + Send + Sync + 'static>(
     rt: R,
     alloc: Global,
-) -> Result<String, PartitionFault> {
+) -> Result<String, AllocError> {
     let (writers, wires) = two_wires(alloc, 100_000, 100_000)?;
     let begun = shared(alloc, AtomicU32::new(0))?;
     let may_end = shared(alloc, AtomicU32::new(0))?;
@@ -116,15 +115,15 @@ fn told<R: Threads + Wait + Clock + Copy + Drop + Send + Sync + 'static>(
         gate,
         scanner: Slow { rt, begun, may_end },
     };
-    let day = one_day(rt, alloc, stage, SCRIPT, &mut scans)?;
-    told_with_lines(alloc, &day, &mut scans.wires, Tone::Saw)
+    let day = one_day(rt, alloc, stage, SCRIPT, &mut scans);
+    told_with_lines(day, &mut scans.wires, Tone::Saw)
 }
 
 /// Whether a scan that had begun has ended where the house is closed.
 fn late_told<R: Threads + Wait + Clock + Copy + Drop + Send + Sync + 'static>(
     rt: R,
     alloc: Global,
-) -> Result<String, PartitionFault> {
+) -> Result<String, AllocError> {
     let (writers, wires) = two_wires(alloc, 100, 100)?;
     let begun = shared(alloc, AtomicU32::new(0))?;
     let has_ended = shared(alloc, AtomicU32::new(0))?;
@@ -144,9 +143,11 @@ fn late_told<R: Threads + Wait + Clock + Copy + Drop + Send + Sync + 'static>(
             has_ended,
         },
     };
-    let day = one_day(rt, alloc, stage, "update\n~ the scan has begun", &mut scans)?;
+    let mut day = one_day(rt, alloc, stage, "update\n~ the scan has begun", &mut scans);
     let has_ended = scans.may_end.load(Ordering::SeqCst);
-    Ok(format!(in alloc; "{}scans that have ended: {has_ended}\n", day.heard)?)
+    day.heard
+        .add(format_args!("scans that have ended: {has_ended}\n"));
+    day.into_heard()
 }
 
 /// The close waits for the scanner's thread, which is still in its scan.

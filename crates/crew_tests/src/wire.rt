@@ -7,6 +7,7 @@ use std::alloc::{AllocError, Global};
 use std::io::{ErrorKind, Write};
 use std::time::{Clock, Duration};
 use std::{io, thread};
+use wanted::Told;
 
 /// The end of a wire that an output writes to. It fails once it is full, and nobody empties it before the
 /// outputs are settled.
@@ -82,38 +83,18 @@ pub(crate) fn two_wires(
     Ok((writers, Wires { hall, attic }))
 }
 
-/// How many frames that came to the hall and to the attic are those of a formula, from the first on.
-pub(crate) fn right_lines(
-    alloc: Global,
-    wires: &mut Wires,
-    tone: Tone,
-) -> Result<String, AllocError> {
-    right_apart(alloc, wires, tone, tone)
-}
-
-/// How many that came to the hall are those of one formula, and how many that came to the attic are those of
-/// another.
-pub(crate) fn right_apart(
-    alloc: Global,
-    wires: &mut Wires,
-    to_hall: Tone,
-    to_attic: Tone,
-) -> Result<String, AllocError> {
-    let (hall, attic) = (
-        right_frames(&mut wires.hall, to_hall),
-        right_frames(&mut wires.attic, to_attic),
-    );
-    format!(in alloc; "right frames in the hall {hall}, in the attic {attic}\n")
+/// Adds how many frames that came to the hall are those of one formula, from the first on, and how many that came to
+/// the attic are those of another.
+pub(crate) fn add_right(wires: &mut Wires, to_hall: Tone, to_attic: Tone, told: &mut Told) {
+    let hall = right_frames(&mut wires.hall, to_hall);
+    let attic = right_frames(&mut wires.attic, to_attic);
+    told.add(format_args!("right frames in the hall {hall}, in the attic {attic}\n"));
 }
 
 /// The same of the hall alone.
-pub(crate) fn right_to_the_hall(
-    alloc: Global,
-    wires: &mut Wires,
-    tone: Tone,
-) -> Result<String, AllocError> {
+pub(crate) fn add_right_to_the_hall(wires: &mut Wires, tone: Tone, told: &mut Told) {
     let hall = right_frames(&mut wires.hall, tone);
-    format!(in alloc; "right frames in the hall {hall}\n")
+    told.add(format_args!("right frames in the hall {hall}\n"));
 }
 
 /// Waits until so many frames came over a wire, ten seconds at most. Whether they came.

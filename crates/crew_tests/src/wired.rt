@@ -1,10 +1,9 @@
 //! Days of songs that are played into two wires.
 use crate::rooms::{Blind, Day, Stage, one_day, shared};
 use crate::tunes::{Tone, Tune};
-use crate::wire::{Wires, right_apart, two_wires};
+use crate::wire::{Wires, add_right, two_wires};
 use crew_steps::Open;
-use partition::PartitionFault;
-use std::alloc::Global;
+use std::alloc::{AllocError, Global};
 use std::sync::Wait;
 use std::thread::Threads;
 use std::time::Clock;
@@ -13,10 +12,11 @@ use std::time::Clock;
 pub(crate) fn wired_day<R: Threads + Wait + Clock + Copy + Send + Sync + 'static>(
     rt: R,
     alloc: Global,
-    tunes: Vec<Tune>,
+    tunes: Result<Vec<Tune>, AllocError>,
     room: usize,
     script: &str,
-) -> Result<(Day, Wires), PartitionFault> {
+) -> Result<(Day, Wires), AllocError> {
+    let tunes = tunes?;
     let (writers, mut wires) = two_wires(alloc, room, 100_000)?;
     let stage = Stage {
         tunes,
@@ -24,29 +24,27 @@ pub(crate) fn wired_day<R: Threads + Wait + Clock + Copy + Send + Sync + 'static
         gate: shared(alloc, Open)?,
         scanner: Blind,
     };
-    let day = one_day(rt, alloc, stage, script, &mut wires)?;
+    let day = one_day(rt, alloc, stage, script, &mut wires);
     Ok((day, wires))
 }
 
 /// What came of a day, and how many frames that came to each output are those of a formula.
 pub(crate) fn told_with_lines(
-    alloc: Global,
-    day: &Day,
+    day: Day,
     wires: &mut Wires,
     tone: Tone,
-) -> Result<String, PartitionFault> {
-    told_apart(alloc, day, wires, tone, tone)
+) -> Result<String, AllocError> {
+    told_apart(day, wires, tone, tone)
 }
 
 /// The same of one formula in the hall, and of another in the attic.
 pub(crate) fn told_apart(
-    alloc: Global,
-    day: &Day,
+    day: Day,
     wires: &mut Wires,
     to_hall: Tone,
     to_attic: Tone,
-) -> Result<String, PartitionFault> {
-    let told = day.told(alloc)?;
-    let lines = right_apart(alloc, wires, to_hall, to_attic)?;
-    Ok(format!(in alloc; "{told}{lines}")?)
+) -> Result<String, AllocError> {
+    let mut told = day.told();
+    add_right(wires, to_hall, to_attic, &mut told);
+    told.into_text()
 }

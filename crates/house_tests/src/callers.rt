@@ -6,11 +6,12 @@ use counted_player::{Ledgers, Seat};
 use house::House;
 use house_rooms::{adds_a_song, comes};
 use partition::PartitionFault;
-use std::alloc::{AllocError, Global};
+use std::alloc::Global;
 use std::sync::Wait;
 use std::thread;
 use std::thread::Threads;
 use std::time::Clock;
+use wanted::Told;
 
 /// A client comes, and adds a song a hundred times.
 fn adds<L: Ledgers>(
@@ -73,34 +74,22 @@ fn both_add<L: Ledgers + Send + Sync, R: Threads + Wait + Sync>(
     Ok((one?.made(), two?.made()))
 }
 
-/// Adds how many events each of the two made.
-fn add_made(made: (u64, u64), told: &mut String) -> Result<(), AllocError> {
-    let (first, second) = made;
-    told.write_fmt(format_args!("events made: {first} and {second}\n"))
-}
-
-/// Adds whether a fourth seat is given and a fifth.
-fn add_seats<L: Ledgers>(
-    rt: &impl Wait,
-    house: &House<L>,
-    told: &mut String,
-) -> Result<(), AllocError> {
-    let fourth = house.seat(rt).is_ok();
-    let fifth = house.seat(rt).is_ok();
-    told.write_fmt(format_args!("a fourth seat: {fourth}, a fifth: {fifth}\n"))
-}
-
-/// Adds the events of two callers' seats, what a third client hears of the status, and which seats are left.
+/// Adds the events of two callers' seats, what a third client hears of the status, and whether a fourth seat is
+/// given and a fifth.
 pub(crate) fn race<L: Ledgers + Send + Sync, R: Threads + Wait + Clock + Sync>(
     rt: &R,
     alloc: Global,
     house: &House<L>,
-    told: &mut String,
-) -> Result<(), PartitionFault> {
-    let made = both_add(rt, alloc, house)?;
-    add_made(made, told)?;
-    alone(rt, alloc, house, "comes 3\n3 status", told)?;
-    Ok(add_seats(rt, house, told)?)
+    told: &mut Told,
+) {
+    match both_add(rt, alloc, house) {
+        Ok((first, second)) => told.add(format_args!("events made: {first} and {second}\n")),
+        Err(_) => told.fail(),
+    }
+    alone(rt, alloc, house, "comes 3\n3 status", told);
+    let fourth = house.seat(rt).is_ok();
+    let fifth = house.seat(rt).is_ok();
+    told.add(format_args!("a fourth seat: {fourth}, a fifth: {fifth}\n"));
 }
 
 /// What is told of them.

@@ -7,7 +7,7 @@ use crate::rooms::seat_of;
 use crate::session::{add_report, session};
 use counted_devices::{FailAt, FailurePoint};
 use counted_player::{Decoded, Discarded, Ledgers, Seat, Written};
-use frame_ledger::{OutputShares, SettleFault, Settled};
+use frame_ledger::OutputShares;
 use held_player::{CrewShares, EndedRing, Settlement};
 use house::House;
 use output_ring::{Cut, Drainer, Fates, Live, ring};
@@ -16,6 +16,7 @@ use std::alloc::{AllocError, Global};
 use std::sync::Wait;
 use std::sync::ledger::Share;
 use std::time::Clock;
+use wanted::Told;
 
 /// A song plays, and the decoder wants a job.
 const STEPS: &str = "comes 1
@@ -29,13 +30,13 @@ fn has<L: Ledgers>(
     house: &House<L>,
     seat: &mut Seat<L>,
     share: &mut Share<Decoded<L>>,
-    told: &mut String,
-) -> Result<(), PartitionFault>
+    told: &mut Told,
+)
     requires { 0 < share.old.parts }
     ensures { share.new.parts ≡ share.old.parts }
 {
-    let reported = house.have(rt, seat, 0, 1, 1024, share)?;
-    Ok(add_report(&reported, told)?)
+    let reported = house.have(rt, seat, 0, 1, 1024, share);
+    add_report(&reported, told);
 }
 
 /// An output has its turn.
@@ -46,13 +47,13 @@ fn turns<L: Ledgers>(
     shares: &mut OutputShares<Written<L>, Discarded<L>>,
     output: usize,
     fates: Fates,
-    told: &mut String,
-) -> Result<(), PartitionFault>
+    told: &mut Told,
+)
     requires { (0 < shares.old.written.parts) × (0 < shares.old.discarded.parts) }
     ensures { KeepsParts shares.old shares.new }
 {
-    let reported = house.turn(rt, seat, output, fates, false, shares)?;
-    Ok(add_report(&reported, told)?)
+    let reported = house.turn(rt, seat, output, fates, false, shares);
+    add_report(&reported, told);
 }
 
 /// Fills the hand and writes it out at a cut.
@@ -80,18 +81,17 @@ fn writes_twice<L: Ledgers>(
     seat: &mut Seat<L>,
     shares: &mut OutputShares<Written<L>, Discarded<L>>,
     drainer: &mut Drainer,
-    told: &mut String,
-) -> Result<(), PartitionFault>
+    told: &mut Told,
+)
     requires { (0 < shares.old.written.parts) × (0 < shares.old.discarded.parts) }
     ensures parts { KeepsParts shares.old shares.new }
     ensures same { SameDrainer drainer.old drainer.new }
 {
     let mut out = FailAt::new(Vec::new(alloc), FailurePoint::Never);
     writes_out(drainer, &mut out, 1);
-    turns(rt, house, seat, shares, 0, drainer.fates(), told)?;
+    turns(rt, house, seat, shares, 0, drainer.fates(), told);
     drainer.reported();
     writes_out(drainer, &mut out, 2);
-    Ok(())
 }
 
 /// The ends of a ring of which 512 frames were written and told of, and 512 more were discarded since.
@@ -101,7 +101,7 @@ fn ends_told<L: Ledgers>(
     house: &House<L>,
     seat: &mut Seat<L>,
     shares: &mut OutputShares<Written<L>, Discarded<L>>,
-    told: &mut String,
+    told: &mut Told,
 ) -> Result<EndedRing, PartitionFault>
     requires { (0 < shares.old.written.parts) × (0 < shares.old.discarded.parts) }
     ensures { KeepsParts shares.old shares.new }
@@ -115,7 +115,7 @@ fn ends_told<L: Ledgers>(
         },
     );
     let _pushed = feeder.push();
-    writes_twice(rt, alloc, house, seat, shares, &mut drainer, told)?;
+    writes_twice(rt, alloc, house, seat, shares, &mut drainer, told);
     Ok(EndedRing {
         end: feeder.finish(),
         drainer,
@@ -142,29 +142,17 @@ fn two_rings<L: Ledgers>(
     Ok((rings, room))
 }
 
-/// Adds what an output is settled with: its frames decoded, written, discarded and left.
-fn add_settled(
-    settled: &Result<Settled, SettleFault>,
-    told: &mut String,
-) -> Result<(), AllocError> {
-    match settled {
-        Ok(s) => told.write_fmt(format_args!(
-            "decoded {}, written {}, discarded {}, left {}\n",
-            s.decoded, s.written, s.discarded, s.left
-        )),
-        Err(_) => told.push_str("not settled\n"),
-    }
-}
-
-/// Adds what outputs are settled with.
-fn add_all_settled<L: Ledgers>(
-    settlements: &[Settlement<L>],
-    told: &mut String,
-) -> Result<(), AllocError> {
+/// Adds what outputs are settled with: of each its frames decoded, written, discarded and left.
+fn add_settled<L: Ledgers>(settlements: &[Settlement<L>], told: &mut Told) {
     for settlement in settlements {
-        add_settled(&settlement.result, told)?;
+        match &settlement.result {
+            Ok(s) => told.add(format_args!(
+                "decoded {}, written {}, discarded {}, left {}\n",
+                s.decoded, s.written, s.discarded, s.left
+            )),
+            Err(_) => told.add("not settled\n"),
+        }
     }
-    Ok(())
 }
 
 /// Adds what two outputs are settled with, of which the second took nothing.
@@ -174,13 +162,16 @@ fn settles<L: Ledgers>(
     house: &House<L>,
     shares: CrewShares<L>,
     first: EndedRing,
-    told: &mut String,
-) -> Result<(), PartitionFault>
+    told: &mut Told,
+)
     requires { HasAllParts shares.decoded.parts shares.outputs }
 {
-    let (rings, room) = two_rings::<L>(alloc, first)?;
+    let Ok((rings, room)) = two_rings::<L>(alloc, first) else {
+        told.fail();
+        return;
+    };
     let settlements = house.settle_all(rt, shares, rings, room);
-    Ok(add_all_settled(&settlements, told)?)
+    add_settled(&settlements, told);
 }
 
 /// A song plays, and its first frames are decoded once.
@@ -190,14 +181,14 @@ fn decoded<L: Ledgers, R: Wait + Clock>(
     house: &House<L>,
     seat: &mut Seat<L>,
     share: &mut Share<Decoded<L>>,
-    told: &mut String,
-) -> Result<(), PartitionFault>
+    told: &mut Told,
+)
     requires { 0 < share.old.parts }
     ensures { share.new.parts ≡ share.old.parts }
 {
-    session(rt, alloc, house, seat, STEPS, told)?;
-    has(rt, house, seat, share, told)?;
-    has(rt, house, seat, share, told)
+    session(rt, alloc, house, seat, STEPS, told);
+    has(rt, house, seat, share, told);
+    has(rt, house, seat, share, told);
 }
 
 const NOTHING: Fates = Fates {
@@ -212,13 +203,13 @@ fn written<L: Ledgers>(
     house: &House<L>,
     seat: &mut Seat<L>,
     shares: &mut OutputShares<Written<L>, Discarded<L>>,
-    told: &mut String,
+    told: &mut Told,
 ) -> Result<EndedRing, PartitionFault>
     requires { (0 < shares.old.written.parts) × (0 < shares.old.discarded.parts) }
     ensures { KeepsParts shares.old shares.new }
 {
-    turns(rt, house, seat, shares, 5, NOTHING, told)?;
-    turns(rt, house, seat, shares, 0, NOTHING, told)?;
+    turns(rt, house, seat, shares, 5, NOTHING, told);
+    turns(rt, house, seat, shares, 0, NOTHING, told);
     ends_told(rt, alloc, house, seat, shares, told)
 }
 
@@ -228,13 +219,13 @@ fn plays<L: Ledgers, R: Wait + Clock>(
     alloc: Global,
     house: &House<L>,
     shares: &mut CrewShares<L>,
-    told: &mut String,
+    told: &mut Told,
 ) -> Result<EndedRing, PartitionFault>
     requires { HasAllParts shares.old.decoded.parts shares.old.outputs }
     ensures { HasAllParts shares.new.decoded.parts shares.new.outputs }
 {
     let mut seat = seat_of(rt, house)?;
-    decoded(rt, alloc, house, &mut seat, &mut shares.decoded, told)?;
+    decoded(rt, alloc, house, &mut seat, &mut shares.decoded, told);
     written(rt, alloc, house, &mut seat, &mut shares.outputs, told)
 }
 
@@ -244,14 +235,14 @@ pub(crate) fn frames<L: Ledgers, R: Wait + Clock>(
     alloc: Global,
     house: &House<L>,
     shares: CrewShares<L>,
-    told: &mut String,
-) -> Result<(), PartitionFault>
+    told: &mut Told,
+)
     requires { HasAllParts shares.decoded.parts shares.outputs }
 {
     let mut shares = shares;
     match plays(rt, alloc, house, &mut shares, told) {
         Ok(first) => settles(rt, alloc, house, shares, first, told),
-        Err(fault) => Err(fault),
+        Err(_) => told.fail(),
     }
 }
 

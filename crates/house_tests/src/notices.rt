@@ -3,12 +3,12 @@ use crate::rooms::seat_of;
 use counted_player::{Ledgers, Seat};
 use house::House;
 use house_rooms::{comes, hears, says};
-use partition::PartitionFault;
-use std::alloc::{AllocError, Global};
+use std::alloc::Global;
 use std::sync::Wait;
 use std::sync::atomic::{AtomicU32, Ordering};
 use std::thread;
 use std::thread::Threads;
+use wanted::Told;
 
 /// How many notices came from the outbox and how many in front of an answer, and how many more than one a
 /// change.
@@ -56,13 +56,16 @@ fn hears_first<L: Ledgers>(
     house: &House<L>,
     seat: &mut Seat<L>,
     in_list: bool,
-) -> Result<bool, PartitionFault> {
+) -> bool {
     let line = if in_list { "ping" } else { "noidle" };
-    let heard = hears(rt, alloc, house, seat, 1, line, in_list)?;
-    Ok(heard.as_str().starts_with("told\n"))
+    match hears(rt, alloc, house, seat, 1, line, in_list) {
+        Ok(heard) => heard.as_str().starts_with("told\n"),
+        Err(_) => false,
+    }
 }
 
-/// Waits for a change, of which the client is told from the outbox, or in front of an answer.
+/// Waits for a change, of which the client is told from the outbox, or in front of an answer. After a fault no
+/// notice is counted.
 fn waits_once<L: Ledgers>(
     rt: &impl Wait,
     house: &House<L>,
@@ -70,70 +73,66 @@ fn waits_once<L: Ledgers>(
     counts: &Counts,
     change: u32,
     notices: &mut Notices,
-) -> Result<(), PartitionFault> {
-    says(rt, counts.alloc, house, seat, 1, "idle mixer")?;
+) {
+    if says(rt, counts.alloc, house, seat, 1, "idle mixer").is_err() {
+        return;
+    }
     counts.waiting.store(change, Ordering::SeqCst);
     if change % 2 == 0 {
         let is_told = comes_by_outbox(rt, house, 1);
         notices.by_outbox = notices.by_outbox.saturating_add(u32::from(is_told));
     } else {
         meets(&counts.changed, change);
-        let is_told = hears_first(rt, counts.alloc, house, seat, change % 4 == 3)?;
+        let is_told = hears_first(rt, counts.alloc, house, seat, change % 4 == 3);
         notices.in_front = notices.in_front.saturating_add(u32::from(is_told));
     }
     let is_again = house.outbox(rt, 1).is_some();
     notices.again = notices.again.saturating_add(u32::from(is_again));
-    Ok(())
 }
 
 /// A client waits for each of a hundred changes.
-fn waits<L: Ledgers>(
-    rt: &impl Wait,
-    house: &House<L>,
-    seat: Seat<L>,
-    counts: &Counts,
-) -> Result<Notices, PartitionFault> {
+fn waits<L: Ledgers>(rt: &impl Wait, house: &House<L>, seat: Seat<L>, counts: &Counts) -> Notices {
     let mut seat = seat;
     let mut notices = Notices {
         by_outbox: 0,
         in_front: 0,
         again: 0,
     };
-    comes(rt, house, &mut seat, 1)?;
-    for change in 1..101u32 {
-        waits_once(rt, house, &mut seat, counts, change, &mut notices)?;
+    if comes(rt, house, &mut seat, 1).is_ok() {
+        for change in 1..101u32 {
+            waits_once(rt, house, &mut seat, counts, change, &mut notices);
+        }
     }
-    Ok(notices)
+    notices
 }
 
-/// Changes the volume once the first client waits for the change of this number.
+/// Changes the volume once the first client waits for the change of this number. Whether that went well.
 fn changes_once<L: Ledgers>(
     rt: &impl Wait,
     house: &House<L>,
     seat: &mut Seat<L>,
     counts: &Counts,
     change: u32,
-) -> Result<(), PartitionFault> {
+) -> bool {
     meets(&counts.waiting, change);
-    let line = format!(in counts.alloc; "setvol {}", change % 100)?;
-    says(rt, counts.alloc, house, seat, 2, line.as_str())?;
+    let Ok(line) = format!(in counts.alloc; "setvol {}", change % 100) else {
+        return false;
+    };
+    let is_said = says(rt, counts.alloc, house, seat, 2, line.as_str()).is_ok();
     counts.changed.store(change, Ordering::SeqCst);
-    Ok(())
+    is_said
 }
 
-/// Another client changes the volume each time that the first waits.
-fn changes<L: Ledgers>(
-    rt: &impl Wait,
-    house: &House<L>,
-    seat: Seat<L>,
-    counts: &Counts,
-) -> Result<(), PartitionFault> {
+/// Another client changes the volume each time that the first waits. Whether all went well.
+fn changes<L: Ledgers>(rt: &impl Wait, house: &House<L>, seat: Seat<L>, counts: &Counts) -> bool {
     let mut seat = seat;
-    comes(rt, house, &mut seat, 2)?;
+    let mut went_well = comes(rt, house, &mut seat, 2).is_ok();
     for change in 1..101u32 {
-        changes_once(rt, house, &mut seat, counts, change)?;
+        if !changes_once(rt, house, &mut seat, counts, change) {
+            went_well = false;
+        }
     }
-    Ok(())
+    went_well
 }
 
 /// One client waits and the other changes things, each in a thread of its own.
@@ -143,7 +142,7 @@ fn meet<L: Ledgers + Send + Sync, R: Threads + Wait + Sync>(
     one: Seat<L>,
     two: Seat<L>,
     counts: &Counts,
-) -> (Result<Notices, PartitionFault>, Result<(), PartitionFault>) {
+) -> (Notices, bool) {
     thread::join(
         rt,
         move || waits(rt, house, one, counts),
@@ -151,33 +150,30 @@ fn meet<L: Ledgers + Send + Sync, R: Threads + Wait + Sync>(
     )
 }
 
-/// How many notices came by the outbox, in front of a reply, and twice.
-fn add_notices(notices: &Notices, told: &mut String) -> Result<(), AllocError> {
-    let Notices {
-        by_outbox,
-        in_front,
-        again,
-    } = notices;
-    told.write_fmt(format_args!("by the outbox {by_outbox}, in front {in_front}, again {again}\n"))
-}
-
 /// Adds how the notices of two clients came, which wait and change things side by side.
 pub(crate) fn race<L: Ledgers + Send + Sync, R: Threads + Wait + Sync>(
     rt: &R,
     alloc: Global,
     house: &House<L>,
-    told: &mut String,
-) -> Result<(), PartitionFault> {
-    let one = seat_of(rt, house)?;
-    let two = seat_of(rt, house)?;
+    told: &mut Told,
+) {
+    let (Ok(one), Ok(two)) = (seat_of(rt, house), seat_of(rt, house)) else {
+        told.fail();
+        return;
+    };
     let counts = Counts {
         alloc,
         waiting: AtomicU32::new(0),
         changed: AtomicU32::new(0),
     };
-    let (notices, ended) = meet(rt, house, one, two, &counts);
-    ended?;
-    Ok(add_notices(&notices?, told)?)
+    let (notices, went_well) = meet(rt, house, one, two, &counts);
+    if !went_well {
+        told.fail();
+    }
+    told.add(format_args!(
+        "by the outbox {}, in front {}, again {}\n",
+        notices.by_outbox, notices.in_front, notices.again
+    ));
 }
 
 /// What is told of them.

@@ -4,11 +4,11 @@ use counted_player::{Ledgers, Seat};
 use house::House;
 use house_rooms::{comes, hears};
 use mpd_text::number;
-use partition::PartitionFault;
-use std::alloc::{AllocError, Global};
+use std::alloc::Global;
 use std::sync::Wait;
 use std::thread;
 use std::thread::Threads;
+use wanted::Told;
 
 /// How often a thread found its own song by the id that it was given, and these ids.
 #[derive(Drop)]
@@ -35,7 +35,7 @@ struct Caller<L: Ledgers> {
     in_list: bool,
 }
 
-/// Adds a song, and gives its id.
+/// Adds a song, and gives its id; 0, which no song has, after a fault.
 fn adds<L: Ledgers>(
     rt: &impl Wait,
     alloc: Global,
@@ -43,11 +43,15 @@ fn adds<L: Ledgers>(
     caller: &mut Caller<L>,
     client: u32,
     uri: &str,
-) -> Result<u32, PartitionFault> {
+) -> u32 {
     let Caller { seat, in_list } = caller;
-    let line = format!(in alloc; "addid {uri}")?;
-    let added = hears(rt, alloc, house, seat, client, line.as_str(), *in_list)?;
-    Ok(id_in(added.as_str()))
+    let Ok(line) = format!(in alloc; "addid {uri}") else {
+        return 0;
+    };
+    match hears(rt, alloc, house, seat, client, line.as_str(), *in_list) {
+        Ok(added) => id_in(added.as_str()),
+        Err(_) => 0,
+    }
 }
 
 /// Whether an answer to `playlistid` begins with this song.
@@ -61,7 +65,7 @@ fn begins_with(answer: &str, uri: &str) -> bool {
     }
 }
 
-/// Whether the id is this song's.
+/// Whether the id is this song's; not so after a fault.
 fn is_own<L: Ledgers>(
     rt: &impl Wait,
     alloc: Global,
@@ -70,11 +74,15 @@ fn is_own<L: Ledgers>(
     client: u32,
     id: u32,
     uri: &str,
-) -> Result<bool, PartitionFault> {
+) -> bool {
     let Caller { seat, in_list } = caller;
-    let line = format!(in alloc; "playlistid {id}")?;
-    let shown = hears(rt, alloc, house, seat, client, line.as_str(), *in_list)?;
-    Ok(begins_with(shown.as_str(), uri))
+    let Ok(line) = format!(in alloc; "playlistid {id}") else {
+        return false;
+    };
+    match hears(rt, alloc, house, seat, client, line.as_str(), *in_list) {
+        Ok(shown) => begins_with(shown.as_str(), uri),
+        Err(_) => false,
+    }
 }
 
 /// Adds a song and looks up its id.
@@ -86,15 +94,14 @@ fn looks_up_once<L: Ledgers>(
     client: u32,
     uri: &str,
     found: &mut Found,
-) -> Result<(), PartitionFault> {
-    let id = adds(rt, alloc, house, caller, client, uri)?;
-    let is_own = is_own(rt, alloc, house, caller, client, id, uri)?;
+) {
+    let id = adds(rt, alloc, house, caller, client, uri);
+    let is_own = is_own(rt, alloc, house, caller, client, id, uri);
     found.times = found.times.saturating_add(u32::from(is_own));
     found.ids.push(id).ok();
-    Ok(())
 }
 
-/// Adds a song a hundred times, and looks up the id each time.
+/// Adds a song a hundred times, and looks up the id each time. A fault makes what is found less.
 fn looks_up<L: Ledgers>(
     rt: &impl Wait,
     alloc: Global,
@@ -102,17 +109,18 @@ fn looks_up<L: Ledgers>(
     caller: Caller<L>,
     client: u32,
     uri: &str,
-) -> Result<Found, PartitionFault> {
+) -> Found {
     let mut caller = caller;
     let mut found = Found {
         times: 0,
-        ids: Vec::with_capacity(alloc, 100)?,
+        ids: Vec::new(alloc),
     };
-    comes(rt, house, &mut caller.seat, client)?;
-    for _ in 0..100u32 {
-        looks_up_once(rt, alloc, house, &mut caller, client, uri, &mut found)?;
+    if comes(rt, house, &mut caller.seat, client).is_ok() {
+        for _ in 0..100u32 {
+            looks_up_once(rt, alloc, house, &mut caller, client, uri, &mut found);
+        }
     }
-    Ok(found)
+    found
 }
 
 /// How many of the ids from 1 to 200 were given once.
@@ -136,7 +144,7 @@ fn look_up_at_once<L: Ledgers + Send + Sync, R: Threads + Wait + Sync>(
     one: Seat<L>,
     two: Seat<L>,
     in_list: bool,
-) -> (Result<Found, PartitionFault>, Result<Found, PartitionFault>) {
+) -> (Found, Found) {
     let one = Caller { seat: one, in_list };
     let two = Caller { seat: two, in_list };
     thread::join(
@@ -146,25 +154,23 @@ fn look_up_at_once<L: Ledgers + Send + Sync, R: Threads + Wait + Sync>(
     )
 }
 
-/// Adds how often each of two callers found its own song, and how many ids were given once.
-fn add_found(one: &Found, two: &Found, told: &mut String) -> Result<(), AllocError> {
-    let once = given_once(&one.ids, &two.ids);
-    let (ones, twos) = (one.times, two.times);
-    told.write_fmt(format_args!("found {ones} and {twos}, given once {once}\n"))
-}
-
-/// Adds what two callers found that look up their songs side by side.
+/// Adds how often each of two callers found its own song that look up their songs side by side, and how many ids
+/// were given once.
 pub(crate) fn race<L: Ledgers + Send + Sync, R: Threads + Wait + Sync>(
     rt: &R,
     alloc: Global,
     house: &House<L>,
     in_list: bool,
-    told: &mut String,
-) -> Result<(), PartitionFault> {
-    let one = seat_of(rt, house)?;
-    let two = seat_of(rt, house)?;
+    told: &mut Told,
+) {
+    let (Ok(one), Ok(two)) = (seat_of(rt, house), seat_of(rt, house)) else {
+        told.fail();
+        return;
+    };
     let (one, two) = look_up_at_once(rt, alloc, house, one, two, in_list);
-    Ok(add_found(&one?, &two?, told)?)
+    let once = given_once(&one.ids, &two.ids);
+    let (ones, twos) = (one.times, two.times);
+    told.add(format_args!("found {ones} and {twos}, given once {once}\n"));
 }
 
 /// What is told of them.

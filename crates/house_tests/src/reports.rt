@@ -1,24 +1,19 @@
 //! What a scanner, the decoder and the outputs are told, in words.
-use player_state::{Feed, Heard, Report};
-use std::alloc::AllocError;
+use player_state::{Feed, Report};
+use wanted::Told;
 
 /// Adds how frames are fed, and to which of three outputs.
-fn add_feed(feed: &Feed, told: &mut String) -> Result<(), AllocError> {
+fn add_feed(feed: &Feed, told: &mut Told) {
     let (first, second, last) = (is_for(feed, 0), is_for(feed, 1), is_for(feed, 8));
     let (cut, volume) = (feed.cut, feed.volume);
-    told.write_fmt(format_args!(
+    told.add(format_args!(
         "feed at cut {cut} and volume {volume} to output 0: {first}, 1: {second}, 8: {last}\n"
-    ))
+    ));
 }
 
 /// Whether frames are for this output, which was never moved.
 fn is_for(feed: &Feed, output: usize) -> bool {
     matches!(feed.outputs.get(output), Some(Some(0)))
-}
-
-fn add_live(heard: Heard, told: &mut String) -> Result<(), AllocError> {
-    let (cut, enabled, paused) = (heard.live.cut, heard.live.enabled, heard.live.paused);
-    told.write_fmt(format_args!("live at cut {cut}, enabled {enabled}, paused {paused}\n"))
 }
 
 /// What is told that has no number.
@@ -35,15 +30,18 @@ fn bare_report(report: Report) -> &'static str {
 
 /// Adds what is told to a scanner, the decoder or an output; `heard` where there is nothing to tell. Of a job that
 /// is its number, its first frame and its frames.
-pub(crate) fn add_told(report: Report, told: &mut String) -> Result<(), AllocError> {
+pub(crate) fn add_told(report: Report, told: &mut Told) {
     match report {
-        Report::ToDecode(Some(job)) => told.write_fmt(format_args!(
+        Report::ToDecode(Some(job)) => told.add(format_args!(
             "job {} from frame {}: {} frames\n",
             job.number, job.from, job.count
         )),
         Report::ToFeed(Some(feed)) => add_feed(&feed, told),
-        Report::ToPlay(heard) => add_live(heard, told),
-        Report::ToScan(Some(number)) => told.write_fmt(format_args!("scan {number}\n")),
-        _ => told.push_str(bare_report(report)),
+        Report::ToPlay(heard) => told.add(format_args!(
+            "live at cut {}, enabled {}, paused {}\n",
+            heard.live.cut, heard.live.enabled, heard.live.paused
+        )),
+        Report::ToScan(Some(number)) => told.add(format_args!("scan {number}\n")),
+        _ => told.add(bare_report(report)),
     }
 }

@@ -5,13 +5,13 @@ use crate::session::{changes, session};
 use counted_player::{Ledgers, Seat};
 use house::House;
 use house_rooms::says;
-use partition::PartitionFault;
 use std::alloc::Global;
 use std::sync::Wait;
 use std::sync::atomic::{AtomicU32, Ordering};
 use std::thread;
 use std::thread::Threads;
 use std::time::{Clock, Duration};
+use wanted::Told;
 
 /// Two clients come, of whom the first waits for another volume than the one that is set at once, and the
 /// second has two songs played.
@@ -48,19 +48,14 @@ a notice: setvol 41
 a notice: end
 a change: end";
 
-/// Says a line, or ends the daemon.
-fn acts<L: Ledgers>(
-    rt: &impl Wait,
-    alloc: Global,
-    house: &House<L>,
-    line: &str,
-) -> Result<(), PartitionFault> {
+/// Says a line, or ends the daemon. Whether that went well.
+fn acts<L: Ledgers>(rt: &impl Wait, alloc: Global, house: &House<L>, line: &str) -> bool {
     let mut seat = Seat::of_crew(0);
     if line == "end" {
-        return house.end(rt, &mut seat);
+        house.end(rt, &mut seat).is_ok()
+    } else {
+        says(rt, alloc, house, &mut seat, 2, line).is_ok()
     }
-    says(rt, alloc, house, &mut seat, 2, line)?;
-    Ok(())
 }
 
 /// What a thread waits for.
@@ -88,14 +83,16 @@ fn waits<L: Ledgers, R: Wait + Clock>(
     }
 }
 
-/// One thread waits, and another acts a little later.
+/// One thread waits, and another acts a little later. It takes out the notice that waits then, and adds whether
+/// what was waited for came and whether there was one.
 fn woken<L: Ledgers + Send + Sync, R: Threads + Wait + Clock + Sync>(
     rt: &R,
     alloc: Global,
     house: &House<L>,
     waited: Waited,
     line: &str,
-) -> Result<bool, PartitionFault> {
+    told: &mut Told,
+) {
     let number = AtomicU32::new(0);
     let begun = &number;
     let (is_there, acted) = thread::join(
@@ -107,24 +104,11 @@ fn woken<L: Ledgers + Send + Sync, R: Threads + Wait + Clock + Sync>(
             acts(rt, alloc, house, line)
         },
     );
-    acted?;
-    Ok(is_there)
-}
-
-/// Waits, takes out the notice that waits then, and adds whether what was waited for came and whether there
-/// was one.
-fn waking<L: Ledgers + Send + Sync, R: Threads + Wait + Clock + Sync>(
-    rt: &R,
-    alloc: Global,
-    house: &House<L>,
-    waited: Waited,
-    line: &str,
-    told: &mut String,
-) -> Result<(), PartitionFault> {
-    let is_there = woken(rt, alloc, house, waited, line)?;
+    if !acted {
+        told.fail();
+    }
     let waits = house.outbox(rt, 1).is_some();
-    told.write_fmt(format_args!("{line}: {is_there} {waits}\n"))?;
-    Ok(())
+    told.add(format_args!("{line}: {is_there} {waits}\n"));
 }
 
 /// Waits for each change, notice or scan in turn. The first client waits for another volume.
@@ -133,20 +117,19 @@ fn wakings<L: Ledgers + Send + Sync, R: Threads + Wait + Clock + Sync>(
     alloc: Global,
     house: &House<L>,
     seat: &mut Seat<L>,
-    told: &mut String,
-) -> Result<(), PartitionFault> {
-    session(rt, alloc, house, seat, "1 idle mixer", told)?;
+    told: &mut Told,
+) {
+    session(rt, alloc, house, seat, "1 idle mixer", told);
     for wait in WAITS.lines() {
         let (what, line) = wait.split_once(": ").unwrap_or((wait, ""));
-        let count = changes(rt, house, seat)?;
+        let count = changes(rt, house, seat, told);
         let waited = match what {
             "a change" => Waited::Change(count),
             "a scan" => Waited::Scan,
             _ => Waited::Notice,
         };
-        waking(rt, alloc, house, waited, line, told)?;
+        woken(rt, alloc, house, waited, line, told);
     }
-    Ok(())
 }
 
 /// Adds the morning, and then what is waited for or which changes are seen.
@@ -155,14 +138,17 @@ pub(crate) fn rests<L: Ledgers + Send + Sync, R: Threads + Wait + Clock + Sync>(
     alloc: Global,
     house: &House<L>,
     on_threads: bool,
-    told: &mut String,
-) -> Result<(), PartitionFault> {
-    let mut seat = seat_of(rt, house)?;
-    session(rt, alloc, house, &mut seat, BEGINS, told)?;
+    told: &mut Told,
+) {
+    let Ok(mut seat) = seat_of(rt, house) else {
+        told.fail();
+        return;
+    };
+    session(rt, alloc, house, &mut seat, BEGINS, told);
     if on_threads {
-        wakings(rt, alloc, house, &mut seat, told)
+        wakings(rt, alloc, house, &mut seat, told);
     } else {
-        session(rt, alloc, house, &mut seat, SEEN, told)
+        session(rt, alloc, house, &mut seat, SEEN, told);
     }
 }
 

@@ -10,13 +10,13 @@ use held_player::{Blanks, CrewShares};
 use house::House;
 use house_rooms::{blanks, opened};
 use partition::PartitionFault;
-use std::alloc::Global;
+use std::alloc::{AllocError, Global};
 use std::marker::Brand;
 use std::sync::Wait;
 use std::test::Fail;
 use std::thread::Threads;
 use std::time::Clock;
-use wanted::wants;
+use wanted::{Told, wants};
 
 /// What is done in a house.
 #[derive(Clone, Copy)]
@@ -54,10 +54,12 @@ pub(crate) fn alone<L: Ledgers, R: Wait + Clock>(
     alloc: Global,
     house: &House<L>,
     steps: &str,
-    told: &mut String,
-) -> Result<(), PartitionFault> {
-    let mut seat = seat_of(rt, house)?;
-    session(rt, alloc, house, &mut seat, steps, told)
+    told: &mut Told,
+) {
+    match seat_of(rt, house) {
+        Ok(mut seat) => session(rt, alloc, house, &mut seat, steps, told),
+        Err(_) => told.fail(),
+    }
 }
 
 /// Adds what is told of a day without frames.
@@ -66,8 +68,8 @@ fn without_frames<L: Ledgers + Send + Sync, R: Threads + Wait + Clock + Sync>(
     alloc: Global,
     house: &House<L>,
     which: Day,
-    told: &mut String,
-) -> Result<(), PartitionFault> {
+    told: &mut Told,
+) {
     match which {
         Day::Callers => callers::race(rt, alloc, house, told),
         Day::Notices => notices::race(rt, alloc, house, told),
@@ -84,8 +86,8 @@ fn day_of<L: Ledgers + Send + Sync, R: Threads + Wait + Clock + Sync>(
     house: &House<L>,
     shares: CrewShares<L>,
     which: Day,
-    told: &mut String,
-) -> Result<(), PartitionFault>
+    told: &mut Told,
+)
     requires { HasAllParts shares.decoded.parts shares.outputs }
 {
     match which {
@@ -101,12 +103,15 @@ fn evening<L: Ledgers + Send + Sync, R: Threads + Wait + Clock + Sync>(
     blanks: Blanks,
     history: u32,
     which: Day,
-    told: &mut String,
-) -> Result<(), PartitionFault>
+    told: &mut Told,
+)
     requires blanks { AreFor L.names blanks }
 {
-    let (house, shares) = opened::<L>(alloc, blanks, history)?;
-    day_of(rt, alloc, &house, shares, which, told)
+    let Ok((house, shares)) = opened::<L>(alloc, blanks, history) else {
+        told.fail();
+        return;
+    };
+    day_of(rt, alloc, &house, shares, which, told);
 }
 
 /// What is told of a day in a house over two songs, whose window has at most so many events.
@@ -115,10 +120,10 @@ pub(crate) fn told<R: Threads + Wait + Clock + Sync>(
     alloc: Global,
     history: u32,
     which: Day,
-) -> Result<String, PartitionFault> {
-    let mut told = String::new(alloc);
-    evening::<Brand, R>(rt, alloc, blanks(), history, which, &mut told)?;
-    Ok(told)
+) -> Result<String, AllocError> {
+    let mut told = Told::new(alloc);
+    evening::<Brand, R>(rt, alloc, blanks(), history, which, &mut told);
+    told.into_text()
 }
 
 /// The days, the most events of their windows, and what is told of each. A test costs a proof of all that it is

@@ -9,9 +9,10 @@ use house::House;
 use house_rooms::{comes, hears, says};
 use mpd_text::number;
 use partition::PartitionFault;
-use std::alloc::{AllocError, Global};
+use std::alloc::Global;
 use std::sync::Wait;
 use std::time::{Clock, Duration};
+use wanted::Told;
 
 /// The number of a word; 0 where there is none.
 fn number_of(word: &str) -> u32 {
@@ -37,21 +38,14 @@ fn news_of(word: &str, client: u32) -> Option<News> {
 }
 
 /// Adds what a client is told that came or went, and what is told to a part of the daemon.
-pub(crate) fn add_report(reported: &Reported, told: &mut String) -> Result<(), AllocError> {
-    told.push_str(reported.reply().text())?;
-    add_told(reported.report(), told)
-}
-
-/// Adds what is told at a piece of news.
-fn hears_news<L: Ledgers>(
-    rt: &impl Wait,
-    house: &House<L>,
-    seat: &mut Seat<L>,
-    news: News,
-    told: &mut String,
-) -> Result<(), PartitionFault> {
-    let reported = house.notice(rt, seat, news)?;
-    Ok(add_report(&reported, told)?)
+pub(crate) fn add_report(reported: &Result<Reported, PartitionFault>, told: &mut Told) {
+    match reported {
+        Ok(reported) => {
+            told.add(reported.reply().text());
+            add_told(reported.report(), told);
+        }
+        Err(_) => told.fail(),
+    }
 }
 
 /// Adds what the client hears whose number stands in front of a line, alone or as a list of one line.
@@ -62,24 +56,13 @@ fn says_line<L: Ledgers>(
     seat: &mut Seat<L>,
     line: &str,
     in_list: bool,
-    told: &mut String,
-) -> Result<(), PartitionFault> {
+    told: &mut Told,
+) {
     let (client, line) = first_word(line);
-    let heard = hears(rt, alloc, house, seat, number_of(client), line, in_list)?;
-    Ok(told.push_str(heard.as_str())?)
-}
-
-/// A client comes and waits.
-fn comes_and_waits<L: Ledgers>(
-    rt: &impl Wait,
-    alloc: Global,
-    house: &House<L>,
-    seat: &mut Seat<L>,
-    client: u32,
-) -> Result<(), PartitionFault> {
-    comes(rt, house, seat, client)?;
-    says(rt, alloc, house, seat, client, "idle")?;
-    Ok(())
+    match hears(rt, alloc, house, seat, number_of(client), line, in_list) {
+        Ok(heard) => told.add(heard.as_str()),
+        Err(_) => told.fail(),
+    }
 }
 
 /// The clients of two numbers and all between come and wait. Nothing is added.
@@ -89,12 +72,17 @@ fn crowds<L: Ledgers>(
     house: &House<L>,
     seat: &mut Seat<L>,
     numbers: &str,
-) -> Result<(), PartitionFault> {
+    told: &mut Told,
+) {
     let (first, last) = first_word(numbers);
     for client in number_of(first)..=number_of(last) {
-        comes_and_waits(rt, alloc, house, seat, client)?;
+        if comes(rt, house, seat, client).is_err() {
+            told.fail();
+        }
+        if says(rt, alloc, house, seat, client, "idle").is_err() {
+            told.fail();
+        }
     }
-    Ok(())
 }
 
 /// How often the house has changed, as a scanner is told that asks.
@@ -102,150 +90,121 @@ pub(crate) fn changes<L: Ledgers>(
     rt: &impl Wait,
     house: &House<L>,
     seat: &mut Seat<L>,
-) -> Result<u64, PartitionFault> {
-    Ok(house.notice(rt, seat, News::AsksToScan)?.changes())
+    told: &mut Told,
+) -> u64 {
+    match house.notice(rt, seat, News::AsksToScan) {
+        Ok(reported) => reported.changes(),
+        Err(_) => {
+            told.fail();
+            0
+        }
+    }
 }
 
-/// Whether a thread need not rest after a line of the second client, which saw all changes before.
-fn ends_rest<L: Ledgers, R: Wait + Clock>(
-    rt: &R,
-    alloc: Global,
-    house: &House<L>,
-    seat: &mut Seat<L>,
-    line: &str,
-) -> Result<bool, PartitionFault> {
-    let before = changes(rt, house, seat)?;
-    says(rt, alloc, house, seat, 2, line)?;
-    Ok(house.rest(rt, before, Duration::from_millis(1)) != before)
-}
-
-/// Adds a line, and whether it ends a rest.
+/// Adds a line of the second client, which saw all changes before, and whether a thread need not rest after it.
 fn rests<L: Ledgers, R: Wait + Clock>(
     rt: &R,
     alloc: Global,
     house: &House<L>,
     seat: &mut Seat<L>,
     line: &str,
-    told: &mut String,
-) -> Result<(), PartitionFault> {
-    let is_seen = ends_rest(rt, alloc, house, seat, line)?;
-    told.write_fmt(format_args!("{line}: {is_seen}\n"))?;
-    Ok(())
+    told: &mut Told,
+) {
+    let before = changes(rt, house, seat, told);
+    if says(rt, alloc, house, seat, 2, line).is_err() {
+        told.fail();
+    }
+    let is_seen = house.rest(rt, before, Duration::from_millis(1)) != before;
+    told.add(format_args!("{line}: {is_seen}\n"));
 }
 
 /// Adds for how many clients notices wait, and for whom the first does; 0 is nobody.
-fn add_addressees<L: Ledgers>(
-    rt: &impl Wait,
-    alloc: Global,
-    house: &House<L>,
-    told: &mut String,
-) -> Result<(), AllocError> {
-    let clients = house.addressees(rt, alloc)?;
+fn add_addressees<L: Ledgers>(rt: &impl Wait, alloc: Global, house: &House<L>, told: &mut Told) {
+    let Ok(clients) = house.addressees(rt, alloc) else {
+        told.fail();
+        return;
+    };
     let (count, first) = (clients.len(), clients.first().copied().unwrap_or(0));
-    told.write_fmt(format_args!("notices for {count}, the first is {first}\n"))
-}
-
-/// What waits in the outbox of a client.
-fn outbox<L: Ledgers>(rt: &impl Wait, house: &House<L>, client: u32) -> &'static str {
-    match house.outbox(rt, client) {
-        Some(_) => "a notice\n",
-        None => "none\n",
-    }
-}
-
-/// Whether a notice waits, as is looked for a millisecond.
-fn looks<L: Ledgers, R: Wait + Clock>(rt: &R, house: &House<L>) -> &'static str {
-    if house.await_notice(rt, Duration::from_millis(1)) {
-        "a notice\n"
-    } else {
-        "none\n"
-    }
+    told.add(format_args!("notices for {count}, the first is {first}\n"));
 }
 
 /// Adds the URI of the song that an entry of the queue has.
-fn add_song<L: Ledgers>(
-    rt: &impl Wait,
-    house: &House<L>,
-    id: u32,
-    told: &mut String,
-) -> Result<(), AllocError> {
-    match house.song(rt, 0, id)? {
-        Some(song) => {
-            told.push_str(song.song().uri())?;
-            told.push_str("\n")
-        }
-        None => told.push_str("no song\n"),
+fn add_song<L: Ledgers>(rt: &impl Wait, house: &House<L>, id: u32, told: &mut Told) {
+    match house.song(rt, 0, id) {
+        Ok(Some(song)) => told.add(format_args!("{}\n", song.song().uri())),
+        Ok(None) => told.add("no song\n"),
+        Err(_) => told.fail(),
     }
 }
 
-/// Whether the daemon has ended.
-fn ended<L: Ledgers>(rt: &impl Wait, house: &House<L>) -> &'static str {
-    if house.has_ended(rt) {
-        "ended\n"
-    } else {
-        "goes on\n"
-    }
+/// Whether a notice waits, in words.
+fn notice(waits: bool) -> &'static str {
+    if waits { "a notice\n" } else { "none\n" }
 }
 
-/// Adds what the house shows where a step asks for it.
+/// Adds what the house shows where a step asks for it: the clients that notices wait for, a song, whether a notice
+/// waits in the outbox of a client, whether the daemon has ended, or whether any notice waits, as is looked for a
+/// millisecond.
 fn shows<L: Ledgers, R: Wait + Clock>(
     rt: &R,
     alloc: Global,
     house: &House<L>,
     what: &str,
-    told: &mut String,
-) -> Result<(), AllocError> {
+    told: &mut Told,
+) {
     let (what, number) = first_word(what);
     match what {
         "notices" => add_addressees(rt, alloc, house, told),
         "song" => add_song(rt, house, number_of(number), told),
-        "outbox" => told.push_str(outbox(rt, house, number_of(number))),
-        "end" => told.push_str(ended(rt, house)),
-        _ => told.push_str(looks(rt, house)),
+        "outbox" => told.add(notice(house.outbox(rt, number_of(number)).is_some())),
+        "end" if house.has_ended(rt) => told.add("ended\n"),
+        "end" => told.add("goes on\n"),
+        _ => told.add(notice(house.await_notice(rt, Duration::from_millis(1)))),
     }
 }
 
-/// Adds how many events were made with a seat.
-fn add_made<L: Ledgers>(seat: &Seat<L>, told: &mut String) -> Result<(), AllocError> {
-    let made = seat.made();
-    told.write_fmt(format_args!("events made: {made}\n"))
-}
-
 /// Adds what is told at a step that is no news, by its first word: the clients of some numbers come and wait; a
-/// line ends a rest or does not; a client says a list of one line; the daemon ends; the events are counted; the
-/// house shows something; or a client says a line alone.
+/// line ends a rest or does not; a client says a list of one line; the daemon ends; the events that were made with
+/// the seat are counted; the house shows something; or a client says a line alone.
 fn acts<L: Ledgers, R: Wait + Clock>(
     rt: &R,
     alloc: Global,
     house: &House<L>,
     seat: &mut Seat<L>,
     line: &str,
-    told: &mut String,
-) -> Result<(), PartitionFault> {
+    told: &mut Told,
+) {
     let (word, rest) = first_word(line);
     match word {
-        "crowd" => crowds(rt, alloc, house, seat, rest),
+        "crowd" => crowds(rt, alloc, house, seat, rest, told),
         "rest" => rests(rt, alloc, house, seat, rest, told),
         "list" => says_line(rt, alloc, house, seat, rest, true, told),
-        "ends" => house.end(rt, seat),
-        "made" => Ok(add_made(seat, told)?),
-        "show" => Ok(shows(rt, alloc, house, rest, told)?),
+        "ends" => {
+            if house.end(rt, seat).is_err() {
+                told.fail();
+            }
+        }
+        "made" => told.add(format_args!("events made: {}\n", seat.made())),
+        "show" => shows(rt, alloc, house, rest, told),
         _ => says_line(rt, alloc, house, seat, line, false, told),
     }
 }
 
-/// Adds what is told at a step.
+/// Adds what is told at a step, which is a piece of news or not.
 fn step<L: Ledgers, R: Wait + Clock>(
     rt: &R,
     alloc: Global,
     house: &House<L>,
     seat: &mut Seat<L>,
     line: &str,
-    told: &mut String,
-) -> Result<(), PartitionFault> {
+    told: &mut Told,
+) {
     let (word, rest) = first_word(line);
     match news_of(word, number_of(rest)) {
-        Some(news) => hears_news(rt, house, seat, news, told),
+        Some(news) => {
+            let reported = house.notice(rt, seat, news);
+            add_report(&reported, told);
+        }
         None => acts(rt, alloc, house, seat, line, told),
     }
 }
@@ -257,10 +216,9 @@ pub(crate) fn session<L: Ledgers, R: Wait + Clock>(
     house: &House<L>,
     seat: &mut Seat<L>,
     steps: &str,
-    told: &mut String,
-) -> Result<(), PartitionFault> {
+    told: &mut Told,
+) {
     for line in steps.lines() {
-        step(rt, alloc, house, seat, line, told)?;
+        step(rt, alloc, house, seat, line, told);
     }
-    Ok(())
 }

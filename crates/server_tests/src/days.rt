@@ -11,11 +11,11 @@ use house_rooms::{blanks, opened};
 use mpd_answers::Asker;
 use mpd_command::CommandSet;
 use mpd_session::{End, Goes, Session, SessionFault};
-use partition::PartitionFault;
 use shelf::MemShelf;
 use std::alloc::{AllocError, Global};
 use std::marker::Brand;
 use std::sync::Wait;
+use wanted::Told;
 
 /// A step of a day.
 #[derive(Clone, Copy)]
@@ -38,34 +38,6 @@ struct Guest {
     client: u32,
     session: Session,
     wire: Counting<Pipe>,
-}
-
-fn comes<L: Ledgers>(
-    rt: &impl Wait,
-    alloc: Global,
-    house: &House<L>,
-    seat: &mut Seat<L>,
-    client: u32,
-    takes: Takes,
-    may_kill: bool,
-) -> Result<Guest, PartitionFault> {
-    let greeted = house.notice(rt, seat, News::Comes(client))?;
-    let session = Session::new(
-        alloc,
-        Asker {
-            client,
-            commands: CommandSet {
-                kill: may_kill,
-                everyday: false,
-            },
-        },
-        greeted.reply(),
-    )?;
-    Ok(Guest {
-        client,
-        session,
-        wire: Counting::new(Pipe::new(Vec::new(alloc), takes)),
-    })
 }
 
 /// Gives a session turns until all bytes are read, or it is closed.
@@ -120,7 +92,7 @@ fn fault_name(fault: SessionFault) -> &'static str {
 #[derive(Drop)]
 struct Log {
     guests: Vec<Guest>,
-    faults: String,
+    told: Told,
 }
 
 /// A client comes, and is one of the guests.
@@ -129,15 +101,31 @@ fn greets<L: Ledgers>(
     alloc: Global,
     house: &House<L>,
     seat: &mut Seat<L>,
-    guests: &mut Vec<Guest>,
+    log: &mut Log,
     client: u32,
     takes: Takes,
     may_kill: bool,
-) -> Result<(), PartitionFault> {
-    guests.reserve(1)?;
-    let guest = comes(rt, alloc, house, seat, client, takes, may_kill)?;
-    guests.push_reserved(guest);
-    Ok(())
+) {
+    let commands = CommandSet {
+        kill: may_kill,
+        everyday: false,
+    };
+    let Ok(greeted) = house.notice(rt, seat, News::Comes(client)) else {
+        log.told.fail();
+        return;
+    };
+    let Ok(session) = Session::new(alloc, Asker { client, commands }, greeted.reply()) else {
+        log.told.fail();
+        return;
+    };
+    let guest = Guest {
+        client,
+        session,
+        wire: Counting::new(Pipe::new(Vec::new(alloc), takes)),
+    };
+    if log.guests.push(guest).is_err() {
+        log.told.fail();
+    }
 }
 
 /// A guest's session reads some bytes, and its fault is told.
@@ -151,15 +139,14 @@ fn reads_of<L: Ledgers>(
     client: u32,
     bytes: &[u8],
     then: Then,
-) -> Result<(), AllocError> {
+) {
     for guest in &mut log.guests {
         if guest.client == client {
             if let Some(fault) = reads(rt, alloc, house, seat, shelf, guest, bytes, then) {
-                log.faults.push_str(fault_name(fault))?;
+                log.told.add(fault_name(fault));
             }
         }
     }
-    Ok(())
 }
 
 /// Whose session has a turn in a step, what it reads, and what comes then; a client that comes has none.
@@ -182,58 +169,27 @@ fn step_of<L: Ledgers>(
     log: &mut Log,
     step: Step<'_>,
     may_kill: bool,
-) -> Result<(), PartitionFault> {
-    if let Step::Comes(client, takes) = step {
-        return greets(
-            rt,
-            alloc,
-            house,
-            seat,
-            &mut log.guests,
-            client,
-            takes,
-            may_kill,
-        );
+) {
+    match step {
+        Step::Comes(client, takes) => {
+            greets(rt, alloc, house, seat, log, client, takes, may_kill);
+        }
+        _ => {
+            let (client, bytes, then) = turn_in(step);
+            reads_of(rt, alloc, house, seat, shelf, log, client, bytes, then);
+        }
     }
-    let (client, bytes, then) = turn_in(step);
-    Ok(reads_of(rt, alloc, house, seat, shelf, log, client, bytes, then)?)
 }
 
 /// What was told of faults, and of each client how its session is and what was written to it.
-fn told_of(alloc: Global, log: &Log) -> Result<String, AllocError> {
-    let mut told = String::from_str(alloc, log.faults.as_str())?;
-    for guest in &log.guests {
+fn told_of(log: Log) -> Result<String, AllocError> {
+    let Log { guests, mut told } = log;
+    for guest in &guests {
         let text = str::from_utf8(guest.wire.inner().bytes()).unwrap_or("no text\n");
         let (client, state) = (guest.client, state(&guest.session));
-        told.write_fmt(format_args!("{client} {state}\n{text}"))?;
+        told.add(format_args!("{client} {state}\n{text}"));
     }
-    Ok(told)
-}
-
-fn take_steps<L: Ledgers>(
-    rt: &impl Wait,
-    alloc: Global,
-    house: &House<L>,
-    seat: &mut Seat<L>,
-    shelf: &mut MemShelf,
-    log: &mut Log,
-    steps: &[Step<'_>],
-    may_kill: bool,
-) -> Result<(), PartitionFault> {
-    for step in steps {
-        step_of(rt, alloc, house, seat, shelf, log, *step, may_kill)?;
-    }
-    Ok(())
-}
-
-/// What the log tells, where all steps were taken.
-fn told_after(
-    alloc: Global,
-    taken: Result<(), PartitionFault>,
-    log: &Log,
-) -> Result<String, PartitionFault> {
-    taken?;
-    Ok(told_of(alloc, log)?)
+    told.into_text()
 }
 
 fn steps_of<L: Ledgers>(
@@ -243,16 +199,18 @@ fn steps_of<L: Ledgers>(
     seat: &mut Seat<L>,
     steps: &[Step<'_>],
     may_kill: bool,
-) -> Result<String, PartitionFault> {
+) -> Result<String, AllocError> {
     let mut shelf = MemShelf::new(alloc);
     let mut log = Log {
         guests: Vec::new(alloc),
-        faults: String::new(alloc),
+        told: Told::new(alloc),
     };
-    let taken = take_steps(
-        rt, alloc, house, seat, &mut shelf, &mut log, steps, may_kill,
-    );
-    told_after(alloc, taken, &log)
+    for step in steps {
+        step_of(
+            rt, alloc, house, seat, &mut shelf, &mut log, *step, may_kill,
+        );
+    }
+    told_of(log)
 }
 
 fn day_of_a_seat<L: Ledgers>(
@@ -261,10 +219,10 @@ fn day_of_a_seat<L: Ledgers>(
     house: &House<L>,
     steps: &[Step<'_>],
     may_kill: bool,
-) -> Result<String, PartitionFault> {
+) -> Result<String, AllocError> {
     match house.seat(rt) {
         Ok(mut seat) => steps_of(rt, alloc, house, &mut seat, steps, may_kill),
-        Err(_) => Err(PartitionFault::NoMemory),
+        Err(_) => Err(AllocError),
     }
 }
 
@@ -274,53 +232,46 @@ fn day<L: Ledgers>(
     blanks: Blanks,
     steps: &[Step<'_>],
     may_kill: bool,
-) -> Result<String, PartitionFault>
+) -> Result<String, AllocError>
     requires blanks { AreFor L.names blanks }
 {
-    let (house, _shares) = opened::<L>(alloc, blanks, 4096)?;
+    let Ok((house, _shares)) = opened::<L>(alloc, blanks, 4096) else {
+        return Err(AllocError);
+    };
     day_of_a_seat(rt, alloc, &house, steps, may_kill)
 }
 
-/// What the sessions of a day wrote, each after its client's number and whether it is closed.
-pub(crate) fn told<R: Wait>(
-    rt: &R,
-    alloc: Global,
-    steps: &[Step<'_>],
-) -> Result<String, PartitionFault> {
-    told_where(rt, alloc, steps, false)
-}
-
-/// The same where clients may end the daemon, or may not.
+/// What the sessions of a day wrote, each after its client's number and whether it is closed, where clients may end
+/// the daemon, or may not.
 pub(crate) fn told_where<R: Wait>(
     rt: &R,
     alloc: Global,
     steps: &[Step<'_>],
     may_kill: bool,
-) -> Result<String, PartitionFault> {
+) -> Result<String, AllocError> {
     day::<Brand>(rt, alloc, blanks(), steps, may_kill)
 }
 
-/// A client comes and says some pieces.
-fn steps_of_pieces<'a>(
-    alloc: Global,
-    takes: Takes,
-    pieces: &[&'a [u8]],
-) -> Result<Vec<Step<'a>>, AllocError> {
-    let mut steps = Vec::new(alloc);
-    steps.push(Step::Comes(1, takes))?;
-    for piece in pieces {
-        steps.push(Step::Says(1, piece))?;
-    }
-    Ok(steps)
-}
-
-/// What the session of one client wrote that says some pieces.
+/// What the session of one client wrote that comes and says some pieces, and whose session then has so many turns
+/// more.
 pub(crate) fn told_of_pieces<R: Wait>(
     rt: &R,
     alloc: Global,
     takes: Takes,
     pieces: &[&[u8]],
-) -> Result<String, PartitionFault> {
-    let steps = steps_of_pieces(alloc, takes, pieces)?;
-    told(rt, alloc, &steps)
+    turns: usize,
+) -> Result<String, AllocError> {
+    let mut steps = Vec::new(alloc);
+    let mut is_whole = steps.push(Step::Comes(1, takes)).is_ok();
+    for piece in pieces {
+        is_whole = steps.push(Step::Says(1, piece)).is_ok() && is_whole;
+    }
+    for _turn in 0..turns {
+        is_whole = steps.push(Step::Waits(1)).is_ok() && is_whole;
+    }
+    if is_whole {
+        told_where(rt, alloc, &steps, false)
+    } else {
+        Err(AllocError)
+    }
 }

@@ -1,11 +1,10 @@
-//! Writers that do some of what they could, or fail.
-use crate::days::{Step, told, told_of_pieces};
-use crate::wires::Takes;
-use partition::PartitionFault;
+//! Writers that do some of what they could, or nothing, or fail.
+use crate::days::told_of_pieces;
+use crate::wires::{Takes, repeat};
 use std::alloc::{AllocError, Global};
 use std::sync::Wait;
 use std::test::Fail;
-use wanted::{wants, wants_made};
+use wanted::{Told, wants, wants_made};
 
 const LINES: &[u8] =
     b"ping\nadd a.wav\nplchangesposid 0\ncommand_list_ok_begin\nping\nping\ncommand_list_end\nfoo\n";
@@ -28,49 +27,8 @@ fn answers() -> &'static str {
     TOLD.strip_prefix("1 open\n").unwrap_or(TOLD)
 }
 
-/// A writer takes one byte at a time, or two, or three, up to more than all.
-fn short_writes<R: Wait>(rt: &R, alloc: Global) -> Result<(), Fail> {
-    for most in 1..120usize {
-        wants(
-            told_of_pieces(rt, alloc, Takes::AtMost(most), &[LINES]),
-            TOLD,
-        )?;
-    }
-    Ok(())
-}
-
-/// The lines, and as many turns as bytes are answered.
-fn halting_steps(alloc: Global, most: usize) -> Result<Vec<Step<'static>>, AllocError> {
-    let mut steps = Vec::new(alloc);
-    steps.push(Step::Comes(1, Takes::Haltingly(most)))?;
-    steps.push(Step::Says(1, LINES))?;
-    for _turn in 0..answers().len() {
-        steps.push(Step::Waits(1))?;
-    }
-    Ok(steps)
-}
-
-/// A writer that would block after each few bytes; the session has turns until all is written.
-fn told_haltingly<R: Wait>(rt: &R, alloc: Global, most: usize) -> Result<String, PartitionFault> {
-    let steps = halting_steps(alloc, most)?;
-    told(rt, alloc, &steps)
-}
-
-fn halting_writes<R: Wait>(rt: &R, alloc: Global) -> Result<(), Fail> {
-    for most in 1..40usize {
-        wants(told_haltingly(rt, alloc, most), TOLD)?;
-    }
-    Ok(())
-}
-
-fn told_of_failing<R: Wait>(rt: &R, alloc: Global, most: usize) -> Result<String, PartitionFault> {
-    let steps = [
-        Step::Comes(1, Takes::FailsAfter(most)),
-        Step::Says(1, LINES),
-        Step::Says(1, b"ping\n"),
-    ];
-    told(rt, alloc, &steps)
-}
+/// The lines, and a ping once the writer has failed.
+const LINES_AND_A_PING: &[&[u8]] = &[LINES, b"ping\n"];
 
 /// The faults that are answered and how the session ends, and so many bytes of the answers.
 fn front(alloc: Global, most: usize) -> Result<String, AllocError> {
@@ -78,18 +36,57 @@ fn front(alloc: Global, most: usize) -> Result<String, AllocError> {
     format!(in alloc; "write fault answered\n1 write fault\n{front}")
 }
 
-/// What a writer took that fails after so many bytes is the front of all answers, and then nothing more is
-/// written.
-fn failing_writes<R: Wait>(rt: &R, alloc: Global) -> Result<(), Fail> {
-    for most in 0..answers().len() {
-        wants_made(told_of_failing(rt, alloc, most), front(alloc, most))?;
+/// A writer takes one byte at a time, or two, or three, up to more than all. Another would block after each few
+/// bytes; its session has as many turns as bytes are answered, so that all is written. What a writer took that fails
+/// after so many bytes is the front of all answers, and then nothing more is written.
+fn few_bytes<R: Wait>(rt: &R, alloc: Global) -> Result<(), Fail> {
+    let all = answers().len();
+    for most in 1..120usize {
+        wants(
+            told_of_pieces(rt, alloc, Takes::AtMost(most), &[LINES], 0),
+            TOLD,
+        )?;
+    }
+    for most in 1..40usize {
+        wants(
+            told_of_pieces(rt, alloc, Takes::Haltingly(most), &[LINES], all),
+            TOLD,
+        )?;
+    }
+    for most in 0..all {
+        let told = told_of_pieces(rt, alloc, Takes::FailsAfter(most), LINES_AND_A_PING, 0);
+        wants_made(told, front(alloc, most))?;
     }
     Ok(())
 }
 
+/// Two stickers, and questions for their values: 2,047 for the first, whose value has 8,177 letters, and one
+/// for the second, whose value has so many letters.
+fn questions(alloc: Global, last: usize) -> Result<String, AllocError> {
+    let mut lines = Told::new(alloc);
+    lines.add("sticker set song a.wav n ");
+    repeat(&mut lines, "x", 8_177);
+    lines.add("\nsticker set song a.wav m ");
+    repeat(&mut lines, "y", last);
+    lines.add("\n");
+    repeat(&mut lines, "sticker get song a.wav n\n", 2_047);
+    lines.add("sticker get song a.wav m\n");
+    lines.into_text()
+}
+
+/// A client that takes nothing asks for the values of stickers, and then pings. An answer with a value has 15
+/// bytes beside its letters: `sticker: n=`, two newlines and `OK`. So the first value makes 2,047 answers of
+/// 8,192 bytes, which are 8,192 bytes less than the 16,777,216 that may be unsent. The greeting has 14 bytes,
+/// and the answers to the two lines that set stickers and to the ping have 3 each: with 8,154 letters in the
+/// second value the limit is met, and with 8,155 it is passed, by the answer to the ping.
+fn told_of_unsent<R: Wait>(rt: &R, alloc: Global, last: usize) -> Result<String, AllocError> {
+    let lines = questions(alloc, last)?;
+    told_of_pieces(rt, alloc, Takes::UpTo(0), &[lines.as_bytes(), b"ping\n"], 1)
+}
+
 #[test]
 fn writers_that_take_few_bytes(rt: HostRuntime) -> Result<(), Fail> {
-    short_writes(&rt, rt.alloc())?;
-    halting_writes(&rt, rt.alloc())?;
-    failing_writes(&rt, rt.alloc())
+    few_bytes(&rt, rt.alloc())?;
+    wants(told_of_unsent(&rt, rt.alloc(), 8_154), "1 open\n")?;
+    wants(told_of_unsent(&rt, rt.alloc(), 8_155), "1 unsent\n")
 }

@@ -2,15 +2,11 @@
 #![tactic(auto)]
 
 #[cfg(test)]
-mod closes;
-#[cfg(test)]
 mod days;
 #[cfg(test)]
 mod devices;
 #[cfg(test)]
 mod lines;
-#[cfg(test)]
-mod lists;
 #[cfg(test)]
 mod loopback;
 #[cfg(test)]

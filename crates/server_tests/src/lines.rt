@@ -1,36 +1,29 @@
-//! Lines, however their bytes are cut.
-use crate::days::{Step, told, told_of_pieces};
-use crate::wires::{Takes, repeated, without_x};
-use partition::PartitionFault;
+//! Lines, however their bytes are cut, and command lists of the greatest size, and larger.
+use crate::days::told_of_pieces;
+use crate::wires::{Takes, repeat, without_x};
 use std::alloc::{AllocError, Global};
 use std::sync::Wait;
 use std::test::Fail;
-use wanted::wants;
+use wanted::{Told, wants};
 
 const ROW: &[u8] = b"ping\ncommand_list_ok_begin\nping\ncommand_list_end\n";
 
 const ANSWERS: &str = "1 open\nOK MPD 0.23.0\nOK\nlist_OK\nOK\n";
 
-/// The row in pieces of a byte.
-fn bytes_of_row(alloc: Global) -> Result<Vec<&'static [u8]>, AllocError> {
+/// The session reads one byte of the row a turn.
+fn told_byte_by_byte<R: Wait>(rt: &R, alloc: Global) -> Result<String, AllocError> {
     let mut pieces = Vec::new(alloc);
     for at in 0..ROW.len() {
         pieces.push(&ROW[at..=at])?;
     }
-    Ok(pieces)
-}
-
-/// The session reads one byte a turn.
-fn told_byte_by_byte<R: Wait>(rt: &R, alloc: Global) -> Result<String, PartitionFault> {
-    let pieces = bytes_of_row(alloc)?;
-    told_of_pieces(rt, alloc, Takes::All, &pieces)
+    told_of_pieces(rt, alloc, Takes::All, &pieces, 0)
 }
 
 /// The row is cut at each place into two.
 fn cut_into_two<R: Wait>(rt: &R, alloc: Global) -> Result<(), Fail> {
     for cut in 0..=ROW.len() {
         let pieces = [&ROW[..cut], &ROW[cut..]];
-        wants(told_of_pieces(rt, alloc, Takes::All, &pieces), ANSWERS)?;
+        wants(told_of_pieces(rt, alloc, Takes::All, &pieces, 0), ANSWERS)?;
     }
     Ok(())
 }
@@ -41,49 +34,63 @@ const THREE_PIECES: &[&[u8]] = &[
     b"command_list_end\n",
 ];
 
-#[test]
-fn a_row_in_pieces(rt: HostRuntime) -> Result<(), Fail> {
-    let alloc = rt.alloc();
-    wants(
-        told_of_pieces(&rt, alloc, Takes::All, THREE_PIECES),
-        ANSWERS,
-    )?;
-    cut_into_two(&rt, alloc)?;
-    wants(told_byte_by_byte(&rt, alloc), ANSWERS)
-}
-
 /// A `ping`, a line of so many bytes, and another `ping`. What the line holds is not shown.
-fn told_of_length<R: Wait>(rt: &R, alloc: Global, length: usize) -> Result<String, PartitionFault> {
-    let line = repeated(alloc, b'x', length, b"\n")?;
-    let steps = [
-        Step::Comes(1, Takes::All),
-        Step::Says(1, b"ping\n"),
-        Step::Says(1, &line),
-        Step::Says(1, b"ping\n"),
-    ];
-    Ok(without_x(alloc, told(rt, alloc, &steps)?.as_str())?)
+fn told_of_length<R: Wait>(rt: &R, alloc: Global, length: usize) -> Result<String, AllocError> {
+    let mut line = Told::new(alloc);
+    repeat(&mut line, "x", length);
+    line.add("\n");
+    let line = line.into_text()?;
+    let pieces = [b"ping\n".as_slice(), line.as_bytes(), b"ping\n".as_slice()];
+    without_x(alloc, told_of_pieces(rt, alloc, Takes::All, &pieces, 0))
 }
 
 /// What is told of two lines before a line that is too long, and one after it, all in one piece.
-fn told_around_long_line<R: Wait>(rt: &R, alloc: Global) -> Result<String, PartitionFault> {
-    let mut bytes = Vec::from_slice(alloc, b"ping\nping\n")?;
-    bytes.extend_from_slice(&repeated(alloc, b'x', 20_000, b"\nping\n")?)?;
-    told(
-        rt,
+fn told_around_long_line<R: Wait>(rt: &R, alloc: Global) -> Result<String, AllocError> {
+    let mut lines = Told::new(alloc);
+    lines.add("ping\nping\n");
+    repeat(&mut lines, "x", 20_000);
+    lines.add("\nping\n");
+    let lines = lines.into_text()?;
+    told_of_pieces(rt, alloc, Takes::All, &[lines.as_bytes()], 0)
+}
+
+/// A list of 128 lines of 16,384 bytes each, newlines counted, which is the most; after them perhaps some
+/// more bytes, the end of the list, and a `ping`. What the lines hold is not shown.
+fn told_of_large_list<R: Wait>(rt: &R, alloc: Global, more: &str) -> Result<String, AllocError> {
+    let mut lines = Told::new(alloc);
+    lines.add("ping\ncommand_list_begin\n");
+    for _line in 0..128u32 {
+        repeat(&mut lines, "x", 16_383);
+        lines.add("\n");
+    }
+    lines.add(more);
+    lines.add("command_list_end\nping\n");
+    let lines = lines.into_text()?;
+    without_x(
         alloc,
-        &[Step::Comes(1, Takes::All), Step::Says(1, &bytes)],
+        told_of_pieces(rt, alloc, Takes::All, &[lines.as_bytes()], 0),
     )
 }
 
 /// A line of the greatest length is answered, and a longer one closes: lines before it in the same piece are
-/// answered, and those after it are not.
+/// answered, and those after it are not. A list of the greatest size is run, and a larger one closes.
 #[test]
-fn long_lines(rt: HostRuntime) -> Result<(), Fail> {
+fn lines_and_lists(rt: HostRuntime) -> Result<(), Fail> {
     let alloc = rt.alloc();
+    wants(
+        told_of_pieces(&rt, alloc, Takes::All, THREE_PIECES, 0),
+        ANSWERS,
+    )?;
+    cut_into_two(&rt, alloc)?;
+    wants(told_byte_by_byte(&rt, alloc), ANSWERS)?;
     let answered = "1 open\nOK MPD 0.23.0\nOK\nACK [5@0] {} unknown command \"\"\nOK\n";
     wants(told_of_length(&rt, alloc, 16_384), answered)?;
     let closed = "1 long line\nOK MPD 0.23.0\nOK\n";
     wants(told_of_length(&rt, alloc, 16_385), closed)?;
     let closed_later = "1 long line\nOK MPD 0.23.0\nOK\nOK\n";
-    wants(told_around_long_line(&rt, alloc), closed_later)
+    wants(told_around_long_line(&rt, alloc), closed_later)?;
+    let run = "1 open\nOK MPD 0.23.0\nOK\nACK [5@0] {} unknown command \"\"\nOK\n";
+    wants(told_of_large_list(&rt, alloc, ""), run)?;
+    let closed = "1 large list\nOK MPD 0.23.0\nOK\n";
+    wants(told_of_large_list(&rt, alloc, "\n"), closed)
 }

@@ -17,11 +17,22 @@ use std::marker::Brand;
 use std::net::{Net, Shutdown, SocketAddr, TcpListener, TcpStream};
 use std::sync::{Arc, Wait};
 use std::test::Fail;
+use std::thread;
 use std::thread::Threads;
 use std::time::Clock;
-use std::{io, thread};
 
 const GREETING: &[u8] = b"OK MPD 0.23.0\n";
+
+/// What those say and hear that go with an open list and with a line begun: see [`many_go`].
+const LEAVE: [&[u8]; 4] = [
+    b"ping\n",
+    b"OK\n",
+    b"command_list_begin\nadd a.wav\nadd b.wav\ncommand_list_",
+    b"plchangesposid 0\n",
+];
+
+/// The same of those that break off: a socket that is closed with bytes unread is reset.
+const BREAK_OFF: [&[u8]; 4] = [b"commands\n", b"command: add\n", b"", b"ping\n"];
 
 /// What clients do.
 #[derive(Clone, Copy)]
@@ -85,8 +96,12 @@ fn serves_by_a_loop<
     seat: &mut Seat<L>,
     door: Door,
 ) -> Result<(), ServeFault> {
-    let mut server = Server::open(&rt, alloc, door)?;
-    let waking = start_waker(rt, house, &mut server)?;
+    let Ok(mut server) = Server::open(&rt, alloc, door) else {
+        return Err(ServeFault::NoMemory);
+    };
+    let Ok(waking) = start_waker(rt, house, &mut server) else {
+        return Err(ServeFault::NoMemory);
+    };
     let served = serves_beside_scans(rt, alloc, house, seat, &mut server);
     waking.join(&rt);
     served
@@ -126,70 +141,164 @@ fn serves_at_brand<R: Threads + Wait + Net + Clock + Copy + Send + 'static>(
     serves::<Brand, R>(rt, alloc, blanks(), door)
 }
 
+/// A client on its socket. A fault of it is kept, and after one it says and hears nothing more: who lets it act
+/// need not ask after each line.
+#[derive(Drop)]
+struct Guest {
+    alloc: Global,
+    stream: TcpStream,
+    went_well: bool,
+}
+
+impl Guest {
+    /// It counts as a fault where something is not so.
+    fn needs(&mut self, is_so: bool) {
+        self.went_well = self.went_well && is_so;
+    }
+
+    fn writes(&mut self, bytes: &[u8]) {
+        self.went_well = self.went_well && self.stream.write_all(bytes).is_ok();
+    }
+
+    /// Fills bytes with what is heard next.
+    fn takes(&mut self, bytes: &mut [u8]) {
+        self.went_well = self.went_well && self.stream.read_exact(bytes).is_ok();
+    }
+
+    /// Hears just these bytes next.
+    fn hears(&mut self, wanted: &[u8]) {
+        let Ok(mut bytes) = Vec::from_elem(self.alloc, 0u8, wanted.len()) else {
+            self.went_well = false;
+            return;
+        };
+        self.takes(bytes.as_mut_slice());
+        self.needs(bytes.as_slice() == wanted);
+    }
+
+    /// Says some bytes, and hears just these.
+    fn says(&mut self, bytes: &[u8], wanted: &[u8]) {
+        self.writes(bytes);
+        self.hears(wanted);
+    }
+
+    fn pings(&mut self, count: u32) {
+        for _ping in 0..count {
+            self.says(b"ping\n", b"OK\n");
+        }
+    }
+
+    /// Asks so many times for what is answered at length.
+    fn asks(&mut self, count: u32) {
+        for _question in 0..count {
+            self.writes(b"commands\n");
+        }
+    }
+
+    /// The length of the answer to `commands`.
+    fn length_of_commands(&mut self) -> usize {
+        let mut heard = Vec::new(self.alloc);
+        let mut byte = [0u8; 1];
+        self.asks(1);
+        for _ in 0..100_000u32 {
+            self.takes(&mut byte);
+            self.needs(heard.extend_from_slice(&byte).is_ok());
+            if !self.went_well || heard.as_slice().ends_with(b"\nOK\n") {
+                break;
+            }
+        }
+        heard.len()
+    }
+
+    /// Hears so many answers to `commands`, each of this length.
+    fn hears_answers(&mut self, length: usize, count: u32) {
+        let Ok(mut answer) = Vec::from_elem(self.alloc, 0u8, length) else {
+            self.went_well = false;
+            return;
+        };
+        for _question in 0..count {
+            self.takes(answer.as_mut_slice());
+            self.needs(answer.as_slice().ends_with(b"\nOK\n"));
+        }
+    }
+
+    /// Sends no more from then on.
+    fn shuts(&mut self) {
+        self.went_well = self.went_well && self.stream.shutdown(Shutdown::Write).is_ok();
+    }
+
+    /// Hears no more.
+    fn hears_the_end(&mut self) {
+        self.went_well = self.went_well && is_at_its_end(&mut self.stream);
+    }
+}
+
+/// Whether there is no more to hear.
+fn is_at_its_end(stream: &mut TcpStream) -> bool {
+    let mut bytes = [0u8; 16];
+    matches!(stream.read(&mut bytes), Ok(0) | Err(_))
+}
+
 /// A client that has been greeted.
 fn comes<R: Net<Listener = TcpListener, Stream = TcpStream>>(
     rt: &R,
     alloc: Global,
     address: SocketAddr,
-) -> io::Result<TcpStream> {
-    let mut client = TcpStream::connect(rt, address)?;
-    hears(alloc, &mut client, GREETING)?;
-    Ok(client)
+) -> Option<Guest> {
+    let Ok(stream) = TcpStream::connect(rt, address) else {
+        return None;
+    };
+    let mut guest = Guest {
+        alloc,
+        stream,
+        went_well: true,
+    };
+    guest.hears(GREETING);
+    if guest.went_well { Some(guest) } else { None }
 }
 
-/// A client hears just these bytes next.
-fn hears(alloc: Global, client: &mut TcpStream, wanted: &[u8]) -> io::Result<()> {
-    let mut bytes = Vec::from_elem(alloc, 0u8, wanted.len())?;
-    client.read_exact(bytes.as_mut_slice())?;
-    if bytes.as_slice() == wanted {
-        Ok(())
-    } else {
-        Err(io::Error::from(io::ErrorKind::InvalidData))
-    }
-}
-
-/// A client says some bytes, and hears just these.
-fn says(alloc: Global, client: &mut TcpStream, bytes: &[u8], wanted: &[u8]) -> io::Result<()> {
-    client.write_all(bytes)?;
-    hears(alloc, client, wanted)
-}
-
-/// A client hears no more.
-fn hears_the_end(client: &mut TcpStream) -> bool {
-    let mut bytes = [0u8; 16];
-    matches!(client.read(&mut bytes), Ok(0) | Err(_))
-}
-
-/// The same, or a fault.
-fn wants_the_end(client: &mut TcpStream) -> io::Result<()> {
-    if hears_the_end(client) {
-        Ok(())
-    } else {
-        Err(io::Error::from(io::ErrorKind::InvalidData))
-    }
-}
-
-/// So many clients come.
+/// So many clients come, or fewer after a fault.
 fn others<R: Net<Listener = TcpListener, Stream = TcpStream>>(
     rt: &R,
     alloc: Global,
     address: SocketAddr,
     count: u32,
-) -> io::Result<Vec<TcpStream>> {
+) -> Vec<Guest> {
     let mut others = Vec::new(alloc);
     for _client in 0..count {
-        others.push(comes(rt, alloc, address)?)?;
+        let Some(other) = comes(rt, alloc, address) else {
+            break;
+        };
+        others.push(other).ok();
     }
-    Ok(others)
+    others
 }
 
 /// There is no place for one who comes.
 fn one_finds_no_place<R: Net<Listener = TcpListener, Stream = TcpStream>>(
     rt: &R,
     address: SocketAddr,
-) -> io::Result<()> {
-    let mut late = TcpStream::connect(rt, address)?;
-    wants_the_end(&mut late)
+) -> bool {
+    match TcpStream::connect(rt, address) {
+        Ok(mut late) => is_at_its_end(&mut late),
+        Err(_) => false,
+    }
+}
+
+/// One comes, says some bytes and hears just these, says more, and goes. Whether that went well.
+fn one_goes<R: Net<Listener = TcpListener, Stream = TcpStream>>(
+    rt: &R,
+    alloc: Global,
+    address: SocketAddr,
+    bytes: &[u8],
+    wanted: &[u8],
+    last: &[u8],
+) -> bool {
+    let Some(mut client) = comes(rt, alloc, address) else {
+        return false;
+    };
+    client.says(bytes, wanted);
+    client.writes(last);
+    client.went_well
 }
 
 /// There is a place for one who comes.
@@ -197,192 +306,114 @@ fn one_finds_a_place<R: Net<Listener = TcpListener, Stream = TcpStream>>(
     rt: &R,
     alloc: Global,
     address: SocketAddr,
-) -> io::Result<()> {
-    let mut next = comes(rt, alloc, address)?;
-    says(alloc, &mut next, b"ping\n", b"OK\n")
+) -> bool {
+    one_goes(rt, alloc, address, b"ping\n", b"OK\n", b"")
 }
 
-fn one_closes(client: Option<TcpStream>) -> io::Result<()> {
+fn one_closes(client: Option<Guest>) -> bool {
     let Some(mut last) = client else {
-        return Ok(());
+        return false;
     };
-    last.write_all(b"close\n")?;
-    wants_the_end(&mut last)
+    last.writes(b"close\n");
+    last.hears_the_end();
+    last.went_well
 }
 
 /// Beside as many as there are places for one finds no place, until another has closed.
-fn many_stay<R: Net<Listener = TcpListener, Stream = TcpStream>>(
-    rt: &R,
-    alloc: Global,
-    address: SocketAddr,
-    first: &mut TcpStream,
-    clients: &mut Vec<TcpStream>,
-) -> io::Result<()> {
-    one_finds_no_place(rt, address)?;
-    one_closes(clients.pop())?;
-    one_finds_a_place(rt, alloc, address)?;
-    says(alloc, first, b"ping\n", b"OK\n")
-}
-
 fn many_come<R: Net<Listener = TcpListener, Stream = TcpStream>>(
     rt: &R,
     alloc: Global,
     address: SocketAddr,
-    first: &mut TcpStream,
-) -> io::Result<()> {
-    let mut clients = others(rt, alloc, address, 63)?;
-    many_stay(rt, alloc, address, first, &mut clients)
+    first: &mut Guest,
+) {
+    let mut clients = others(rt, alloc, address, 63);
+    let went_well = clients.len() == 63
+        && one_finds_no_place(rt, address)
+        && one_closes(clients.pop())
+        && one_finds_a_place(rt, alloc, address);
+    first.needs(went_well);
+    first.pings(1);
 }
 
-/// The length of the answer to `commands`.
-fn length_of_commands(alloc: Global, client: &mut TcpStream) -> io::Result<usize> {
-    client.write_all(b"commands\n")?;
-    let mut heard = Vec::new(alloc);
-    let mut byte = [0u8; 1];
-    for _ in 0..100_000u32 {
-        client.read_exact(&mut byte)?;
-        heard.extend_from_slice(&byte)?;
-        if heard.as_slice().ends_with(b"\nOK\n") {
-            break;
-        }
-    }
-    Ok(heard.len())
-}
-
-/// A client hears so many answers to `commands`, each of this length.
-fn hears_answers(
-    alloc: Global,
-    client: &mut TcpStream,
-    length: usize,
-    count: u32,
-) -> io::Result<()> {
-    let mut answer = Vec::from_elem(alloc, 0u8, length)?;
-    for _question in 0..count {
-        client.read_exact(answer.as_mut_slice())?;
-        if !answer.as_slice().ends_with(b"\nOK\n") {
-            return Err(io::Error::from(io::ErrorKind::InvalidData));
-        }
-    }
-    Ok(())
-}
-
-fn one_reads_slowly<R: Net<Listener = TcpListener, Stream = TcpStream>>(
-    rt: &R,
-    alloc: Global,
-    address: SocketAddr,
-    first: &mut TcpStream,
-) -> io::Result<()> {
-    let mut slow = comes(rt, alloc, address)?;
-    let length = length_of_commands(alloc, &mut slow)?;
-    for _question in 0..4_000u32 {
-        slow.write_all(b"commands\n")?;
-    }
-    for _ping in 0..100u32 {
-        says(alloc, first, b"ping\n", b"OK\n")?;
-    }
-    hears_answers(alloc, &mut slow, length, 4_000)
+fn one_reads_slowly(first: &mut Guest, slow: &mut Guest) {
+    let length = slow.length_of_commands();
+    slow.asks(4_000);
+    first.pings(100);
+    slow.needs(first.went_well);
+    slow.hears_answers(length, 4_000);
 }
 
 /// The answers take about 10 MB: more than a socket takes that nobody reads, and less than may be unsent. All
 /// is asked before the other client pings. In a round one of its pings is answered, and 4,096 bytes of this
 /// client are read: so it is closed, with answers unsent, before it reads.
-fn one_reads_late<R: Net<Listener = TcpListener, Stream = TcpStream>>(
-    rt: &R,
-    alloc: Global,
-    address: SocketAddr,
-    first: &mut TcpStream,
-    sends_no_more: bool,
-) -> io::Result<()> {
-    let mut late = comes(rt, alloc, address)?;
-    let length = length_of_commands(alloc, &mut late)?;
-    for _question in 0..8_000u32 {
-        late.write_all(b"commands\n")?;
-    }
+fn one_reads_late(first: &mut Guest, late: &mut Guest, sends_no_more: bool) {
+    let length = late.length_of_commands();
+    late.asks(8_000);
     if sends_no_more {
-        late.shutdown(Shutdown::Write)?;
+        late.shuts();
     } else {
-        late.write_all(b"close\n")?;
+        late.writes(b"close\n");
     }
-    for _ping in 0..100u32 {
-        says(alloc, first, b"ping\n", b"OK\n")?;
-    }
-    hears_answers(alloc, &mut late, length, 8_000)?;
-    wants_the_end(&mut late)
+    first.pings(100);
+    late.needs(first.went_well);
+    late.hears_answers(length, 8_000);
+    late.hears_the_end();
 }
 
-fn one_waits<R: Net<Listener = TcpListener, Stream = TcpStream>>(
-    rt: &R,
-    alloc: Global,
-    address: SocketAddr,
-    first: &mut TcpStream,
-) -> io::Result<()> {
-    let mut waiting = comes(rt, alloc, address)?;
+/// Without a change of the first one the other would wait for ever.
+fn one_waits(first: &mut Guest, waiting: &mut Guest) {
     for _change in 0..50u32 {
-        waiting.write_all(b"idle options\n")?;
-        says(alloc, first, b"repeat 1\n", b"OK\n")?;
-        hears(alloc, &mut waiting, b"changed: options\nOK\n")?;
-        says(alloc, &mut waiting, b"repeat 0\n", b"OK\n")?;
-        says(
-            alloc,
-            &mut waiting,
-            b"idle options\n",
-            b"changed: options\nOK\n",
-        )?;
+        waiting.writes(b"idle options\n");
+        first.needs(waiting.went_well);
+        first.says(b"repeat 1\n", b"OK\n");
+        waiting.needs(first.went_well);
+        waiting.hears(b"changed: options\nOK\n");
+        waiting.says(b"repeat 0\n", b"OK\n");
+        waiting.says(b"idle options\n", b"changed: options\nOK\n");
     }
-    Ok(())
 }
 
-fn one_line_is_long<R: Net<Listener = TcpListener, Stream = TcpStream>>(
-    rt: &R,
-    alloc: Global,
-    address: SocketAddr,
-    first: &mut TcpStream,
-) -> io::Result<()> {
-    let mut long = comes(rt, alloc, address)?;
-    let bytes = Vec::from_elem(alloc, b'x', 100_000)?;
-    let _refused = long.write_all(bytes.as_slice());
-    says(alloc, first, b"ping\n", b"OK\n")?;
-    wants_the_end(&mut long)
-}
-
-fn one_leaves<R: Net<Listener = TcpListener, Stream = TcpStream>>(
-    rt: &R,
-    alloc: Global,
-    address: SocketAddr,
-    first: &mut TcpStream,
-) -> io::Result<()> {
-    for _time in 0..200u32 {
-        let mut client = comes(rt, alloc, address)?;
-        says(alloc, &mut client, b"ping\n", b"OK\n")?;
-        client.write_all(b"command_list_begin\nadd a.wav\nadd b.wav\ncommand_list_")?;
-    }
-    says(alloc, first, b"plchangesposid 0\n", b"OK\n")
+fn one_line_is_long(first: &mut Guest, long: &mut Guest) {
+    let Ok(bytes) = Vec::from_elem(long.alloc, b'x', 100_000) else {
+        long.went_well = false;
+        return;
+    };
+    let _refused = long.stream.write_all(bytes.as_slice());
+    first.pings(1);
+    long.needs(first.went_well);
+    long.hears_the_end();
 }
 
 /// What was asked before the client closed its writing half is answered.
-fn one_sends_no_more<R: Net<Listener = TcpListener, Stream = TcpStream>>(
-    rt: &R,
-    alloc: Global,
-    address: SocketAddr,
-    first: &mut TcpStream,
-) -> io::Result<()> {
-    let mut half = comes(rt, alloc, address)?;
-    half.write_all(b"add a.wav\nplchangesposid 0\nping\n")?;
-    half.shutdown(Shutdown::Write)?;
-    hears(alloc, &mut half, b"OK\ncpos: 0\nId: 1\nOK\nOK\n")?;
-    says(alloc, first, b"ping\n", b"OK\n")?;
-    wants_the_end(&mut half)
+fn one_sends_no_more(first: &mut Guest, half: &mut Guest) {
+    half.writes(b"add a.wav\nplchangesposid 0\nping\n");
+    half.shuts();
+    half.hears(b"OK\ncpos: 0\nId: 1\nOK\nOK\n");
+    first.pings(1);
+    half.needs(first.went_well);
+    half.hears_the_end();
 }
 
-/// One is closed at a limit, and another finds its place.
-fn one_is_replaced<R: Net<Listener = TcpListener, Stream = TcpStream>>(
+/// What two clients do, of whom the second comes for it.
+fn beside_another<R: Net<Listener = TcpListener, Stream = TcpStream>>(
     rt: &R,
     alloc: Global,
     address: SocketAddr,
-    first: &mut TcpStream,
-) -> io::Result<()> {
-    one_line_is_long(rt, alloc, address, first)?;
-    one_finds_a_place(rt, alloc, address)
+    first: &mut Guest,
+    party: Party,
+) {
+    let Some(mut second) = comes(rt, alloc, address) else {
+        first.went_well = false;
+        return;
+    };
+    match party {
+        Party::SlowReader => one_reads_slowly(first, &mut second),
+        Party::Idle => one_waits(first, &mut second),
+        Party::HalfClosed => one_sends_no_more(first, &mut second),
+        Party::ReadsLate(sends_no_more) => one_reads_late(first, &mut second, sends_no_more),
+        _ => one_line_is_long(first, &mut second),
+    }
+    first.needs(second.went_well);
 }
 
 /// The place is free as soon as all is written, and not when the time to read is over: the few pings take
@@ -391,88 +422,93 @@ fn one_is_followed<R: Net<Listener = TcpListener, Stream = TcpStream>>(
     rt: &R,
     alloc: Global,
     address: SocketAddr,
-    first: &mut TcpStream,
-) -> io::Result<()> {
-    let mut last = comes(rt, alloc, address)?;
-    last.write_all(b"close\n")?;
-    for _ping in 0..10u32 {
-        says(alloc, first, b"ping\n", b"OK\n")?;
-    }
-    one_finds_a_place(rt, alloc, address)
+    first: &mut Guest,
+) {
+    let Some(mut last) = comes(rt, alloc, address) else {
+        first.went_well = false;
+        return;
+    };
+    last.writes(b"close\n");
+    first.pings(10);
+    last.needs(first.went_well);
+    first.needs(last.went_well && one_finds_a_place(rt, alloc, address));
 }
 
-/// The same beside as many clients as there are places for beside the first and another.
+/// Beside as many clients as there are places for beside the first and another, that one closes or is closed at a
+/// limit, and its place is another's.
 fn beside_many<R: Net<Listener = TcpListener, Stream = TcpStream>>(
     rt: &R,
     alloc: Global,
     address: SocketAddr,
-    first: &mut TcpStream,
+    first: &mut Guest,
     is_at_once: bool,
-) -> io::Result<()> {
-    let _others = others(rt, alloc, address, 62)?;
+) {
+    let others = others(rt, alloc, address, 62);
+    first.needs(others.len() == 62);
+    if !first.went_well {
+        return;
+    }
     if is_at_once {
-        one_is_followed(rt, alloc, address, first)
+        one_is_followed(rt, alloc, address, first);
     } else {
-        one_is_replaced(rt, alloc, address, first)
+        beside_another(rt, alloc, address, first, Party::LongLine);
+        first.needs(first.went_well && one_finds_a_place(rt, alloc, address));
     }
 }
 
-/// A socket that is closed with bytes unread is reset.
-fn many_break_off<R: Net<Listener = TcpListener, Stream = TcpStream>>(
+/// So many clients come one after the other, say the first of these lines and hear just the second, say the third
+/// and go. Then the first client says the last, and it is done.
+fn many_go<R: Net<Listener = TcpListener, Stream = TcpStream>>(
     rt: &R,
     alloc: Global,
     address: SocketAddr,
-    first: &mut TcpStream,
-) -> io::Result<()> {
-    for _client in 0..100u32 {
-        let mut client = comes(rt, alloc, address)?;
-        says(alloc, &mut client, b"commands\n", b"command: add\n")?;
+    first: &mut Guest,
+    count: u32,
+    lines: &[&[u8]; 4],
+) {
+    let [bytes, wanted, last, afterwards] = lines;
+    for _client in 0..count {
+        first.needs(first.went_well && one_goes(rt, alloc, address, bytes, wanted, last));
     }
-    says(alloc, first, b"ping\n", b"OK\n")
-}
-
-/// The client asks for a scan and waits for its end, of which no client tells the loop.
-fn one_waits_for_a_scan(alloc: Global, first: &mut TcpStream) -> io::Result<()> {
-    says(alloc, first, b"update\n", b"updating_db: 1\nOK\n")?;
-    says(alloc, first, b"idle database\n", b"changed: database\nOK\n")
+    first.says(afterwards, b"OK\n");
 }
 
 fn acts<R: Net<Listener = TcpListener, Stream = TcpStream>>(
     rt: &R,
     alloc: Global,
     address: SocketAddr,
-    first: &mut TcpStream,
+    first: &mut Guest,
     party: Party,
-) -> io::Result<()> {
+) {
     match party {
-        Party::One => says(alloc, first, b"ping\n", b"OK\n"),
+        Party::One => first.pings(1),
+        Party::Scan => {
+            // It asks for a scan and waits for its end, of which no client tells the loop.
+            first.says(b"update\n", b"updating_db: 1\nOK\n");
+            first.says(b"idle database\n", b"changed: database\nOK\n");
+        }
         Party::Many => many_come(rt, alloc, address, first),
-        Party::SlowReader => one_reads_slowly(rt, alloc, address, first),
-        Party::Idle => one_waits(rt, alloc, address, first),
-        Party::LongLine => one_line_is_long(rt, alloc, address, first),
-        Party::Leaves => one_leaves(rt, alloc, address, first),
-        Party::Scan => one_waits_for_a_scan(alloc, first),
-        Party::HalfClosed => one_sends_no_more(rt, alloc, address, first),
+        Party::Leaves => many_go(rt, alloc, address, first, 200, &LEAVE),
+        Party::BreakOff => many_go(rt, alloc, address, first, 100, &BREAK_OFF),
         Party::Replaced => beside_many(rt, alloc, address, first, false),
         Party::Followed => beside_many(rt, alloc, address, first, true),
-        Party::BreakOff => many_break_off(rt, alloc, address, first),
-        Party::ReadsLate(sends_no_more) => {
-            one_reads_late(rt, alloc, address, first, sends_no_more)
-        }
+        _ => beside_another(rt, alloc, address, first, party),
     }
 }
 
-/// What clients do, and then one of them ends the daemon.
+/// What clients do, and then one of them ends the daemon, also after a fault. Whether all went well.
 fn visits<R: Net<Listener = TcpListener, Stream = TcpStream>>(
     rt: &R,
     alloc: Global,
     address: SocketAddr,
     guests: Party,
-) -> io::Result<bool> {
-    let mut first = comes(rt, alloc, address)?;
-    let went_well = acts(rt, alloc, address, &mut first, guests);
-    first.write_all(b"kill\n")?;
-    Ok(hears_the_end(&mut first) && went_well.is_ok())
+) -> bool {
+    let Some(mut first) = comes(rt, alloc, address) else {
+        return false;
+    };
+    acts(rt, alloc, address, &mut first, guests);
+    let is_said = first.stream.write_all(b"kill\n").is_ok();
+    is_said && is_at_its_end(&mut first.stream) && first.went_well
 }
 
 fn goes_well<
@@ -484,17 +520,19 @@ fn goes_well<
         + Send
         + Sync
         + 'static,
->(rt: R, alloc: Global, guests: Party) -> io::Result<bool> {
+>(rt: R, alloc: Global, guests: Party) -> bool {
     let Ok(door) = bind(&rt, "127.0.0.1:0") else {
-        return Ok(false);
+        return false;
     };
-    let address = door.local_addr()?;
+    let Ok(address) = door.local_addr() else {
+        return false;
+    };
     let (served, visited) = thread::join(
         &rt,
         move || serves_at_brand(rt, alloc, door),
         move || visits(&rt, alloc, address, guests),
     );
-    Ok(served.is_ok() && visited?)
+    served.is_ok() && visited
 }
 
 /// The place of the first of these that does not go well.
@@ -507,16 +545,18 @@ fn first_that_fails<
         + Send
         + Sync
         + 'static,
->(rt: R, alloc: Global, parties: &[Party]) -> io::Result<Option<usize>> {
+>(rt: R, alloc: Global, parties: &[Party]) -> Option<usize> {
     for (place, party) in parties.iter().enumerate() {
-        if !goes_well(rt, alloc, *party)? {
-            return Ok(Some(place));
+        if !goes_well(rt, alloc, *party) {
+            return Some(place);
         }
     }
-    Ok(None)
+    None
 }
 
+/// In a scan the loop sleeps, and the thread that wakes it is told of the notice that a scanner makes.
 const GUESTS: &[Party] = &[
+    Party::Scan,
     Party::One,
     Party::Many,
     Party::SlowReader,
@@ -525,9 +565,26 @@ const GUESTS: &[Party] = &[
     Party::Leaves,
 ];
 
+/// Whether an address that is listened at is listened at once.
+fn is_listened_at_once<R: Net>(rt: &R, alloc: Global) -> bool {
+    let Ok(door) = bind(rt, "127.0.0.1:0") else {
+        return false;
+    };
+    let Ok(taken) = door.local_addr() else {
+        return false;
+    };
+    match format!(in alloc; "{taken}") {
+        Ok(taken) => bind(rt, taken.as_str()).is_err(),
+        Err(_) => false,
+    }
+}
+
 #[test]
 fn guests_are_served(rt: HostRuntime) -> Result<(), Fail> {
-    assert_eq!(rt; first_that_fails(rt, rt.alloc(), GUESTS)?, None);
+    assert!(rt; bind(&rt, "127.0.0.1:0").is_ok());
+    assert!(rt; bind(&rt, "nowhere").is_err());
+    assert!(rt; is_listened_at_once(&rt, rt.alloc()));
+    assert_eq!(rt; first_that_fails(rt, rt.alloc(), GUESTS), None);
     Ok(())
 }
 
@@ -542,26 +599,7 @@ const ENDS: &[Party] = &[
 
 #[test]
 fn guests_end(rt: HostRuntime) -> Result<(), Fail> {
-    assert_eq!(rt; first_that_fails(rt, rt.alloc(), ENDS)?, None);
-    Ok(())
-}
-
-/// The loop sleeps, and the thread that wakes it is told of the notice that a scanner makes.
-#[test]
-fn a_scan_that_ends(rt: HostRuntime) -> Result<(), Fail> {
-    assert!(rt; goes_well(rt, rt.alloc(), Party::Scan)?);
-    Ok(())
-}
-
-#[test]
-fn an_address_is_listened_at(rt: HostRuntime) -> Result<(), Fail> {
-    assert!(rt; bind(&rt, "127.0.0.1:0").is_ok());
-    assert!(rt; bind(&rt, "nowhere").is_err());
-    let taken = bind(&rt, "127.0.0.1:0");
-    if let Ok(door) = &taken {
-        let address = format!(in rt.alloc(); "{}", door.local_addr()?)?;
-        assert!(rt; bind(&rt, address.as_str()).is_err());
-    }
+    assert_eq!(rt; first_that_fails(rt, rt.alloc(), ENDS), None);
     Ok(())
 }
 

@@ -2,6 +2,7 @@
 use std::alloc::{AllocError, Global};
 use std::io;
 use std::io::{ErrorKind, Read, Write};
+use wanted::Told;
 
 /// What a reader does once its bytes are read.
 #[derive(Clone, Copy)]
@@ -125,36 +126,23 @@ impl Write for Pipe {
     }
 }
 
-/// A byte so many times, and an end.
-pub(crate) fn repeated(
-    alloc: Global,
-    byte: u8,
-    count: usize,
-    end: &[u8],
-) -> Result<Vec<u8>, AllocError> {
-    let mut bytes = Vec::from_elem(alloc, byte, count)?;
-    bytes.extend_from_slice(end)?;
-    Ok(bytes)
-}
-
-/// Lines that all have so many bytes `x` before their newline.
-pub(crate) fn long_lines(alloc: Global, count: u32, length: usize) -> Result<Vec<u8>, AllocError> {
-    let mut bytes = Vec::new(alloc);
-    for _line in 0..count {
-        let start = bytes.len();
-        bytes.resize(start.saturating_add(length), b'x')?;
-        bytes.push(b'\n')?;
+/// Adds a piece so many times.
+pub(crate) fn repeat(text: &mut Told, piece: &str, count: usize) {
+    for _ in 0..count {
+        text.add(piece);
     }
-    Ok(bytes)
 }
 
-/// A text without its letters `x`.
-pub(crate) fn without_x(alloc: Global, text: &str) -> Result<String, AllocError> {
-    let mut rest = String::new(alloc);
-    for word in text.split('x') {
+/// What is told without its letters `x`.
+pub(crate) fn without_x(
+    alloc: Global,
+    told: Result<String, AllocError>,
+) -> Result<String, AllocError> {
+    let mut rest = Told::new(alloc);
+    for word in told?.split('x') {
         if !word.is_empty() {
-            rest.push_str(word)?;
+            rest.add(word);
         }
     }
-    Ok(rest)
+    rest.into_text()
 }
