@@ -39,16 +39,17 @@ const MOST_LINES: u32 = 100;
 pub(crate) fn visits(rt: &HostRuntime, address: SocketAddr) -> io::Result<()> {
     let visited = stays(rt, address);
     if visited.is_err() {
-        let another = Client::comes(rt, address)?;
-        another.kills()?;
+        if let Ok(another) = Client::comes(rt, address) {
+            let _ended = another.kills();
+        }
     }
     visited
 }
 
 fn stays(rt: &HostRuntime, address: SocketAddr) -> io::Result<()> {
     let mut client = Client::comes(rt, address)?;
-    client.acts()?;
-    println!(rt; "> kill")?;
+    client.acts();
+    client.prints("> ", "kill");
     client.kills()
 }
 
@@ -68,11 +69,13 @@ fn is_last(line: &str) -> bool {
     line == "OK\n" || line.starts_with("OK MPD ") || line.starts_with("ACK ")
 }
 
-/// A client that is connected.
+/// A client that is connected. How it ended is kept where it met a fault, and then it does nothing more: who lets it
+/// act need not ask after each line.
 #[derive(Drop)]
 struct Client {
     rt: HostRuntime,
     reader: BufReader<TcpStream>,
+    ended: io::Result<()>,
 }
 
 impl Client {
@@ -80,76 +83,92 @@ impl Client {
         let stream = connects(rt, address)?;
         stream.set_read_timeout(Some(Duration::from_secs(PATIENCE)))?;
         let reader = BufReader::new(rt.alloc(), stream)?;
-        Ok(Client { rt: *rt, reader })
+        Ok(Client {
+            rt: *rt,
+            reader,
+            ended: Ok(()),
+        })
     }
 
     /// What it does between its coming and the end.
-    fn acts(&mut self) -> io::Result<()> {
-        let greeting = self.hears()?;
-        self.prints(greeting.as_str())?;
-        self.says_all(MORNING)?;
-        bring_song(&self.rt)?;
-        self.plays()
-    }
-
-    fn plays(&mut self) -> io::Result<()> {
-        self.says_all(NOON)?;
-        self.waits()?;
-        self.says("stop")
+    fn acts(&mut self) {
+        self.shows();
+        self.says(MORNING);
+        if self.ended.is_ok() {
+            self.ended = bring_song(&self.rt);
+        }
+        self.says(NOON);
+        self.waits();
+        self.says(&["stop"]);
     }
 
     /// Waits until the queue has ended and all its frames are written.
-    fn waits(&mut self) -> io::Result<()> {
+    fn waits(&mut self) {
         for _ in 0..TRIES {
-            if self.has_stopped()? && played_bytes(&self.rt)? >= BYTES {
-                return println!(self.rt; "the queue was played");
+            if self.has_stopped() && played_bytes(&self.rt) >= BYTES {
+                self.prints("", "the queue was played");
+                return;
+            }
+            if self.ended.is_err() {
+                return;
             }
             thread::sleep(&self.rt, Duration::from_millis(PAUSE));
         }
-        Err(io::Error::from(ErrorKind::TimedOut))
+        self.ended = Err(io::Error::from(ErrorKind::TimedOut));
     }
 
-    fn has_stopped(&mut self) -> io::Result<bool> {
-        let status = self.asks("status")?;
-        Ok(status.as_str().lines().any(|line| line == "state: stop"))
+    fn has_stopped(&mut self) -> bool {
+        self.writes("status");
+        let status = self.hears();
+        status.as_str().lines().any(|line| line == "state: stop")
     }
 
-    fn says_all(&mut self, lines: &[&str]) -> io::Result<()> {
+    /// Says lines, and prints each and its answer.
+    fn says(&mut self, lines: &[&str]) {
         for line in lines {
-            self.says(line)?;
+            self.prints("> ", line);
+            self.writes(line);
+            self.shows();
         }
-        Ok(())
     }
 
-    /// Says a line, and prints it and its answer.
-    fn says(&mut self, line: &str) -> io::Result<()> {
-        println!(self.rt; "> {line}")?;
-        let answer = self.asks(line)?;
-        self.prints(answer.as_str())
-    }
-
-    fn prints(&self, answer: &str) -> io::Result<()> {
-        for line in answer.lines() {
-            println!(self.rt; "< {line}")?;
+    /// Hears an answer and prints it.
+    fn shows(&mut self) {
+        let answer = self.hears();
+        for line in answer.as_str().lines() {
+            self.prints("< ", line);
         }
-        Ok(())
     }
 
-    /// The answer to a line.
-    fn asks(&mut self, line: &str) -> io::Result<String> {
+    fn prints(&mut self, mark: &str, line: &str) {
+        if self.ended.is_ok() {
+            self.ended = println!(self.rt; "{mark}{line}");
+        }
+    }
+
+    fn writes(&mut self, line: &str) {
+        if self.ended.is_ok() {
+            self.ended = self.sends(line);
+        }
+    }
+
+    fn sends(&self, line: &str) -> io::Result<()> {
         let said = format!(in self.rt.alloc(); "{line}\n")?;
-        self.writes(said.as_str().as_bytes())?;
-        self.hears()
-    }
-
-    fn writes(&self, bytes: &[u8]) -> io::Result<()> {
         let mut stream = self.reader.get_ref();
-        stream.write_all(bytes)
+        stream.write_all(said.as_str().as_bytes())
     }
 
-    /// The next answer, up to the line that ends it.
-    fn hears(&mut self) -> io::Result<String> {
+    /// The next answer; after a fault what was heard of it.
+    fn hears(&mut self) -> String {
         let mut answer = String::new(self.rt.alloc());
+        if self.ended.is_ok() {
+            self.ended = self.takes(&mut answer);
+        }
+        answer
+    }
+
+    /// Appends the next answer, up to the line that ends it.
+    fn takes(&mut self, answer: &mut String) -> io::Result<()> {
         for _ in 0..MOST_LINES {
             let mut line = String::new(self.rt.alloc());
             if self.reader.read_line(&mut line)? == 0 {
@@ -157,19 +176,20 @@ impl Client {
             }
             answer.push_str(line.as_str())?;
             if is_last(line.as_str()) {
-                return Ok(answer);
+                return Ok(());
             }
         }
         Err(io::Error::from(ErrorKind::UnexpectedEof))
     }
 
     /// Ends the daemon, which answers nothing more.
-    fn kills(self) -> io::Result<()> {
-        self.writes(b"kill\n")?;
-        let mut unheard = Vec::new(self.rt.alloc());
-        let mut reader = self.reader;
-        // The daemon may break off, which is an end too.
-        let _ended = reader.read_to_end(&mut unheard);
-        Ok(())
+    fn kills(mut self) -> io::Result<()> {
+        self.writes("kill");
+        if self.ended.is_ok() {
+            let mut unheard = Vec::new(self.rt.alloc());
+            // The daemon may break off, which is an end too.
+            let _ended = self.reader.read_to_end(&mut unheard);
+        }
+        self.ended
     }
 }

@@ -1,5 +1,4 @@
 //! The files of the day: the settings, the songs, and what the daemon wrote.
-use std::io::ErrorKind;
 use std::net::{SocketAddr, TcpListener};
 use std::{fs, io};
 
@@ -15,15 +14,11 @@ const OTHERS: [&str; 2] = ["rooms.pcm", "shelf.db"];
 /// Writes the file of settings, and gives the address that it says. The port is one that is free: the day may
 /// be lived twice on one machine.
 pub(crate) fn write_settings(rt: &HostRuntime) -> io::Result<SocketAddr> {
-    let address = free_address(rt)?;
+    let address = TcpListener::bind(rt, "127.0.0.1:0")?.local_addr()?;
     let settings = fs::read_to_string(rt, "day.toml")?;
     let settings = format!(in rt.alloc(); "listen = \"{address}\"\n{settings}")?;
     fs::write(rt, SETTINGS, settings)?;
     Ok(address)
-}
-
-fn free_address(rt: &HostRuntime) -> io::Result<SocketAddr> {
-    TcpListener::bind(rt, "127.0.0.1:0")?.local_addr()
 }
 
 /// Puts one more song into the folder of the music.
@@ -32,12 +27,11 @@ pub(crate) fn bring_song(rt: &HostRuntime) -> io::Result<()> {
     Ok(())
 }
 
-/// How many bytes the enabled output wrote so far.
-pub(crate) fn played_bytes(rt: &HostRuntime) -> io::Result<u64> {
+/// How many bytes the enabled output wrote so far; none where there is no such file yet.
+pub(crate) fn played_bytes(rt: &HostRuntime) -> u64 {
     match fs::metadata(rt, PLAYED) {
-        Ok(file) => Ok(file.len()),
-        Err(fault) if fault.kind() == ErrorKind::NotFound => Ok(0),
-        Err(fault) => Err(fault),
+        Ok(file) => file.len(),
+        Err(_) => 0,
     }
 }
 

@@ -2,11 +2,11 @@
 
 ghost use Rattle.std.specs.Prelude.{◌<◌, IfSome};
 
-use std::alloc::{AllocError, Global};
+use std::alloc::Global;
 use std::str::Lines;
 
 /// How an output line is wanted.
-#[derive(Clone, Copy, Debug, PartialEq, Eq)]
+#[derive(Clone, Copy, PartialEq, Eq)]
 enum Kind {
     /// The next line is this one.
     Exact,
@@ -28,63 +28,81 @@ struct Wanted {
 }
 
 /// A session: its input, the lines that stand in front of it in further runs, and the output that is wanted
-/// of each run.
+/// of each run. While it is read, also the number of the last input line and its client.
 #[derive(Drop)]
 pub struct Row {
     input: Vec<u8>,
-    again: Vec<Vec<u8>>,
+    again: Vec<String>,
     wanted: Vec<Wanted>,
+    step: u64,
+    speaker: u8,
 }
 
 impl Row {
-    /// Reads a row file; `None` where a line is of no kind.
-    pub fn read(alloc: Global, text: &str) -> Result<Option<Row>, AllocError> {
+    /// Reads a row file; `None` where a line is of no kind, or where there is no memory.
+    pub fn read(alloc: Global, text: &str) -> Option<Row> {
         let mut row = Row {
             input: Vec::new(alloc),
             again: Vec::new(alloc),
             wanted: Vec::new(alloc),
+            step: 0,
+            speaker: 0,
         };
-        let mut step = 0u64;
-        let mut speaker = 0u8;
         for line in text.lines() {
-            if let Some(given) = read_line(alloc, line, "> ", ">e ")? {
-                step = step.saturating_add(1);
-                speaker = given.first().copied().unwrap_or(0);
-                row.input.extend_from_slice(given.as_slice())?;
-                row.input.push(b'\n')?;
-            } else if let Some(text) = read_line(alloc, line, "< ", "<e ")? {
-                row.want(Kind::Exact, speaker, step, text)?;
-            } else if let Some(text) = read_line(alloc, line, "<~ ", "<~e ")? {
-                row.want(Kind::Has, speaker, step, text)?;
-            } else if let Some(text) = read_line(alloc, line, "<! ", "<!e ")? {
-                row.want(Kind::Lacks, speaker, step, text)?;
-            } else if line == ">" {
-                step = step.saturating_add(1);
-                speaker = 0;
-                row.input.push(b'\n')?;
-            } else if let Some(first) = line_again(alloc, line)? {
-                row.again.push(first)?;
-            } else if !is_passed_over(line) {
-                return Ok(None);
+            if !row.takes(alloc, line) {
+                return None;
             }
         }
-        Ok(Some(row))
+        Some(row)
     }
 
-    fn want(
-        &mut self,
-        kind: Kind,
-        speaker: u8,
-        step: u64,
-        text: Vec<u8>,
-    ) -> Result<(), AllocError> {
-        self.wanted.push(Wanted {
+    /// Takes in a line of a row file. False where it is of no kind, or where there is no memory.
+    fn takes(&mut self, alloc: Global, line: &str) -> bool {
+        if is_passed_over(line) {
+            return true;
+        }
+        let Some((mark, text)) = line.split_once(' ') else {
+            return line == ">" && self.takes_input(&[]);
+        };
+        let mut bytes = Vec::new(alloc);
+        if !push_text(&mut bytes, mark, text) {
+            return false;
+        }
+        match mark {
+            ">" | ">e" => self.takes_input(bytes.as_slice()),
+            "<" | "<e" => self.wants(Kind::Exact, bytes),
+            "<~" | "<~e" => self.wants(Kind::Has, bytes),
+            "<!" | "<!e" => self.wants(Kind::Lacks, bytes),
+            "again:" => self.runs_again(alloc, text),
+            _ => false,
+        }
+    }
+
+    fn takes_input(&mut self, line: &[u8]) -> bool {
+        self.step = self.step.saturating_add(1);
+        self.speaker = line.first().copied().unwrap_or(0);
+        self.input.extend_from_slice(line).is_ok() && self.input.push(b'\n').is_ok()
+    }
+
+    fn wants(&mut self, kind: Kind, text: Vec<u8>) -> bool {
+        let wanted = Wanted {
             kind,
-            speaker,
-            step,
+            speaker: self.speaker,
+            step: self.step,
             text,
-        })?;
-        Ok(())
+        };
+        self.wanted.push(wanted).is_ok()
+    }
+
+    /// Takes in `STAGE LINE`.
+    fn runs_again(&mut self, alloc: Global, text: &str) -> bool {
+        let Some((_, first)) = text.split_once(' ') else {
+            return false;
+        };
+        match format!(in alloc; "{first}\n") {
+            Ok(first) => self.again.push(first).is_ok(),
+            Err(_) => false,
+        }
     }
 
     pub fn input(&self) -> &[u8] {
@@ -92,7 +110,7 @@ impl Row {
     }
 
     /// The lines, each with its newline, in front of which the session is to be run once more.
-    pub fn again(&self) -> &[Vec<u8>] {
+    pub fn again(&self) -> &[String] {
         &self.again
     }
 
@@ -102,19 +120,6 @@ impl Row {
     }
 }
 
-/// The line of `again: STAGE LINE`, with its newline.
-fn line_again(alloc: Global, line: &str) -> Result<Option<Vec<u8>>, AllocError> {
-    let Some(rest) = line.strip_prefix("again: ") else {
-        return Ok(None);
-    };
-    let Some((_, first)) = rest.split_once(' ') else {
-        return Ok(None);
-    };
-    let mut bytes = Vec::from_slice(alloc, first.as_bytes())?;
-    bytes.push(b'\n')?;
-    Ok(Some(bytes))
-}
-
 fn is_passed_over(line: &str) -> bool {
     line.is_empty()
         || line.starts_with('#')
@@ -122,57 +127,47 @@ fn is_passed_over(line: &str) -> bool {
         || line.starts_with("until: ")
 }
 
-/// The bytes after one of two marks, the second of which has escapes.
-fn read_line(
-    alloc: Global,
-    line: &str,
-    plain: &str,
-    escaped: &str,
-) -> Result<Option<Vec<u8>>, AllocError> {
-    if let Some(text) = line.strip_prefix(plain) {
-        return Ok(Some(Vec::from_slice(alloc, text.as_bytes())?));
-    }
-    match line.strip_prefix(escaped) {
-        Some(text) => unescaped(alloc, text),
-        None => Ok(None),
-    }
-}
-
-/// The bytes of a text with escapes; `None` where one is unknown.
-fn unescaped(alloc: Global, text: &str) -> Result<Option<Vec<u8>>, AllocError> {
-    let mut bytes = Vec::new(alloc);
+/// Appends the bytes of the text after a mark: with one that ends with `e` it has escapes. False where one of them is
+/// unknown, or where there is no memory.
+fn push_text(bytes: &mut Vec<u8>, mark: &str, text: &str) -> bool {
     let mut rest = text;
-    for _ in 0..=text.len() {
-        let Some((front, after)) = rest.split_once('\\') else {
-            break;
-        };
-        bytes.extend_from_slice(front.as_bytes())?;
-        let Some(more) = push_escape(&mut bytes, after)? else {
-            return Ok(None);
-        };
-        rest = more;
+    if mark.ends_with('e') {
+        for _ in 0..=text.len() {
+            let Some((front, after)) = rest.split_once('\\') else {
+                break;
+            };
+            let Some(more) = push_escape(bytes, front, after) else {
+                return false;
+            };
+            rest = more;
+        }
     }
-    bytes.extend_from_slice(rest.as_bytes())?;
-    Ok(Some(bytes))
+    bytes.extend_from_slice(rest.as_bytes()).is_ok()
 }
 
-/// Appends what one escape means, and gives the text after it.
-fn push_escape<'a>(bytes: &mut Vec<u8>, text: &'a str) -> Result<Option<&'a str>, AllocError> {
+/// Appends the text in front of an escape and what the escape means, and gives the text after it.
+fn push_escape<'a>(bytes: &mut Vec<u8>, front: &str, text: &'a str) -> Option<&'a str> {
+    if bytes.extend_from_slice(front.as_bytes()).is_err() {
+        return None;
+    }
     let mut characters = text.chars();
-    match characters.next() {
-        Some('r') => bytes.push(b'\r')?,
-        Some('t') => bytes.push(b'\t')?,
-        Some('\\') => bytes.push(b'\\')?,
+    let byte = match characters.next() {
+        Some('r') => b'\r',
+        Some('t') => b'\t',
+        Some('\\') => b'\\',
         Some('x') => {
             let (Some(high), Some(low)) = (hex(characters.next()), hex(characters.next())) else {
-                return Ok(None);
+                return None;
             };
-            bytes.push(high * 16 + low)?;
+            high * 16 + low
         }
         Some('{') => return push_repeated(bytes, characters.as_str()),
-        _ => return Ok(None),
+        _ => return None,
+    };
+    match bytes.push(byte) {
+        Ok(()) => Some(characters.as_str()),
+        Err(_) => None,
     }
-    Ok(Some(characters.as_str()))
 }
 
 fn hex(digit: Option<char>) -> Option<u8>
@@ -191,25 +186,29 @@ fn hex(digit: Option<char>) -> Option<u8>
 }
 
 /// Appends the text of `TEXT*N}` N times, and gives the text after it.
-fn push_repeated<'a>(bytes: &mut Vec<u8>, text: &'a str) -> Result<Option<&'a str>, AllocError> {
+fn push_repeated<'a>(bytes: &mut Vec<u8>, text: &'a str) -> Option<&'a str> {
     let Some((inside, after)) = text.split_once('}') else {
-        return Ok(None);
+        return None;
     };
     let Some((repeated, count)) = inside.split_once('*') else {
-        return Ok(None);
+        return None;
     };
     let Some(count) = mpd_text::number(count) else {
-        return Ok(None);
+        return None;
     };
     for _ in 0..count {
-        bytes.extend_from_slice(repeated.as_bytes())?;
+        if bytes.extend_from_slice(repeated.as_bytes()).is_err() {
+            return None;
+        }
     }
-    Ok(Some(after))
+    Some(after)
 }
 
 /// How many lines were wanted, if the output is as wanted.
 fn compare(wanted: &[Wanted], output: &[u8]) -> Option<u64> {
-    let text = str::from_utf8(output).ok()?;
+    let Ok(text) = str::from_utf8(output) else {
+        return None;
+    };
     let mut lines = text.lines();
     let mut open = None;
     let mut count = 0u64;
@@ -217,15 +216,12 @@ fn compare(wanted: &[Wanted], output: &[u8]) -> Option<u64> {
         if let Some((speaker, step)) = open
             && (step != line.step || line.kind == Kind::Exact)
         {
-            skip_answer(&mut lines, speaker)?;
+            if !skip_answer(&mut lines, speaker) {
+                return None;
+            }
             open = None;
         }
-        let found = match line.kind {
-            Kind::Exact => lines.next()?.as_bytes() == line.text.as_slice(),
-            Kind::Has => find_in_answer(&mut lines, line)?,
-            Kind::Lacks => lacks(lines.clone().ok()?, line)?,
-        };
-        if !found {
+        if !is_met(&mut lines, line) {
             return None;
         }
         if line.kind != Kind::Exact {
@@ -238,54 +234,66 @@ fn compare(wanted: &[Wanted], output: &[u8]) -> Option<u64> {
         }
         count = count.saturating_add(1);
     }
-    if let Some((speaker, _)) = open {
-        skip_answer(&mut lines, speaker)?;
-    }
-    if lines.next().is_none() {
+    let is_closed = match open {
+        Some((speaker, _)) => skip_answer(&mut lines, speaker),
+        None => true,
+    };
+    if is_closed && lines.next().is_none() {
         Some(count)
     } else {
         None
     }
 }
 
-/// Whether the answer has a line, from here on.
-fn find_in_answer(lines: &mut Lines<'_>, wanted: &Wanted) -> Option<bool> {
-    for line in lines {
-        if line.as_bytes() == wanted.text.as_slice() {
-            return Some(true);
-        }
-        if ends_answer(line.as_bytes(), wanted.speaker) {
-            return Some(false);
-        }
+/// Whether what is printed from here on is as a line is wanted.
+fn is_met(lines: &mut Lines<'_>, wanted: &Wanted) -> bool {
+    match wanted.kind {
+        Kind::Exact => match lines.next() {
+            Some(line) => line.as_bytes() == wanted.text.as_slice(),
+            None => false,
+        },
+        Kind::Has => find_in_answer(lines, wanted),
+        Kind::Lacks => match lines.clone() {
+            Ok(ahead) => lacks(ahead, wanted),
+            Err(_) => false,
+        },
     }
-    None
 }
 
-/// Whether no line of the answer begins so, from here on.
-fn lacks(lines: Lines<'_>, unwanted: &Wanted) -> Option<bool> {
+/// Whether the answer has a line, from here on.
+fn find_in_answer(lines: &mut Lines<'_>, wanted: &Wanted) -> bool {
     for line in lines {
-        if line.as_bytes().starts_with(unwanted.text.as_slice()) {
-            return Some(false);
+        if line.as_bytes() == wanted.text.as_slice() {
+            return true;
         }
-        if ends_answer(line.as_bytes(), unwanted.speaker) {
-            return Some(true);
+        if ends_answer(line.as_bytes(), wanted.speaker) {
+            return false;
         }
     }
-    None
+    false
+}
+
+/// Whether no line of the answer begins so, from here on. An answer without an end is none.
+fn lacks(lines: Lines<'_>, unwanted: &Wanted) -> bool {
+    for line in lines {
+        if line.as_bytes().starts_with(unwanted.text.as_slice()) {
+            return false;
+        }
+        if ends_answer(line.as_bytes(), unwanted.speaker) {
+            return true;
+        }
+    }
+    false
 }
 
 /// Passes over the rest of an answer, which has to be a success.
-fn skip_answer(lines: &mut Lines<'_>, speaker: u8) -> Option<()> {
+fn skip_answer(lines: &mut Lines<'_>, speaker: u8) -> bool {
     for line in lines {
         if ends_answer(line.as_bytes(), speaker) {
-            return if line.as_bytes() == [speaker, b' ', b'O', b'K'].as_slice() {
-                Some(())
-            } else {
-                None
-            };
+            return line.as_bytes() == [speaker, b' ', b'O', b'K'].as_slice();
         }
     }
-    None
+    false
 }
 
 /// Whether a line ends an answer of a client.

@@ -10,6 +10,7 @@
 use crate::row::Row;
 use crate::runs::run_between;
 use counted_devices::{FailAt, FailurePoint};
+use std::alloc::Global;
 use std::{fs, io};
 
 /// The most row files.
@@ -45,59 +46,55 @@ fn names_of_rows(rt: &HostRuntime) -> io::Result<Vec<String>> {
 fn run_each(rt: &HostRuntime, names: &[String]) -> io::Result<()> {
     let mut all = Passed { lines: 0, runs: 0 };
     for name in names {
-        let passed = run_row(rt, name.as_str())?;
-        all.lines = all.lines.saturating_add(passed.lines);
-        all.runs = all.runs.saturating_add(passed.runs);
+        run_row(rt, name.as_str(), &mut all)?;
     }
     let Passed { lines, runs } = all;
     println!(rt; "{} rows, {lines} lines, {runs} runs", names.len())
 }
 
-/// Runs the row of a file and prints whether it passes. No lines where it does not.
-fn run_row(rt: &HostRuntime, name: &str) -> io::Result<Passed> {
+/// Runs the row of a file, prints whether it passes, and adds to what all had. No lines where it does not.
+fn run_row(rt: &HostRuntime, name: &str, all: &mut Passed) -> io::Result<()> {
     let text = fs::read_to_string(rt, name)?;
-    let passed = passes(rt, text.as_str())?;
-    print_row(rt, name, passed)?;
-    Ok(passed.unwrap_or(Passed { lines: 0, runs: 0 }))
-}
-
-fn print_row(rt: &HostRuntime, name: &str, passed: Option<Passed>) -> io::Result<()> {
-    match passed {
-        Some(Passed { lines, runs }) => {
-            println!(rt; "{name}: {lines} lines as wanted, runs: {runs}")
-        }
-        None => println!(rt; "{name}: DIFFERS"),
-    }
+    let Some(Passed { lines, runs }) = passes(rt.alloc(), text.as_str()) else {
+        return println!(rt; "{name}: DIFFERS");
+    };
+    all.lines = all.lines.saturating_add(lines);
+    all.runs = all.runs.saturating_add(runs);
+    println!(rt; "{name}: {lines} lines as wanted, runs: {runs}")
 }
 
 /// Runs a row as it is, and once more after each line of its `again`. `None` where a run prints something
-/// else.
-fn passes(rt: &HostRuntime, text: &str) -> io::Result<Option<Passed>> {
-    let Some(row) = Row::read(rt.alloc(), text)? else {
-        return Ok(None);
+/// else, or where there is no memory for it.
+fn passes(alloc: Global, text: &str) -> Option<Passed> {
+    let Some(row) = Row::read(alloc, text) else {
+        return None;
     };
-    let Some(lines) = wanted_lines(rt, &row, &[])? else {
-        return Ok(None);
+    let Some(lines) = wanted_lines(alloc, &row, "") else {
+        return None;
     };
     let mut runs = 1u64;
     for first in row.again() {
-        if wanted_lines(rt, &row, first)?.is_none() {
-            return Ok(None);
+        if wanted_lines(alloc, &row, first.as_str()).is_none() {
+            return None;
         }
         runs = runs.saturating_add(1);
     }
-    Ok(Some(Passed { lines, runs }))
+    Some(Passed { lines, runs })
 }
 
-/// How many wanted lines a row has, if what the script prints for some first bytes and the row's input is
-/// what it wants.
-fn wanted_lines(rt: &HostRuntime, row: &Row, first: &[u8]) -> io::Result<Option<u64>> {
-    let mut input = Vec::from_slice(rt.alloc(), first)?;
-    input.extend_from_slice(row.input())?;
+/// How many wanted lines a row has, if what the script prints for a first line and the row's input is what it
+/// wants.
+fn wanted_lines(alloc: Global, row: &Row, first: &str) -> Option<u64> {
+    let mut input = Vec::new(alloc);
+    if input.extend_from_slice(first.as_bytes()).is_err()
+        || input.extend_from_slice(row.input()).is_err()
+    {
+        return None;
+    }
     let reader = FailAt::new(input, FailurePoint::Never);
-    let writer = FailAt::new(Vec::new(rt.alloc()), FailurePoint::Never);
-    match run_between(rt.alloc(), reader, writer) {
-        (Ok(()), written) => Ok(row.compare(written.bytes())),
-        (Err(_), _) => Ok(None),
+    let writer = FailAt::new(Vec::new(alloc), FailurePoint::Never);
+    match run_between(alloc, reader, writer) {
+        (Ok(()), written) => row.compare(written.bytes()),
+        (Err(_), _) => None,
     }
 }

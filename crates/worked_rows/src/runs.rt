@@ -13,10 +13,6 @@ pub(crate) fn run_between(
     (ended, writer)
 }
 
-fn device(alloc: Global, text: &str, point: FailurePoint) -> Result<FailAt, AllocError> {
-    Ok(FailAt::new(Vec::from_slice(alloc, text.as_bytes())?, point))
-}
-
 fn end_of(ended: Result<(), ScriptFault>) -> &'static str {
     match ended {
         Ok(()) => "ok",
@@ -26,24 +22,20 @@ fn end_of(ended: Result<(), ScriptFault>) -> &'static str {
     }
 }
 
-/// How a run ended, and what was written, or that this is no text.
-fn told(alloc: Global, end: &str, written: &[u8]) -> Result<String, AllocError> {
-    let text = str::from_utf8(written).unwrap_or("no text");
-    format!(in alloc; "{end}\n{text}")
-}
-
 /// How a run of a script ends, and what it prints before that: `ok`, `read fault`, `write fault` or `no
-/// memory`, a newline, and what was written.
+/// memory`, a newline, and what was written, or that this is no text.
 pub(crate) fn run(
     alloc: Global,
     input: &str,
     read: FailurePoint,
     write: FailurePoint,
 ) -> Result<String, AllocError> {
-    let reader = device(alloc, input, read)?;
-    let writer = device(alloc, "", write)?;
+    let input = Vec::from_slice(alloc, input.as_bytes())?;
+    let reader = FailAt::new(input, read);
+    let writer = FailAt::new(Vec::new(alloc), write);
     let (ended, written) = run_between(alloc, reader, writer);
-    told(alloc, end_of(ended), written.bytes())
+    let text = str::from_utf8(written.bytes()).unwrap_or("no text");
+    format!(in alloc; "{}\n{text}", end_of(ended))
 }
 
 /// The same of a reader and a writer that do not fail.

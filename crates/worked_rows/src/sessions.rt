@@ -25,31 +25,18 @@ const LARGEST_LIST: &str = "ok\n1 OK MPD 0.23.0\n1 ACK [51@16384] {add} playlist
 pub fn run_all(rt: &HostRuntime) -> io::Result<()> {
     runs_are_traced();
     let alloc = rt.alloc();
-    show(
-        rt,
-        "a long session",
-        long_session(alloc),
-        "long: true, as wanted: true",
-    )?;
-    show(rt, "the largest list", largest_list(alloc), LARGEST_LIST)?;
-    show(
-        rt,
-        "a writer that fails",
-        writer_fails(alloc),
-        "write fault\n1 OK MPD 0",
-    )?;
-    show(rt, "a reader that fails", reader_fails(alloc), CUT_OFF)
+    println!(rt;
+        "a long session: {}\nthe largest list: {}\na writer that fails: {}\na reader that fails: {}",
+        whether_wanted(long_session(alloc), "long: true, as wanted: true"),
+        whether_wanted(largest_list(alloc), LARGEST_LIST),
+        whether_wanted(writer_fails(alloc), "write fault\n1 OK MPD 0"),
+        whether_wanted(reader_fails(alloc), CUT_OFF)
+    )
 }
 
-fn show(
-    rt: &HostRuntime,
-    name: &str,
-    told: Result<String, AllocError>,
-    wanted: &str,
-) -> io::Result<()> {
-    let is_wanted = told?.as_str() == wanted;
-    println!(rt;
-        "{name}: {}",
-        if is_wanted { "as wanted" } else { "DIFFERS" }
-    )
+fn whether_wanted(told: Result<String, AllocError>, wanted: &str) -> &'static str {
+    match told {
+        Ok(told) if told.as_str() == wanted => "as wanted",
+        _ => "DIFFERS",
+    }
 }
