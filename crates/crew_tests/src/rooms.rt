@@ -201,10 +201,7 @@ fn hears<L: Ledgers, V: Watch<R>, R: Wait + Clock>(
         told.add(format_args!("{text}: {came}\n"));
         return;
     }
-    match says(rt, alloc, house, seat, 1, line) {
-        Ok(heard) => told.add(heard.as_str()),
-        Err(_) => told.fail(),
-    }
+    told.add_made(says(rt, alloc, house, seat, 1, line));
 }
 
 /// A client comes and goes through a script. Adds what was heard of all its lines.

@@ -59,10 +59,7 @@ fn says_line<L: Ledgers>(
     told: &mut Told,
 ) {
     let (client, line) = first_word(line);
-    match hears(rt, alloc, house, seat, number_of(client), line, in_list) {
-        Ok(heard) => told.add(heard.as_str()),
-        Err(_) => told.fail(),
-    }
+    told.add_made(hears(rt, alloc, house, seat, number_of(client), line, in_list));
 }
 
 /// The clients of two numbers and all between come and wait. Nothing is added.

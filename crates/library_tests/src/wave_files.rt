@@ -244,10 +244,7 @@ fn files_and_devices(rt: HostRuntime) -> Result<(), Fail> {
 fn digits(alloc: Global, parts: &[(&str, usize)]) -> Result<String, AllocError> {
     let mut digits = Told::new(alloc);
     for (part, times) in parts {
-        match part.repeat(alloc, *times) {
-            Ok(part) => digits.add(part.as_str()),
-            Err(_) => digits.fail(),
-        }
+        digits.add_made(part.repeat(alloc, *times));
     }
     digits.into_text()
 }

@@ -1,7 +1,7 @@
 //! Folds of the history: a session tells the same in a window of any size, and with a fold by hand between
 //! any two events. The worked rows show the former of each command.
 use crate::session::{session, session_over, session_within};
-use crate::sessions::{ROOMS, ROOMS_TELL, SCANS, SCANS_TELL, add_numbered, add_times};
+use crate::sessions::{ROOMS, ROOMS_TELL, SCANS, SCANS_TELL, add_numbered};
 use crate::shelf_sizes::{add_doubled, add_doubling};
 use std::alloc::{AllocError, Global};
 use std::test::Fail;
@@ -302,7 +302,7 @@ fn windows_are_counted_and_folded(rt: HostRuntime) -> Result<(), Fail> {
 fn greatest_window(alloc: Global) -> Result<String, AllocError> {
     let mut steps = Told::new(alloc);
     steps.add("comes 1\n");
-    add_times(&mut steps, "1 ping\n", 4095);
+    steps.add_made("1 ping\n".repeat(alloc, 4095));
     steps.add("show window\n1 ping\nshow window\n1 ping\nshow window\n");
     session(alloc, steps.into_text()?.as_str())
 }
@@ -310,7 +310,7 @@ fn greatest_window(alloc: Global) -> Result<String, AllocError> {
 fn greatest_window_tells(alloc: Global) -> Result<String, AllocError> {
     let mut told = Told::new(alloc);
     told.add("OK MPD 0.23.0\n");
-    add_times(&mut told, "OK\n", 4095);
+    told.add_made("OK\n".repeat(alloc, 4095));
     told.add(
         "events: 4096, bytes: 12299, all: 4096\nOK\nevents: 1, bytes: 3, all: 4097\nOK\nevents: 2, bytes: 6, all: 4098\n",
     );
@@ -375,8 +375,8 @@ fn greatest(alloc: Global) -> Result<String, AllocError> {
 
 fn greatest_tells(alloc: Global) -> Result<String, AllocError> {
     let mut told = Told::new(alloc);
-    add_doubled(&mut told);
-    add_times(&mut told, "OK MPD 0.23.0\n", 63);
+    add_doubled(&mut told, alloc);
+    told.add_made("OK MPD 0.23.0\n".repeat(alloc, 63));
     told.add(GREATEST_TELLS);
     told.into_text()
 }

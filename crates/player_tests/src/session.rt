@@ -101,14 +101,6 @@ fn after(next: Next) -> &'static str {
     }
 }
 
-/// Adds a text that is made, or keeps that it was not.
-fn add_made(told: &mut Told, text: Result<String, AllocError>) {
-    match text {
-        Ok(text) => told.add(text.as_str()),
-        Err(_) => told.fail(),
-    }
-}
-
 /// What is told that has no number.
 fn bare_report(report: Report) -> &'static str {
     match report {
@@ -152,7 +144,7 @@ fn notice_told(alloc: Global, notice: &Notice) -> Result<String, AllocError> {
 /// Adds what others hear, each notice after its client.
 fn add_notices(told: &mut Told, alloc: Global, notices: &[Notice]) {
     for notice in notices {
-        add_made(told, notice_told(alloc, notice));
+        told.add_made(notice_told(alloc, notice));
     }
 }
 
@@ -251,7 +243,7 @@ fn has_client(player: &Partition, client: u32) -> &'static str {
 fn show(player: &Partition, alloc: Global, what: &str, told: &mut Told) {
     match what {
         "counts" => add_counts(told, player),
-        "pending" => add_made(told, pending(player, alloc)),
+        "pending" => told.add_made(pending(player, alloc)),
         "entries" => add_entries(told, player),
         "window" => add_window(told, player),
         "books" => add_books(told, player),
@@ -316,7 +308,7 @@ fn list_answer(alloc: Global, outcome: &ListOutcome) -> Result<String, AllocErro
 /// Adds what clients hear of a list: its whole answer, `closed` where the client is, and each notice after
 /// its client.
 fn add_list(told: &mut Told, alloc: Global, outcome: &ListOutcome) {
-    add_made(told, list_answer(alloc, outcome));
+    told.add_made(list_answer(alloc, outcome));
     if outcome.next().closes() {
         told.add("closed\n");
     }

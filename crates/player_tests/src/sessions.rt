@@ -206,13 +206,6 @@ fn each_name_is_read_back(rt: HostRuntime) -> Result<(), Fail> {
     wants(name_of(rt.alloc(), "swap 0 1"), "swap")
 }
 
-/// Adds a text so many times.
-pub(crate) fn add_times(told: &mut Told, text: &str, count: u32) {
-    for _ in 0..count {
-        told.add(text);
-    }
-}
-
 /// Adds a line for each number from this one to 64, between two texts.
 pub(crate) fn add_numbered(told: &mut Told, before: &str, first: u32, after: &str) {
     for number in first..65 {
@@ -230,7 +223,7 @@ fn crowd(alloc: Global) -> Result<String, AllocError> {
 
 fn crowd_tells(alloc: Global) -> Result<String, AllocError> {
     let mut told = Told::new(alloc);
-    add_times(&mut told, "OK MPD 0.23.0\n", 64);
+    told.add_made("OK MPD 0.23.0\n".repeat(alloc, 64));
     told.add(
         "closed\nnot there\nseat 15: 65, seat 3: 0, all: 65, entries: 0, clients: 64, volume: 100\nclosed\nOK MPD 0.23.0\n",
     );
@@ -248,8 +241,8 @@ fn waiting_crowd(alloc: Global) -> Result<String, AllocError> {
 
 fn waiting_crowd_tells(alloc: Global) -> Result<String, AllocError> {
     let mut told = Told::new(alloc);
-    add_times(&mut told, "OK MPD 0.23.0\n", 64);
-    add_times(&mut told, "waits\n", 63);
+    told.add_made("OK MPD 0.23.0\n".repeat(alloc, 64));
+    told.add_made("waits\n".repeat(alloc, 63));
     told.add("OK\n");
     add_numbered(&mut told, "", 2, ": changed: playlist");
     told.into_text()

@@ -1,6 +1,5 @@
 //! The longest queue and the longest stored playlist.
 use crate::session::session;
-use crate::sessions::add_times;
 use std::alloc::{AllocError, Global};
 use std::test::Fail;
 use wanted::{Told, wants_made};
@@ -15,9 +14,9 @@ pub(crate) fn add_doubling(steps: &mut Told) {
 }
 
 /// Adds what they tell.
-pub(crate) fn add_doubled(told: &mut Told) {
+pub(crate) fn add_doubled(told: &mut Told, alloc: Global) {
     told.add("OK MPD 0.23.0\n");
-    add_times(told, "OK\n", 29);
+    told.add_made("OK\n".repeat(alloc, 29));
 }
 
 /// What these steps tell after those.
@@ -60,7 +59,7 @@ ACK [2@0] {load} bad song index
 
 fn longest_tells(alloc: Global) -> Result<String, AllocError> {
     let mut told = Told::new(alloc);
-    add_doubled(&mut told);
+    add_doubled(&mut told, alloc);
     told.add(LONGEST_TELLS);
     told.into_text()
 }
@@ -89,9 +88,9 @@ ACK [2@0] {playlistmove} bad song index
 
 fn full_list_tells(alloc: Global) -> Result<String, AllocError> {
     let mut told = Told::new(alloc);
-    add_doubled(&mut told);
+    add_doubled(&mut told, alloc);
     told.add(FULL_LIST_TELLS);
-    add_times(&mut told, "file: a.wav\n", 16_384);
+    told.add_made("file: a.wav\n".repeat(alloc, 16_384));
     told.add("OK\n");
     told.into_text()
 }

@@ -1,6 +1,6 @@
 //! Writers that do some of what they could, or nothing, or fail.
 use crate::days::told_of_pieces;
-use crate::wires::{Takes, repeat};
+use crate::wires::Takes;
 use std::alloc::{AllocError, Global};
 use std::sync::Wait;
 use std::test::Fail;
@@ -65,11 +65,11 @@ fn few_bytes<R: Wait>(rt: &R, alloc: Global) -> Result<(), Fail> {
 fn questions(alloc: Global, last: usize) -> Result<String, AllocError> {
     let mut lines = Told::new(alloc);
     lines.add("sticker set song a.wav n ");
-    repeat(&mut lines, "x", 8_177);
+    lines.add_made("x".repeat(alloc, 8_177));
     lines.add("\nsticker set song a.wav m ");
-    repeat(&mut lines, "y", last);
+    lines.add_made("y".repeat(alloc, last));
     lines.add("\n");
-    repeat(&mut lines, "sticker get song a.wav n\n", 2_047);
+    lines.add_made("sticker get song a.wav n\n".repeat(alloc, 2_047));
     lines.add("sticker get song a.wav m\n");
     lines.into_text()
 }

@@ -1,6 +1,6 @@
 //! Lines, however their bytes are cut, and command lists of the greatest size, and larger.
 use crate::days::told_of_pieces;
-use crate::wires::{Takes, repeat, without_x};
+use crate::wires::{Takes, without_x};
 use std::alloc::{AllocError, Global};
 use std::sync::Wait;
 use std::test::Fail;
@@ -37,7 +37,7 @@ const THREE_PIECES: &[&[u8]] = &[
 /// A `ping`, a line of so many bytes, and another `ping`. What the line holds is not shown.
 fn told_of_length<R: Wait>(rt: &R, alloc: Global, length: usize) -> Result<String, AllocError> {
     let mut line = Told::new(alloc);
-    repeat(&mut line, "x", length);
+    line.add_made("x".repeat(alloc, length));
     line.add("\n");
     let line = line.into_text()?;
     let pieces = [b"ping\n".as_slice(), line.as_bytes(), b"ping\n".as_slice()];
@@ -48,7 +48,7 @@ fn told_of_length<R: Wait>(rt: &R, alloc: Global, length: usize) -> Result<Strin
 fn told_around_long_line<R: Wait>(rt: &R, alloc: Global) -> Result<String, AllocError> {
     let mut lines = Told::new(alloc);
     lines.add("ping\nping\n");
-    repeat(&mut lines, "x", 20_000);
+    lines.add_made("x".repeat(alloc, 20_000));
     lines.add("\nping\n");
     let lines = lines.into_text()?;
     told_of_pieces(rt, alloc, Takes::All, &[lines.as_bytes()], 0)
@@ -60,7 +60,7 @@ fn told_of_large_list<R: Wait>(rt: &R, alloc: Global, more: &str) -> Result<Stri
     let mut lines = Told::new(alloc);
     lines.add("ping\ncommand_list_begin\n");
     for _line in 0..128u32 {
-        repeat(&mut lines, "x", 16_383);
+        lines.add_made("x".repeat(alloc, 16_383));
         lines.add("\n");
     }
     lines.add(more);

@@ -126,13 +126,6 @@ impl Write for Pipe {
     }
 }
 
-/// Adds a piece so many times.
-pub(crate) fn repeat(text: &mut Told, piece: &str, count: usize) {
-    for _ in 0..count {
-        text.add(piece);
-    }
-}
-
 /// What is told without its letters `x`.
 pub(crate) fn without_x(
     alloc: Global,

@@ -41,14 +41,9 @@ pub const NAMES: &[Step<'_>] = &[
     (Call::List("B"), "a.wav|b.wav|"),
 ];
 
-/// A text of this many bytes, all of them the letter.
-pub fn repeated(alloc: Global, letter: &str, bytes: usize) -> Result<String, AllocError> {
-    letter.repeat(alloc, bytes)
-}
-
 /// So many URIs, told apart by a number of five digits before so many equal bytes.
 fn numbered(alloc: Global, count: u32, more: usize) -> Result<UriList, AllocError> {
-    let rest = repeated(alloc, "u", more)?;
+    let rest = "u".repeat(alloc, more)?;
     let mut text = Told::new(alloc);
     for number in 0..count {
         text.add(format_args!("{number:05}{rest}\n"));
@@ -81,14 +76,14 @@ fn follow_names<'x, S: Shelf>(
 
 /// A name of 255 bytes is created, put, renamed, read and removed.
 pub fn names_of_255_bytes_are_taken<S: Shelf>(alloc: Global, shelf: &mut S) -> Result<(), Fail> {
-    let name = repeated(alloc, "n", 255)?;
-    let other = repeated(alloc, "o", 255)?;
+    let name = "n".repeat(alloc, 255)?;
+    let other = "o".repeat(alloc, 255)?;
     follow_names(alloc, shelf, name.as_str(), other.as_str())
 }
 
 /// A name of 256 bytes is refused by the calls that would put it on the shelf, and is missing for the others.
 pub fn names_of_256_bytes_are_refused<S: Shelf>(alloc: Global, shelf: &mut S) -> Result<(), Fail> {
-    let name = repeated(alloc, "n", 256)?;
+    let name = "n".repeat(alloc, 256)?;
     let name = name.as_str();
     follow(
         alloc,

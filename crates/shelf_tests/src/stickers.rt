@@ -1,7 +1,6 @@
 //! What a shelf of any kind answers about stickers of songs.
 
 use crate::calls::{Call, Step, follow};
-use crate::playlists::repeated;
 use shelf::Shelf;
 use shelf::StickerKind::Song;
 use std::alloc::Global;
@@ -97,11 +96,11 @@ fn comes_back<'x, S: Shelf>(
 /// A URI of 1,024 bytes, a name of 1,024 bytes and texts of 4,096 bytes, of one more and of a million come
 /// back from each call that shows a sticker; then it is deleted.
 pub fn long_stickers_come_back<S: Shelf>(alloc: Global, shelf: &mut S) -> Result<(), Fail> {
-    let uri = repeated(alloc, "u", 1_024)?;
-    let name = repeated(alloc, "n", 1_024)?;
+    let uri = "u".repeat(alloc, 1_024)?;
+    let name = "n".repeat(alloc, 1_024)?;
     let (uri, name) = (uri.as_str(), name.as_str());
     for bytes in &[4_096usize, 4_097, 1_000_000] {
-        let value = repeated(alloc, "v", *bytes)?;
+        let value = "v".repeat(alloc, *bytes)?;
         comes_back(alloc, shelf, uri, name, value.as_str())?;
     }
     follow(

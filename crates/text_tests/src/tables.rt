@@ -1,5 +1,6 @@
 //! Tables of worked cases, with a line for each.
 use crate::{answers, script, words};
+use mpd_text::quote;
 use std::alloc::{AllocError, Global};
 use std::test::Fail;
 use wanted::{Told, wants};
@@ -25,7 +26,7 @@ pub fn read(alloc: Global, reads: Reads, text: &str) -> Result<String, AllocErro
     match reads {
         Reads::Number => answers::add_number(&mut told, text),
         Reads::Words => words::add_words(&mut told, alloc, text),
-        Reads::Quoted => words::add_quoted(&mut told, alloc, text),
+        Reads::Quoted => told.add_made(quote(alloc, text)),
         Reads::Head => script::add_head(&mut told, text),
         Reads::Step => script::add_step(&mut told, alloc, text),
     }

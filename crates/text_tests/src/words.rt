@@ -1,6 +1,6 @@
 //! A line as words, and texts in quotes.
 use crate::tables::{Reads, all_agree, read, repeated};
-use mpd_text::{WordsFault, one_reading, quote, some_reading, words, words_read_quotes};
+use mpd_text::{WordsFault, one_reading, some_reading, words, words_read_quotes};
 use std::alloc::{AllocError, Global};
 use std::test::Fail;
 use wanted::{Told, wants, wants_made};
@@ -17,14 +17,6 @@ pub fn add_words(told: &mut Told, alloc: Global, line: &str) {
         Ok(found) => add_each(told, found.as_slice()),
         Err(WordsFault::NoMemory) => told.fail(),
         Err(fault) => told.add(format_args!("{fault:?}")),
-    }
-}
-
-/// Adds a text in quotes.
-pub fn add_quoted(told: &mut Told, alloc: Global, text: &str) {
-    match quote(alloc, text) {
-        Ok(quoted) => told.add(quoted.as_str()),
-        Err(_) => told.fail(),
     }
 }
 

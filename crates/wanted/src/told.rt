@@ -1,6 +1,7 @@
 //! What a test is told, piece by piece.
 ghost use Rattle.std.specs.Prelude.{◌≡◌, None, Some, [], IfOk, IfSome, OnErr, string_bytes};
 ghost use Rattle.std.specs.Fmt.{AppendsText};
+ghost use Rattle.wanted.specs.Growing.{Grows};
 
 use std::alloc::{AllocError, Global};
 use std::fmt::Display;
@@ -43,11 +44,23 @@ impl Told {
 
     /// Adds a piece, or keeps that there was no memory for it.
     pub fn add<D: Display + Drop>(&mut self, piece: D)
-        ensures added { IfSome self.new (λ bytes. IfSome self.old (λ before. AppendsText before bytes (D.output piece))) }
+        ensures added { IfSome self.new (λ text. IfSome self.old (λ begun. AppendsText begun text (D.output piece))) }
         ensures kept { self.old ≡ None → self.new ≡ None }
     {
         if self.text.write_fmt(piece).is_err() {
             self.fail();
+        }
+    }
+
+    /// Adds a text that is made, or keeps that it was not.
+    pub fn add_made<E: Drop>(&mut self, piece: Result<String, E>)
+        ensures added { IfOk piece (λ made. Grows self.old (string_bytes made) self.new) }
+        ensures kept { self.old ≡ None → self.new ≡ None }
+        ensures fault { OnErr piece (self.new ≡ None) }
+    {
+        match piece {
+            Ok(made) => self.add(made.as_str()),
+            Err(_) => self.fail(),
         }
     }
 

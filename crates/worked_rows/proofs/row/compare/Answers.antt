@@ -1,5 +1,5 @@
 use Rattle.worked_rows.proofs.row.compare.Goals as goal
 
--- A line leaves nothing to keep but that lines go on and end, which they always do.
+-- The loop over the lines keeps two facts, both of them trivial. `search` does not find this pair by itself.
 pub loop-line-preserved : goal.loop-line-preserved
 loop-line-preserved c = (tt, tt)
