@@ -36,7 +36,14 @@ setvol 100
 ping
 ~ the door opens
 ~ hall 8000";
-    let (day, mut rooms) = behind_a_door(rt, alloc, saw(alloc, 8_000), 0, 20_000, script)?;
+    let (day, mut rooms) = behind_a_door(
+        rt,
+        alloc,
+        saw(alloc, 8_000),
+        &[true, false],
+        20_000,
+        script,
+    )?;
     told_with_lines(day, &mut rooms.wires, Tone::Saw)
 }
 
@@ -67,7 +74,14 @@ play
 ~ only 10240
 pause 1
 ~ the door opens";
-    let (day, _rooms) = behind_a_door(rt, alloc, saw(alloc, 20_000), 0, 20_000, script)?;
+    let (day, _rooms) = behind_a_door(
+        rt,
+        alloc,
+        saw(alloc, 20_000),
+        &[true, false],
+        20_000,
+        script,
+    )?;
     day.told().into_text()
 }
 
@@ -94,7 +108,14 @@ fn late_told<R: Threads + Wait + Clock + Copy + Drop + Send + Sync + 'static>(
 play
 ~ hall 3000
 ~ an output stands in its write";
-    let (mut day, _rooms) = behind_a_door(rt, alloc, saw(alloc, 3_000), 1, 2_000, script)?;
+    let (mut day, _rooms) = behind_a_door(
+        rt,
+        alloc,
+        saw(alloc, 3_000),
+        &[false, true],
+        2_000,
+        script,
+    )?;
     day.balance(0);
     day.rest(1);
     day.into_heard()
@@ -129,7 +150,14 @@ stop
 play 1
 ~ the door opens
 ~ hall 4024";
-    let (mut day, mut rooms) = behind_a_door(rt, alloc, saw_and_steps(alloc), 0, 20_000, script)?;
+    let (mut day, mut rooms) = behind_a_door(
+        rt,
+        alloc,
+        saw_and_steps(alloc),
+        &[true, false],
+        20_000,
+        script,
+    )?;
     day.balance(0);
     add_right_to_the_hall(&mut rooms.wires, Tone::HandThenSteps, &mut day.heard);
     day.into_heard()

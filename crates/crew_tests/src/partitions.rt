@@ -1,14 +1,15 @@
 //! Partitions play apart, each to its own output, and an output that is moved writes nothing more of the
 //! partition that it left.
-use crate::door::behind_a_door;
+use crate::door::{Rooms, behind_a_door};
 use crate::tunes::{Tone, Tune, listed, tune_of};
+use crate::wire::{add_right, right_frames};
 use crate::wired::told_apart;
 use std::alloc::{AllocError, Global};
 use std::sync::Wait;
 use std::test::Fail;
 use std::thread::Threads;
 use std::time::Clock;
-use wanted::wants;
+use wanted::{Told, wants};
 
 /// Two songs, of which the first has so many frames of the saw, and the second so many of the steps.
 fn saw_and_steps(alloc: Global, saw: i32, steps: i32) -> Result<Vec<Tune>, AllocError> {
@@ -38,7 +39,7 @@ play
         rt,
         alloc,
         saw_and_steps(alloc, 6_000, 5_000),
-        2,
+        &[false, false],
         0,
         script,
     )?;
@@ -84,7 +85,7 @@ play
         rt,
         alloc,
         saw_and_steps(alloc, 20_000, 3_000),
-        1,
+        &[false, true],
         20_000,
         script,
     )?;
@@ -112,8 +113,142 @@ decoded 13240, written 4024, discarded 9216, left 0, torn 0
 right frames in the hall 20000, in the attic 4024
 ";
 
+/// Four songs, of which the last begins as the second does.
+fn four_songs(alloc: Global) -> Result<Vec<Tune>, AllocError> {
+    let mut tunes = saw_and_steps(alloc, 20_000, 20_000)?;
+    tunes.push(tune_of(alloc, "c.wav", 20_000, 20_000, Tone::Ramp)?)?;
+    tunes.push(tune_of(alloc, "d.wav", 3_000, 3_000, Tone::Steps)?)?;
+    Ok(tunes)
+}
+
+/// Adds how many frames that came to each output beyond the first two are those of a formula.
+fn add_right_beyond(rooms: &mut Rooms, told: &mut Told) {
+    for (place, tone) in [
+        Tone::Steps,
+        Tone::StepsThenRamp,
+        Tone::Ramp,
+        Tone::RampThenSaw,
+    ]
+    .into_iter()
+    .enumerate()
+    {
+        match rooms.more.get_mut(place) {
+            Some(wire) => told.add(format_args!("{}\n", right_frames(wire, tone))),
+            None => told.fail(),
+        }
+    }
+}
+
+fn in_turn<R: Threads + Wait + Clock + Copy + Drop + Send + Sync + 'static>(
+    rt: R,
+    alloc: Global,
+) -> Result<String, AllocError> {
+    let script = "newpartition k
+newpartition m
+partition k
+moveoutput bath
+moveoutput porch
+partition m
+moveoutput den
+moveoutput loft
+add c.wav
+play
+~ den 10240
+partition k
+add b.wav
+play
+~ bath 10240
+partition default
+add a.wav
+play
+~ hall 10240
+partition m
+moveoutput porch
+partition default
+moveoutput loft
+partition k
+~ bath 20000
+moveoutput attic
+add d.wav
+play 1
+~ the door opens
+~ bath 23000
+~ attic 4024
+~ porch 10784
+~ loft 10784
+~ hall 20000
+~ den 20000";
+    let (day, mut rooms) = behind_a_door(
+        rt,
+        alloc,
+        four_songs(alloc),
+        &[false, true, false, true, false, true],
+        20_000,
+        script,
+    )?;
+    let mut told = day.told();
+    add_right(&mut rooms.wires, Tone::Saw, Tone::HandThenSteps, &mut told);
+    add_right_beyond(&mut rooms, &mut told);
+    told.into_text()
+}
+
+/// Three partitions with two outputs each: `a.wav` is played in the hall and the attic, `b.wav` in the bath and the
+/// porch, `c.wav` in the den and the loft. Attic, porch and loft have 1,024 frames in a hand, 8,192 in the ring, and
+/// 1,024 are owed to each, when each is moved to another partition. They write the hand and discard the rest. Then
+/// they have what is decoded there: the porch and the loft from frame 10,240 of the song that is played, the attic
+/// another song from its first frame on.
+const OUTPUTS_ARE_MOVED_IN_TURN: &str = "OK
+OK
+OK
+OK
+OK
+OK
+OK
+OK
+OK
+OK
+den 10240: true
+OK
+OK
+OK
+bath 10240: true
+OK
+OK
+OK
+hall 10240: true
+OK
+OK
+OK
+OK
+OK
+bath 20000: true
+OK
+OK
+OK
+the door opens: true
+bath 23000: true
+attic 4024: true
+porch 10784: true
+loft 10784: true
+hall 20000: true
+den 20000: true
+files opened: 4
+decoded 20000, written 20000, discarded 0, left 0, torn 0
+decoded 13240, written 4024, discarded 9216, left 0, torn 0
+decoded 23000, written 23000, discarded 0, left 0, torn 0
+decoded 20000, written 10784, discarded 9216, left 0, torn 0
+decoded 20000, written 20000, discarded 0, left 0, torn 0
+decoded 20000, written 10784, discarded 9216, left 0, torn 0
+right frames in the hall 20000, in the attic 4024
+23000
+10784
+20000
+10784
+";
+
 #[test]
 fn partitions_and_their_outputs(rt: HostRuntime) -> Result<(), Fail> {
     wants(apart(rt, rt.alloc()), PARTITIONS_PLAY_APART)?;
-    wants(moved(rt, rt.alloc()), A_MOVED_OUTPUT)
+    wants(moved(rt, rt.alloc()), A_MOVED_OUTPUT)?;
+    wants(in_turn(rt, rt.alloc()), OUTPUTS_ARE_MOVED_IN_TURN)
 }

@@ -27,8 +27,8 @@ use std::thread::Threads;
 use std::time::{Clock, Duration};
 use wanted::Told;
 
-/// What a house is opened with: its songs, what its two outputs `hall` and `attic` write to, what lets them
-/// go on, and what scans.
+/// What a house is opened with: its songs, what its outputs write to (the first of `OUTPUTS`), what lets them go on,
+/// and what scans.
 #[derive(Drop)]
 pub(crate) struct Stage<O: Drop, G: Drop, N: Drop> {
     pub(crate) tunes: Vec<Tune>,
@@ -129,17 +129,24 @@ impl Day {
     }
 }
 
-fn outputs(alloc: Global) -> Result<Outputs, AllocError> {
+/// The names of outputs, a line each.
+const OUTPUTS: &str = "hall\nattic\nbath\nporch\nden\nloft";
+
+/// So many outputs, all on.
+fn outputs(alloc: Global, count: usize) -> Result<Outputs, AllocError> {
     let mut outputs = Outputs::none(alloc);
-    let hall = SharedText::of(String::from_str(alloc, "hall")?)?;
-    outputs.add(hall, true)?;
-    let attic = SharedText::of(String::from_str(alloc, "attic")?)?;
-    outputs.add(attic, true)?;
+    for name in OUTPUTS.lines() {
+        if outputs.names().len() >= count.min(8) {
+            break;
+        }
+        let name = SharedText::of(String::from_str(alloc, name)?)?;
+        outputs.add(name, true)?;
+    }
     Ok(outputs)
 }
 
-/// A player over a library of these songs, with two outputs that are on and a window of 64 events.
-fn player(alloc: Global, tunes: &[Tune]) -> Result<Partition, AllocError>
+/// A player over a library of these songs, with so many outputs and a window of 64 events.
+fn player(alloc: Global, tunes: &[Tune], count: usize) -> Result<Partition, AllocError>
     ensures { IfOk result (λ player. IsFresh player.present) }
 {
     let limits = Limits {
@@ -152,7 +159,7 @@ fn player(alloc: Global, tunes: &[Tune]) -> Result<Partition, AllocError>
     let setup = Setup {
         limits,
         random_start: 0,
-        outputs: outputs(alloc)?,
+        outputs: outputs(alloc, count)?,
     };
     Partition::open(alloc, setup, library(alloc, tunes)?)
 }
@@ -241,7 +248,7 @@ fn outputs_of<
     ensures { IfOk result (λ outputs. vec_len outputs.runs ≤ 8) }
 {
     let output_setups = output_setups(alloc, 8_192, writers)?;
-    // There are two, and a part of each book for eight.
+    // There are at most six, and a part of each book for eight.
     if output_setups.len() > 8 {
         return Err(PartitionFault::NoMemory);
     }
@@ -431,7 +438,7 @@ fn run_day<
 ) -> bool
     requires blanks { AreFor L.names blanks }
 {
-    let Ok(player) = player(alloc, &stage.tunes) else {
+    let Ok(player) = player(alloc, &stage.tunes, stage.writers.len()) else {
         return false;
     };
     let Ok((house, shares)) = House::<L>::open(alloc, blanks, player) else {

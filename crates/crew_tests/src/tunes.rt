@@ -20,6 +20,11 @@ pub(crate) enum Tone {
     SawThenSteps,
     /// 1,024 frames of the saw, and then the steps from their first frame.
     HandThenSteps,
+    Ramp,
+    /// 1,024 frames of the steps, and then the ramp from its frame 10,240 on.
+    StepsThenRamp,
+    /// 1,024 frames of the ramp, and then the saw from its frame 10,240 on.
+    RampThenSaw,
 }
 
 impl Tone {
@@ -32,6 +37,11 @@ impl Tone {
             Tone::HandThenSteps if i < 1_024 => saw(i),
             Tone::SawThenSteps => steps(i.wrapping_sub(12_000)),
             Tone::HandThenSteps => steps(i.wrapping_sub(1_024)),
+            Tone::Ramp => ramp(i),
+            Tone::StepsThenRamp if i < 1_024 => steps(i),
+            Tone::RampThenSaw if i < 1_024 => ramp(i),
+            Tone::StepsThenRamp => ramp(i.wrapping_add(9_216)),
+            Tone::RampThenSaw => saw(i.wrapping_add(9_216)),
         }
     }
 }
@@ -42,6 +52,10 @@ fn saw(i: i32) -> (i32, i32) {
 
 fn steps(i: i32) -> (i32, i32) {
     (i % 50 - 2_000, 333)
+}
+
+fn ramp(i: i32) -> (i32, i32) {
+    (i % 30_000, -5)
 }
 
 /// A frame of two songs of which the second begins with frame 4,000 of the first: frame k of 8,000 of a fade

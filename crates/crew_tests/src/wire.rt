@@ -98,7 +98,7 @@ pub(crate) fn add_right_to_the_hall(wires: &mut Wires, tone: Tone, told: &mut To
 }
 
 /// Waits until so many frames came over a wire, ten seconds at most. Whether they came.
-fn frames_come<R: Clock>(rt: &R, wire: &mut Consumer<u8>, frames: usize) -> bool {
+pub(crate) fn frames_come<R: Clock>(rt: &R, wire: &mut Consumer<u8>, frames: usize) -> bool {
     let wanted = frames.saturating_mul(4);
     for _ in 0..10_000u32 {
         if wire.slots() >= wanted {
@@ -117,7 +117,7 @@ fn is_next(wire: &mut Consumer<u8>, sample: i32) -> bool {
 }
 
 /// How many frames that came over a wire are those of a formula, from the first on.
-fn right_frames(wire: &mut Consumer<u8>, tone: Tone) -> u32 {
+pub(crate) fn right_frames(wire: &mut Consumer<u8>, tone: Tone) -> u32 {
     let mut right = 0;
     for i in 0..100_000i32 {
         let (left, other) = tone.frame(i);
