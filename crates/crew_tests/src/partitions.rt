@@ -1,4 +1,4 @@
-//! Partitions play apart, each to its own output, and an output that is moved writes nothing more of the
+//! Partitions play apart, each to its own outputs, and an output that is moved writes nothing more of the
 //! partition that it left.
 use crate::door::{Rooms, behind_a_door};
 use crate::tunes::{Tone, Tune, listed, tune_of};
@@ -121,7 +121,7 @@ fn four_songs(alloc: Global) -> Result<Vec<Tune>, AllocError> {
     Ok(tunes)
 }
 
-/// Adds how many frames that came to each output beyond the first two are those of a formula.
+/// Adds how many frames that came to each output beyond the first two, in their order, are those of a formula.
 fn add_right_beyond(rooms: &mut Rooms, told: &mut Told) {
     for (place, tone) in [
         Tone::Steps,
@@ -139,11 +139,8 @@ fn add_right_beyond(rooms: &mut Rooms, told: &mut Told) {
     }
 }
 
-fn in_turn<R: Threads + Wait + Clock + Copy + Drop + Send + Sync + 'static>(
-    rt: R,
-    alloc: Global,
-) -> Result<String, AllocError> {
-    let script = "newpartition k
+/// Three partitions get two outputs and a song each, and then each gets an output of another one.
+const MOVES_IN_TURN: &str = "newpartition k
 newpartition m
 partition k
 moveoutput bath
@@ -178,13 +175,18 @@ play 1
 ~ loft 10784
 ~ hall 20000
 ~ den 20000";
+
+fn in_turn<R: Threads + Wait + Clock + Copy + Drop + Send + Sync + 'static>(
+    rt: R,
+    alloc: Global,
+) -> Result<String, AllocError> {
     let (day, mut rooms) = behind_a_door(
         rt,
         alloc,
         four_songs(alloc),
         &[false, true, false, true, false, true],
         20_000,
-        script,
+        MOVES_IN_TURN,
     )?;
     let mut told = day.told();
     add_right(&mut rooms.wires, Tone::Saw, Tone::HandThenSteps, &mut told);
