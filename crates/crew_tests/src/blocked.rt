@@ -2,7 +2,7 @@
 //! left at the end.
 use crate::door::behind_a_door;
 use crate::tunes::{Tone, Tune, listed, tune_of};
-use crate::wire::add_right_to_the_hall;
+use crate::wire::add_right;
 use crate::wired::told_with_lines;
 use std::alloc::{AllocError, Global};
 use std::sync::Wait;
@@ -159,7 +159,7 @@ play 1
         script,
     )?;
     day.balance(0);
-    add_right_to_the_hall(&mut rooms.wires, Tone::HandThenSteps, &mut day.heard);
+    add_right(&mut rooms.wires, &[Tone::HandThenSteps], &mut day.heard);
     day.into_heard()
 }
 

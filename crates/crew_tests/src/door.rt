@@ -1,10 +1,9 @@
 //! An output whose writer stands before a door.
 use crate::rooms::{Blind, Day, Stage, Watch, one_day, shared};
 use crate::tunes::Tune;
-use crate::wire::{Wire, Wires, frames_come, new_wire, two_wires};
+use crate::wire::{Wire, Wires, wires_of};
 use counted_devices::Counting;
 use crew_steps::Open;
-use rtrb::Consumer;
 use std::alloc::{AllocError, Global};
 use std::io::Write;
 use std::sync::atomic::{AtomicU32, Ordering};
@@ -58,28 +57,11 @@ impl<R: Clock + Drop> Write for Behind<R> {
     }
 }
 
-/// The test's ends of the wires, of the first two outputs and of those beyond, and the door.
+/// The test's ends of the wires, and the door.
 #[derive(Drop)]
 pub(crate) struct Rooms {
     pub(crate) wires: Wires,
-    pub(crate) more: Vec<Consumer<u8>>,
     door: Arc<Door, Global>,
-}
-
-impl Rooms {
-    /// Waits until so many frames came to an output beyond the first two, as `Wires` does. Whether they came.
-    fn more_come<R: Clock>(&mut self, rt: &R, name: &str, frames: usize) -> bool {
-        let place = match name {
-            "bath" => 0,
-            "porch" => 1,
-            "den" => 2,
-            _ => 3,
-        };
-        match self.more.get_mut(place) {
-            Some(wire) => frames_come(rt, wire, frames),
-            None => false,
-        }
-    }
 }
 
 impl<R: Clock> Watch<R> for Rooms {
@@ -90,29 +72,9 @@ impl<R: Clock> Watch<R> for Rooms {
                 self.door.open.store(1, Ordering::SeqCst);
                 self.door.gave_up.load(Ordering::SeqCst) == 0
             }
-            _ => match step.split_once(' ') {
-                Some((name, frames)) if matches!(name, "bath" | "porch" | "den" | "loft") => {
-                    self.more_come(rt, name, frames.parse().unwrap_or(0))
-                }
-                _ => self.wires.does(rt, step),
-            },
+            _ => self.wires.does(rt, step),
         }
     }
-}
-
-/// The wires of so many outputs, two at least: the ends of the outputs, and those of the test.
-fn wires_of(
-    alloc: Global,
-    count: usize,
-) -> Result<(Vec<Counting<Wire>>, Wires, Vec<Consumer<u8>>), AllocError> {
-    let (mut wired, wires) = two_wires(alloc, 100_000, 100_000)?;
-    let mut more = Vec::new(alloc);
-    for _ in 2..count {
-        let (wire, taken) = new_wire(alloc, 100_000)?;
-        wired.push(Counting::new(wire))?;
-        more.push(taken)?;
-    }
-    Ok((wired, wires, more))
 }
 
 /// An output for each word, which says whether it is behind a door that is shut. The writers there go on after so
@@ -123,7 +85,8 @@ fn writers_of<R: Clock + Copy + Drop>(
     shut: &[bool],
     patience: u32,
 ) -> Result<(Vec<Counting<Behind<R>>>, Rooms), AllocError> {
-    let (wired, wires, more) = wires_of(alloc, shut.len())?;
+    let rooms = [100_000; 6];
+    let (wired, wires) = wires_of(alloc, &rooms[..shut.len().min(6)])?;
     let door = shared(
         alloc,
         Door {
@@ -146,7 +109,7 @@ fn writers_of<R: Clock + Copy + Drop>(
             wire,
         }))?;
     }
-    Ok((writers, Rooms { wires, more, door }))
+    Ok((writers, Rooms { wires, door }))
 }
 
 /// Songs are played into an output for each word of `shut`, which says whether it is behind a door, as a script says.

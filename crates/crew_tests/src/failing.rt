@@ -24,7 +24,7 @@ outputs
     let (mut day, mut wires) = wired_day(rt, alloc, listed(alloc, song, None), room, script)?;
     day.balance(0);
     day.balance(1);
-    add_right(&mut wires, Tone::Saw, Tone::Saw, &mut day.heard);
+    add_right(&mut wires, &[Tone::Saw, Tone::Saw], &mut day.heard);
     day.into_heard()
 }
 

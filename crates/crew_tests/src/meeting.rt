@@ -1,7 +1,7 @@
 //! Two outputs run at once: each one's first asking waits for the other's.
 use crate::rooms::{Blind, Stage, one_day, shared};
 use crate::tunes::{Tone, listed, tune_of};
-use crate::wire::{add_right, two_wires};
+use crate::wire::{add_right, wires_of};
 use crew_steps::Gate;
 use std::alloc::{AllocError, Global};
 use std::sync::atomic::{AtomicU32, Ordering};
@@ -43,7 +43,7 @@ fn told<R: Threads + Wait + Clock + Copy + Send + Sync + 'static>(
     rt: R,
     alloc: Global,
 ) -> Result<String, AllocError> {
-    let (writers, mut wires) = two_wires(alloc, 20_000, 20_000)?;
+    let (writers, mut wires) = wires_of(alloc, &[20_000, 20_000])?;
     let tunes = listed(
         alloc,
         tune_of(alloc, "a.wav", 3_000, 3_000, Tone::Saw)?,
@@ -63,7 +63,7 @@ fn told<R: Threads + Wait + Clock + Copy + Send + Sync + 'static>(
     };
     let script = "add a.wav\nplay\n~ hall 3000\n~ attic 3000";
     let mut told = one_day(rt, alloc, stage, script, &mut wires).told();
-    add_right(&mut wires, Tone::Saw, Tone::Saw, &mut told);
+    add_right(&mut wires, &[Tone::Saw, Tone::Saw], &mut told);
     let has_missed = gate.missed.load(Ordering::SeqCst) != 0;
     told.add(format_args!("missed: {has_missed}\n"));
     told.into_text()

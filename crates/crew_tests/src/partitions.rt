@@ -1,15 +1,15 @@
 //! Partitions play apart, each to its own outputs, and an output that is moved writes nothing more of the
 //! partition that it left.
-use crate::door::{Rooms, behind_a_door};
+use crate::door::behind_a_door;
 use crate::tunes::{Tone, Tune, listed, tune_of};
-use crate::wire::{add_right, right_frames};
+use crate::wire::add_right;
 use crate::wired::told_apart;
 use std::alloc::{AllocError, Global};
 use std::sync::Wait;
 use std::test::Fail;
 use std::thread::Threads;
 use std::time::Clock;
-use wanted::{Told, wants};
+use wanted::wants;
 
 /// Two songs, of which the first has so many frames of the saw, and the second so many of the steps.
 fn saw_and_steps(alloc: Global, saw: i32, steps: i32) -> Result<Vec<Tune>, AllocError> {
@@ -121,24 +121,6 @@ fn four_songs(alloc: Global) -> Result<Vec<Tune>, AllocError> {
     Ok(tunes)
 }
 
-/// Adds how many frames that came to each output beyond the first two, in their order, are those of a formula.
-fn add_right_beyond(rooms: &mut Rooms, told: &mut Told) {
-    for (place, tone) in [
-        Tone::Steps,
-        Tone::StepsThenRamp,
-        Tone::Ramp,
-        Tone::RampThenSaw,
-    ]
-    .into_iter()
-    .enumerate()
-    {
-        match rooms.more.get_mut(place) {
-            Some(wire) => told.add(format_args!("{}\n", right_frames(wire, tone))),
-            None => told.fail(),
-        }
-    }
-}
-
 /// Three partitions get two outputs and a song each, and then each gets an output of another one.
 const MOVES_IN_TURN: &str = "newpartition k
 newpartition m
@@ -189,8 +171,15 @@ fn in_turn<R: Threads + Wait + Clock + Copy + Drop + Send + Sync + 'static>(
         MOVES_IN_TURN,
     )?;
     let mut told = day.told();
-    add_right(&mut rooms.wires, Tone::Saw, Tone::HandThenSteps, &mut told);
-    add_right_beyond(&mut rooms, &mut told);
+    let tones = [
+        Tone::Saw,
+        Tone::HandThenSteps,
+        Tone::Steps,
+        Tone::StepsThenRamp,
+        Tone::Ramp,
+        Tone::RampThenSaw,
+    ];
+    add_right(&mut rooms.wires, &tones, &mut told);
     told.into_text()
 }
 
@@ -241,11 +230,8 @@ decoded 23000, written 23000, discarded 0, left 0, torn 0
 decoded 20000, written 10784, discarded 9216, left 0, torn 0
 decoded 20000, written 20000, discarded 0, left 0, torn 0
 decoded 20000, written 10784, discarded 9216, left 0, torn 0
-right frames in the hall 20000, in the attic 4024
-23000
-10784
-20000
-10784
+right frames in the hall 20000, in the attic 4024, in the bath 23000, \
+in the porch 10784, in the den 20000, in the loft 10784
 ";
 
 #[test]

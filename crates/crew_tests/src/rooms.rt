@@ -130,7 +130,7 @@ impl Day {
 }
 
 /// The names of outputs, a line each.
-const OUTPUTS: &str = "hall\nattic\nbath\nporch\nden\nloft";
+pub(crate) const OUTPUTS: &str = "hall\nattic\nbath\nporch\nden\nloft";
 
 /// So many outputs, all on.
 fn outputs(alloc: Global, count: usize) -> Result<Outputs, AllocError> {

@@ -1,7 +1,7 @@
 //! A scan that is made while a song is played.
 use crate::rooms::{Stage, Watch, one_day, shared};
 use crate::tunes::{Tone, listed, songs, tune_of};
-use crate::wire::{Wires, two_wires};
+use crate::wire::{Wires, wires_of};
 use crate::wired::told_with_lines;
 use crew::Scanner;
 use crew_steps::Open;
@@ -95,7 +95,7 @@ fn told<R: Threads + Wait + Clock + Copy + Drop + Send + Sync + 'static>(
     rt: R,
     alloc: Global,
 ) -> Result<String, AllocError> {
-    let (writers, wires) = two_wires(alloc, 100_000, 100_000)?;
+    let (writers, wires) = wires_of(alloc, &[100_000, 100_000])?;
     let begun = shared(alloc, AtomicU32::new(0))?;
     let may_end = shared(alloc, AtomicU32::new(0))?;
     let mut scans = Scans {
@@ -124,7 +124,7 @@ fn late_told<R: Threads + Wait + Clock + Copy + Drop + Send + Sync + 'static>(
     rt: R,
     alloc: Global,
 ) -> Result<String, AllocError> {
-    let (writers, wires) = two_wires(alloc, 100, 100)?;
+    let (writers, wires) = wires_of(alloc, &[100, 100])?;
     let begun = shared(alloc, AtomicU32::new(0))?;
     let has_ended = shared(alloc, AtomicU32::new(0))?;
     let mut scans = Scans {

@@ -1,5 +1,5 @@
 //! A wire from an output to a test.
-use crate::rooms::Watch;
+use crate::rooms::{OUTPUTS, Watch};
 use crate::tunes::Tone;
 use counted_devices::Counting;
 use rtrb::{Consumer, Producer, RingBuffer};
@@ -41,64 +41,75 @@ pub(crate) fn new_wire(alloc: Global, room: usize) -> Result<(Wire, Consumer<u8>
     Ok((Wire { bytes }, taken))
 }
 
-/// The test's ends of the wires of both outputs. A step `hall N` waits until N frames came to the hall,
-/// `attic N` likewise, and `only N` says whether these and no more came to the attic by a twentieth of a
-/// second later.
+/// The test's ends of the wires, in the order of the outputs. A step `NAME N` waits until N frames came to the output
+/// of this name, and `only N` says whether these and no more came to the attic by a twentieth of a second later.
 #[derive(Drop)]
 pub(crate) struct Wires {
-    pub(crate) hall: Consumer<u8>,
-    pub(crate) attic: Consumer<u8>,
+    ends: Vec<Consumer<u8>>,
+}
+
+impl Wires {
+    /// Waits until so many frames came to the output of this name, ten seconds at most. Whether they came.
+    fn come<R: Clock>(&mut self, rt: &R, name: &str, frames: usize) -> bool {
+        let Some(place) = OUTPUTS.lines().position(|known| known == name) else {
+            return false;
+        };
+        match self.ends.get_mut(place) {
+            Some(wire) => frames_come(rt, wire, frames),
+            None => false,
+        }
+    }
 }
 
 impl<R: Clock> Watch<R> for Wires {
     fn does(&mut self, rt: &R, step: &str) -> bool {
         match step.split_once(' ') {
-            Some(("hall", frames)) => frames_come(rt, &mut self.hall, frames.parse().unwrap_or(0)),
-            Some(("attic", frames)) => frames_come(
-                rt,
-                &mut self.attic,
-                frames.parse().unwrap_or(0),
-            ),
             Some(("only", frames)) => {
                 thread::sleep(rt, Duration::from_millis(50));
-                self.attic.slots() == frames.parse().unwrap_or(0usize).saturating_mul(4)
+                let wanted = frames.parse().unwrap_or(0usize).saturating_mul(4);
+                match self.ends.get_mut(1) {
+                    Some(attic) => attic.slots() == wanted,
+                    None => false,
+                }
             }
-            _ => false,
+            Some((name, frames)) => self.come(rt, name, frames.parse().unwrap_or(0)),
+            None => false,
         }
     }
 }
 
-/// Two wires, with room for so many bytes: the ends of the outputs, and those of the test.
-pub(crate) fn two_wires(
+/// A wire for each output, with room for so many bytes: the ends of the outputs, and those of the test.
+pub(crate) fn wires_of(
     alloc: Global,
-    hall: usize,
-    attic: usize,
+    rooms: &[usize],
 ) -> Result<(Vec<Counting<Wire>>, Wires), AllocError> {
-    let (to_hall, hall) = new_wire(alloc, hall)?;
-    let (to_attic, attic) = new_wire(alloc, attic)?;
     let mut writers = Vec::new(alloc);
-    writers.reserve(2)?;
-    writers.push_reserved(Counting::new(to_hall));
-    writers.push_reserved(Counting::new(to_attic));
-    Ok((writers, Wires { hall, attic }))
+    let mut ends = Vec::new(alloc);
+    for room in rooms {
+        let (writer, end) = new_wire(alloc, *room)?;
+        writers.push(Counting::new(writer))?;
+        ends.push(end)?;
+    }
+    Ok((writers, Wires { ends }))
 }
 
-/// Adds how many frames that came to the hall are those of one formula, from the first on, and how many that came to
-/// the attic are those of another.
-pub(crate) fn add_right(wires: &mut Wires, to_hall: Tone, to_attic: Tone, told: &mut Told) {
-    let hall = right_frames(&mut wires.hall, to_hall);
-    let attic = right_frames(&mut wires.attic, to_attic);
-    told.add(format_args!("right frames in the hall {hall}, in the attic {attic}\n"));
-}
-
-/// The same of the hall alone.
-pub(crate) fn add_right_to_the_hall(wires: &mut Wires, tone: Tone, told: &mut Told) {
-    let hall = right_frames(&mut wires.hall, tone);
-    told.add(format_args!("right frames in the hall {hall}\n"));
+/// Adds how many frames that came to each of the first outputs are those of a formula, from the first on.
+pub(crate) fn add_right(wires: &mut Wires, tones: &[Tone], told: &mut Told) {
+    told.add("right frames");
+    let mut is_first = true;
+    for ((wire, tone), name) in wires.ends.iter_mut().zip(tones).zip(OUTPUTS.lines()) {
+        let right = right_frames(wire, *tone);
+        if !is_first {
+            told.add(",");
+        }
+        told.add(format_args!(" in the {name} {right}"));
+        is_first = false;
+    }
+    told.add("\n");
 }
 
 /// Waits until so many frames came over a wire, ten seconds at most. Whether they came.
-pub(crate) fn frames_come<R: Clock>(rt: &R, wire: &mut Consumer<u8>, frames: usize) -> bool {
+fn frames_come<R: Clock>(rt: &R, wire: &mut Consumer<u8>, frames: usize) -> bool {
     let wanted = frames.saturating_mul(4);
     for _ in 0..10_000u32 {
         if wire.slots() >= wanted {
@@ -117,7 +128,7 @@ fn is_next(wire: &mut Consumer<u8>, sample: i32) -> bool {
 }
 
 /// How many frames that came over a wire are those of a formula, from the first on.
-pub(crate) fn right_frames(wire: &mut Consumer<u8>, tone: Tone) -> u32 {
+fn right_frames(wire: &mut Consumer<u8>, tone: Tone) -> u32 {
     let mut right = 0;
     for i in 0..100_000i32 {
         let (left, other) = tone.frame(i);

@@ -1,7 +1,7 @@
 //! Days of songs that are played into two wires.
 use crate::rooms::{Blind, Day, Stage, one_day, shared};
 use crate::tunes::{Tone, Tune};
-use crate::wire::{Wires, add_right, two_wires};
+use crate::wire::{Wires, add_right, wires_of};
 use crew_steps::Open;
 use std::alloc::{AllocError, Global};
 use std::sync::Wait;
@@ -17,7 +17,7 @@ pub(crate) fn wired_day<R: Threads + Wait + Clock + Copy + Send + Sync + 'static
     script: &str,
 ) -> Result<(Day, Wires), AllocError> {
     let tunes = tunes?;
-    let (writers, mut wires) = two_wires(alloc, room, 100_000)?;
+    let (writers, mut wires) = wires_of(alloc, &[room, 100_000])?;
     let stage = Stage {
         tunes,
         writers,
@@ -45,6 +45,6 @@ pub(crate) fn told_apart(
     to_attic: Tone,
 ) -> Result<String, AllocError> {
     let mut told = day.told();
-    add_right(wires, to_hall, to_attic, &mut told);
+    add_right(wires, &[to_hall, to_attic], &mut told);
     told.into_text()
 }
