@@ -13,7 +13,8 @@ use Rattle.play_order.specs.declared.modes.Consume.TheVariants as consume_mode
 use Rattle.player_core.specs.declared.state.Playback.{Playback}
 use Rattle.player_core.specs.declared.state.Playback.TheVariants.{Stop, Play, Pause}
 use Rattle.idle_clients.specs.declared.fingerprint.Options.{Options}
-use Rattle.idle_clients.specs.Clients.{Playing, consume_number, id_number, playback_number, same_enabled, same_error, same_names, same_options, same_pair, same_pairs, same_playing, single_number}
+use Rattle.idle_clients.specs.declared.fingerprint.OutputFlags.{OutputFlags}
+use Rattle.idle_clients.specs.Clients.{Playing, consume_number, id_number, playback_number, same_error, same_flags, same_names, same_options, same_outputs, same_pair, same_pairs, same_playing, single_number}
 
 beq-one : (a b : Bool) → beq a b ≡ true → a ≡ b
 beq-one true true e = refl
@@ -126,13 +127,21 @@ pub same_names-refl : (a : List (List ℕ)) → same_names a a ≡ true
 unfolding same_names
 same_names-refl a = pointwise-refl bytes_eq (λ x. (bytes_eq-Decides x x).1 refl) a
 
-pub same_enabled-true : (a b : List Bool) → same_enabled a b ≡ true → a ≡ b
-unfolding same_enabled
-same_enabled-true a b e = pointwise-true beq beq-one a b e
+same_flags-true : (a b : List Bool) → same_flags a b ≡ true → a ≡ b
+unfolding same_flags
+same_flags-true a b e = pointwise-true beq beq-one a b e
 
-pub same_enabled-refl : (a : List Bool) → same_enabled a a ≡ true
-unfolding same_enabled
-same_enabled-refl a = pointwise-refl beq beq-own a
+same_flags-refl : (a : List Bool) → same_flags a a ≡ true
+unfolding same_flags
+same_flags-refl a = pointwise-refl beq beq-own a
+
+pub same_outputs-true : (a b : OutputFlags) → same_outputs a b ≡ true → a ≡ b
+same_outputs-true a b e =
+    let p = and_parts _ _ e in
+    λ i. record { here = same_flags-true a.here b.here p.0 i; enabled = same_flags-true a.enabled b.enabled p.1 i }
+
+pub same_outputs-refl : (a : OutputFlags) → same_outputs a a ≡ true
+same_outputs-refl a = and_from _ _ (same_flags-refl a.here) (same_flags-refl a.enabled)
 
 same_pair-true : (p q : ℕ × List ℕ) → same_pair p q ≡ true → p ≡ q
 same_pair-true p q e =

@@ -9,10 +9,10 @@ use Rattle.idle_notes.specs.Sets.{all, is_nonempty, none}
 use Rattle.parts.specs.Parts.{part_at}
 use Rattle.player_state.specs.declared.state.Client.{Client}
 use Rattle.player_state.specs.declared.state.Part.{Part}
-use Rattle.idle_clients.specs.declared.fingerprint.EnabledAt.{EnabledAt}
+use Rattle.idle_clients.specs.declared.fingerprint.OutputsAt.{OutputsAt}
 use Rattle.idle_clients.specs.Clients.{has_messages, is_this, newcomer}
 use Rattle.idle_clients.specs.Settled.{nothing}
-use Rattle.idle_clients.specs.Fingerprint.{PartReadings, RaisedData, begins_beyond, begins_between, begins_in, enabled_at, has_beyond, has_messages_in, is_among, is_quiet, messages_begin, raised_in, switches, switches_elsewhere, switches_from}
+use Rattle.idle_clients.specs.Fingerprint.{PartReadings, RaisedData, begins_beyond, begins_between, begins_in, outputs_at, has_beyond, has_messages_in, is_among, is_quiet, messages_begin, outputs_differ, outputs_differ_elsewhere, outputs_differ_from, raised_in}
 use Rattle.idle_clients.proofs.Listeners.{among_waiting}
 use Rattle.idle_clients.proofs.Empty.{is_none}
 
@@ -65,35 +65,35 @@ unheard number None part e = refl
 unheard number (Some before) part e = unheard_in number before.having part e
 
 -- where no output went or came in a partition of a number other than this, none did in the first one of another
-module _ (place own : ℕ) (apart : (place == own) ≡ false) (before : List EnabledAt) (parts : List Part) where
-  stands : (es : List EnabledAt) → list_any (λ (e : EnabledAt). not (e.place == own) && switches e.place before parts) es ≡ false
-      → (enabled_at place es ≡ None) ⊎ (switches place before parts ≡ false)
+module _ (place own : ℕ) (apart : (place == own) ≡ false) (before : List OutputsAt) (parts : List Part) where
+  stands : (es : List OutputsAt) → list_any (λ (e : OutputsAt). not (e.place == own) && outputs_differ e.place before parts) es ≡ false
+      → (outputs_at place es ≡ None) ⊎ (outputs_differ place before parts ≡ false)
   stands [] h = inl refl
   stands (e ∷ es) h =
-      let first = first_false (not (e.place == own) && switches e.place before parts) (list_any (λ (x : EnabledAt). not (x.place == own) && switches x.place before parts) es) h in
-      let rest = second_false (not (e.place == own) && switches e.place before parts) (list_any (λ (x : EnabledAt). not (x.place == own) && switches x.place before parts) es) h in
-      let cases : (b : Bool) → (e.place == place) ≡ b → ((if b then Some e.enabled else enabled_at place es) ≡ None) ⊎ (switches place before parts ≡ false) =
-      λ b. elim b as (λ b. (e.place == place) ≡ b → ((if b then Some e.enabled else enabled_at place es) ≡ None) ⊎ (switches place before parts ≡ false)) [
+      let first = first_false (not (e.place == own) && outputs_differ e.place before parts) (list_any (λ (x : OutputsAt). not (x.place == own) && outputs_differ x.place before parts) es) h in
+      let rest = second_false (not (e.place == own) && outputs_differ e.place before parts) (list_any (λ (x : OutputsAt). not (x.place == own) && outputs_differ x.place before parts) es) h in
+      let cases : (b : Bool) → (e.place == place) ≡ b → ((if b then Some e.flags else outputs_at place es) ≡ None) ⊎ (outputs_differ place before parts ≡ false) =
+      λ b. elim b as (λ b. (e.place == place) ≡ b → ((if b then Some e.flags else outputs_at place es) ≡ None) ⊎ (outputs_differ place before parts ≡ false)) [
         | true ↦ λ t.
             let is : e.place ≡ place = eqb-true e.place place t in
-            let same : (not (place == own) && switches place before parts) ≡ false = ap (λ n. not (n == own) && switches n before parts) (sym is) ∙ first in
-            inr (sym (ap (λ c. not c && switches place before parts) apart) ∙ same)
+            let same : (not (place == own) && outputs_differ place before parts) ≡ false = ap (λ n. not (n == own) && outputs_differ n before parts) (sym is) ∙ first in
+            inr (sym (ap (λ c. not c && outputs_differ place before parts) apart) ∙ same)
         | false ↦ λ t. stands es rest
       ] in
       cases (e.place == place) refl
 
-  none_switches : list_any (λ (e : EnabledAt). not (e.place == own) && switches e.place before parts) before ≡ false → switches place before parts ≡ false
-  none_switches h = elim (stands before h) [ inl e ↦ ap (λ o. switches_from o (part_at place parts)) e | inr e ↦ e ]
+  none_differ : list_any (λ (e : OutputsAt). not (e.place == own) && outputs_differ e.place before parts) before ≡ false → outputs_differ place before parts ≡ false
+  none_differ h = elim (stands before h) [ inl e ↦ ap (λ o. outputs_differ_from o (part_at place parts)) e | inr e ↦ e ]
 
 no_one : (goer : Option ℕ) (number : ℕ) → is_some goer ≡ false → is_this goer number ≡ false
 no_one None number e = refl
 no_one (Some this) number e = cc
 
 module _ (r : RaisedData) (quiet : is_quiet r ≡ true) where
-  goes : (not (is_some r.goer) ≡ true) × ((((not (is_nonempty (record r.own { message = false })) && not (messages_begin r)) && not (is_nonempty (record r.common { output = false }))) && not (switches_elsewhere r)) ≡ true)
+  goes : (not (is_some r.goer) ≡ true) × ((((not (is_nonempty (record r.own { message = false })) && not (messages_begin r)) && not (is_nonempty (record r.common { output = false }))) && not (outputs_differ_elsewhere r)) ≡ true)
   goes = both _ _ quiet
 
-  still : (((not (is_nonempty (record r.own { message = false })) && not (messages_begin r)) && not (is_nonempty (record r.common { output = false }))) ≡ true) × (not (switches_elsewhere r) ≡ true)
+  still : (((not (is_nonempty (record r.own { message = false })) && not (messages_begin r)) && not (is_nonempty (record r.common { output = false }))) ≡ true) × (not (outputs_differ_elsewhere r) ≡ true)
   still = both _ _ goes.1
 
   inner : ((not (is_nonempty (record r.own { message = false })) && not (messages_begin r)) ≡ true) × (not (is_nonempty (record r.common { output = false })) ≡ true)
@@ -107,15 +107,15 @@ module _ (r : RaisedData) (quiet : is_quiet r ≡ true) where
       ap (λ (b : Bool). record r.own { message = b }) (unheard number r.before.own (part_at r.before.place r.parts) (is_not _ own_is.1))
       ∙ is_none (record r.own { message = false }) (is_not _ own_is.0)
 
-  elsewhere : (place : ℕ) → (place == r.before.place) ≡ false → record r.common { output = switches place r.before.enabled r.parts } ≡ none
+  elsewhere : (place : ℕ) → (place == r.before.place) ≡ false → record r.common { output = outputs_differ place r.before.outputs r.parts } ≡ none
   elsewhere place apart =
-      ap (λ (b : Bool). record r.common { output = b }) (none_switches place r.before.place apart r.before.enabled r.parts (is_not _ still.1))
+      ap (λ (b : Bool). record r.common { output = b }) (none_differ place r.before.place apart r.before.outputs r.parts (is_not _ still.1))
       ∙ is_none (record r.common { output = false }) (is_not _ inner.1)
 
   one : (client : Client) → raised_in r client ≡ none
   one client =
       let there : Bool → Subsystems = λ b.
-      if b then record r.own { message = begins_in r client.number } else record r.common { output = switches client.place r.before.enabled r.parts } in
+      if b then record r.own { message = begins_in r client.number } else record r.common { output = outputs_differ client.place r.before.outputs r.parts } in
       let cases : (b : Bool) → (client.place == r.before.place) ≡ b → there b ≡ none =
       λ b. elim b as (λ b. (client.place == r.before.place) ≡ b → there b ≡ none) [ true ↦ λ e. here client.number | false ↦ λ e. elsewhere client.place e ] in
       ap (λ b. if b then all else there (client.place == r.before.place)) (no_one r.goer client.number (is_not _ goes.0)) ∙ cases (client.place == r.before.place) refl
@@ -179,7 +179,7 @@ module _ (r : RaisedData) (none_raised : raised_in r ≡ nothing) where
   abbrev there : Client → Subsystems
   there client =
       if client.place == r.before.place then record r.own { message = begins_in r client.number }
-      else record r.common { output = switches client.place r.before.enabled r.parts }
+      else record r.common { output = outputs_differ client.place r.before.outputs r.parts }
 
   told : (client : Client) → raised_in r client ≡ none
   told client = ap (λ (f : Client → Subsystems). f client) none_raised
@@ -198,12 +198,12 @@ module _ (r : RaisedData) (none_raised : raised_in r ≡ nothing) where
 
   own_at : (number : ℕ) → record r.own { message = begins_in r number } ≡ none
   own_at number =
-      sym (ap (λ b. if b then record r.own { message = begins_in r number } else record r.common { output = switches r.before.place r.before.enabled r.parts }) (eq-eqb r.before.place r.before.place refl))
+      sym (ap (λ b. if b then record r.own { message = begins_in r number } else record r.common { output = outputs_differ r.before.place r.before.outputs r.parts }) (eq-eqb r.before.place r.before.place refl))
       ∙ within (record (newcomer number) { place = r.before.place })
 
-  common_at : (place : ℕ) → (place == r.before.place) ≡ false → record r.common { output = switches place r.before.enabled r.parts } ≡ none
+  common_at : (place : ℕ) → (place == r.before.place) ≡ false → record r.common { output = outputs_differ place r.before.outputs r.parts } ≡ none
   common_at place apart =
-      sym (ap (λ b. if b then record r.own { message = begins_in r 0 } else record r.common { output = switches place r.before.enabled r.parts }) apart)
+      sym (ap (λ b. if b then record r.own { message = begins_in r 0 } else record r.common { output = outputs_differ place r.before.outputs r.parts }) apart)
       ∙ within (record (newcomer 0) { place = place })
 
   none_own : is_nonempty (record r.own { message = false }) ≡ false
@@ -215,10 +215,10 @@ module _ (r : RaisedData) (none_raised : raised_in r ≡ nothing) where
   none_common : is_nonempty (record r.common { output = false }) ≡ false
   none_common = ap (λ (s : Subsystems). is_nonempty (record s { output = false })) (common_at (suc r.before.place) (next_apart r.before.place))
 
-  one_switches : (e : EnabledAt) → (not (e.place == r.before.place) && switches e.place r.before.enabled r.parts) ≡ false
-  one_switches e =
-      let cases : (b : Bool) → (e.place == r.before.place) ≡ b → (not b && switches e.place r.before.enabled r.parts) ≡ false =
-      λ b. elim b as (λ b. (e.place == r.before.place) ≡ b → (not b && switches e.place r.before.enabled r.parts) ≡ false)
+  one_alike : (e : OutputsAt) → (not (e.place == r.before.place) && outputs_differ e.place r.before.outputs r.parts) ≡ false
+  one_alike e =
+      let cases : (b : Bool) → (e.place == r.before.place) ≡ b → (not b && outputs_differ e.place r.before.outputs r.parts) ≡ false =
+      λ b. elim b as (λ b. (e.place == r.before.place) ≡ b → (not b && outputs_differ e.place r.before.outputs r.parts) ≡ false)
       [ true ↦ λ t. refl | false ↦ λ t. ap (λ (s : Subsystems). s.output) (common_at e.place t) ] in
       cases (e.place == r.before.place) refl
 
@@ -229,7 +229,7 @@ module _ (r : RaisedData) (none_raised : raised_in r ≡ nothing) where
         none_own,
         none_messages,
         none_common,
-        none_of (λ (e : EnabledAt). not (e.place == r.before.place) && switches e.place r.before.enabled r.parts) r.before.enabled one_switches,
+        none_of (λ (e : OutputsAt). not (e.place == r.before.place) && outputs_differ e.place r.before.outputs r.parts) r.before.outputs one_alike,
       )
       refl
 

@@ -31,6 +31,7 @@ use Rattle.player_state.specs.declared.state.Library.{Library}
 use Rattle.player_state.specs.declared.state.Part.{Part}
 use Rattle.transitions.specs.Answers.{ResponseData, closes}
 use Rattle.idle_clients.specs.declared.fingerprint.Options.{Options}
+use Rattle.idle_clients.specs.declared.fingerprint.OutputFlags.{OutputFlags}
 use Rattle.player_state.specs.Libraries.{same_songs}
 use Rattle.player_state.specs.Outputs.{OutputsData}
 use Rattle.transitions.specs.Shelves.{changes_lists, changes_stickers}
@@ -137,9 +138,16 @@ same_options p q =
     && (nat_eq (single_number p.modes.single) (single_number q.modes.single)
     && (nat_eq (consume_number p.modes.consume) (consume_number q.modes.consume) && nat_eq p.crossfade q.crossfade)))
 
--- whether the same outputs are enabled
-unfoldable pub same_enabled : List Bool → List Bool → Bool
-same_enabled = pointwise beq
+-- whether flags are the same
+unfoldable pub same_flags : List Bool → List Bool → Bool
+same_flags = pointwise beq
+
+-- the part that `output` speaks of: which outputs are in the partition, and which of these are enabled
+abbrev pub output_flags : OutputsData → OutputFlags
+output_flags outputs = record { here = outputs.here; enabled = outputs.enabled }
+
+abbrev pub same_outputs : OutputFlags → OutputFlags → Bool
+same_outputs p q = same_flags p.here q.here && same_flags p.enabled q.enabled
 
 abbrev pub same_pair : ℕ × List ℕ → ℕ × List ℕ → Bool
 same_pair p q = nat_eq p.0 q.0 && bytes_eq p.1 q.1
@@ -174,14 +182,14 @@ raised_for_all written before after = record none {
 }
 
 -- and those whose parts differ in the partition where a client is: the queue, what is played, the volume, which
--- outputs are enabled, the modes and the seconds of a fade, who listens to which channel. A client hears of
--- messages where it had none waiting and has some
+-- outputs are there and which of these are enabled, the modes and the seconds of a fade, who listens to which
+-- channel. A client hears of messages where it had none waiting and has some
 abbrev pub raised_within : ℕ → Watched → Watched → Subsystems → Subsystems
 raised_within number before after common = record common {
   playlist = not (same_queue before.queue after.queue);
   player = not (same_playing (playing before.player) (playing after.player));
   mixer = not (nat_eq before.volume after.volume);
-  output = not (same_enabled before.outputs.enabled after.outputs.enabled);
+  output = not (same_outputs (output_flags before.outputs) (output_flags after.outputs));
   options = not (same_options (options before.player) (options after.player));
   subscription = not (same_pairs (pairs before.channels) (pairs after.channels));
   message = begins_to_have number before.channels after.channels;

@@ -11,32 +11,33 @@ use Rattle.player_state.specs.declared.effect.Effect.TheVariants.{ByCommand}
 use Rattle.player_state.specs.declared.effect.CommandEffect.TheVariants.{Subscribes, Unsubscribes, Leaves}
 use Rattle.player_state.specs.declared.state.Library.{Library}
 use Rattle.player_state.specs.declared.state.Part.{Part}
-use Rattle.idle_clients.specs.declared.fingerprint.EnabledAt.{EnabledAt}
+use Rattle.idle_clients.specs.declared.fingerprint.OutputFlags.{OutputFlags}
+use Rattle.idle_clients.specs.declared.fingerprint.OutputsAt.{OutputsAt}
 use Rattle.idle_clients.specs.declared.fingerprint.Options.{Options}
 use Rattle.parts.specs.Parts.{part_at}
 use Rattle.parts.specs.declared.crossing.Crossing.{Crossing}
 use Rattle.parts.specs.declared.crossing.Crossing.TheVariants.{Brings}
 use Rattle.transitions.specs.declared.shelf_calls.ShelfWrite.{ShelfWrite}
 use Rattle.transitions.specs.Shelves.{changes_lists, changes_stickers}
-use Rattle.idle_clients.specs.Clients.{Playing, has_messages, is_this, options, playing, same_enabled, same_options, same_playing}
+use Rattle.idle_clients.specs.Clients.{Playing, has_messages, is_this, options, output_flags, playing, same_options, same_outputs, same_playing}
 
--- readings of one partition: the parity of the queue's changes, what is played, the volume, the outputs that are
--- enabled, the modes, and the clients for which messages wait
+-- readings of one partition: the parity of the queue's changes, what is played, the volume, which outputs are there
+-- and enabled, the modes, and the clients for which messages wait
 pub record PartReadings : Type 0 where
   pub parity : Bool
   pub playing : Playing
   pub volume : ℕ
-  pub enabled : List Bool
+  pub outputs : OutputFlags
   pub options : Options
   pub having : List ℕ
 
 -- these together are the readings
-abbrev pub readings_from : Bool → Playing → ℕ → List Bool → Options → List ℕ → PartReadings
-readings_from parity playing volume enabled options having = record {
+abbrev pub readings_from : Bool → Playing → ℕ → OutputFlags → Options → List ℕ → PartReadings
+readings_from parity playing volume outputs options having = record {
   parity = parity;
   playing = playing;
   volume = volume;
-  enabled = enabled;
+  outputs = outputs;
   options = options;
   having = having;
 }
@@ -46,34 +47,34 @@ readings part = record {
   parity = part.queue.parity;
   playing = playing part.player;
   volume = part.volume;
-  enabled = part.outputs.enabled;
+  outputs = output_flags part.outputs;
   options = options part.player;
   having = clients_with_messages part.channels;
 }
 
 -- readings before an event: whether a scan runs, how many partitions there are, the readings of the partition of
--- the event, if it is there, and of all partitions which outputs are enabled, where an output goes from one to
--- another
+-- the event, if it is there, and of all partitions which outputs are there and enabled, where an output goes from
+-- one to another
 pub record FingerprintData : Type 0 where
   pub scans : Bool
   pub count : ℕ
   pub place : ℕ
   pub own : Option PartReadings
-  pub enabled : List EnabledAt
+  pub outputs : List OutputsAt
 
-abbrev pub fingerprint_from : Bool → ℕ → ℕ → Option PartReadings → List EnabledAt → FingerprintData
-fingerprint_from scans count place own enabled = record { scans = scans; count = count; place = place; own = own; enabled = enabled }
+abbrev pub fingerprint_from : Bool → ℕ → ℕ → Option PartReadings → List OutputsAt → FingerprintData
+fingerprint_from scans count place own outputs = record { scans = scans; count = count; place = place; own = own; outputs = outputs }
 
-abbrev pub enabled_in : Part → EnabledAt
-enabled_in part = record { place = part.place; enabled = part.outputs.enabled }
+abbrev pub outputs_in : Part → OutputsAt
+outputs_in part = record { place = part.place; flags = output_flags part.outputs }
 
 -- whether an output goes from one partition to another
 abbrev pub is_bringing : Crossing → Bool
 is_bringing (Brings output to) = true
 is_bringing _ = false
 
-abbrev pub enabled_before : Crossing → List Part → List EnabledAt
-enabled_before crossing parts = if is_bringing crossing then map enabled_in parts else []
+abbrev pub outputs_before : Crossing → List Part → List OutputsAt
+outputs_before crossing parts = if is_bringing crossing then map outputs_in parts else []
 
 abbrev pub fingerprint : Crossing → ℕ → List Part → Library → FingerprintData
 fingerprint crossing place parts library = record {
@@ -81,7 +82,7 @@ fingerprint crossing place parts library = record {
   count = length parts;
   place = place;
   own = option_map readings (part_at place parts);
-  enabled = enabled_before crossing parts;
+  outputs = outputs_before crossing parts;
 }
 
 -- whether an event makes other clients listen, or to other channels
@@ -123,19 +124,19 @@ abbrev pub has_beyond : List ℕ → Option Part → Bool
 has_beyond having None = false
 has_beyond having (Some part) = has_messages_beyond having part.channels
 
--- which outputs were enabled in the first partition of a number
-abbrev pub enabled_at : ℕ → List EnabledAt → Option (List Bool)
-enabled_at place [] = None
-enabled_at place (e ∷ es) = if e.place == place then Some e.enabled else enabled_at place es
+-- which outputs were there and enabled in the first partition of a number
+abbrev pub outputs_at : ℕ → List OutputsAt → Option OutputFlags
+outputs_at place [] = None
+outputs_at place (o ∷ os) = if o.place == place then Some o.flags else outputs_at place os
 
-abbrev pub switches_from : Option (List Bool) → Option Part → Bool
-switches_from None part = false
-switches_from (Some before) None = false
-switches_from (Some before) (Some part) = not (same_enabled before part.outputs.enabled)
+abbrev pub outputs_differ_from : Option OutputFlags → Option Part → Bool
+outputs_differ_from None part = false
+outputs_differ_from (Some before) None = false
+outputs_differ_from (Some before) (Some part) = not (same_outputs before (output_flags part.outputs))
 
--- whether other outputs are enabled in a partition now
-abbrev pub switches : ℕ → List EnabledAt → List Part → Bool
-switches place before parts = switches_from (enabled_at place before) (part_at place parts)
+-- whether other outputs are in a partition now, or others are enabled in it
+abbrev pub outputs_differ : ℕ → List OutputsAt → List Part → Bool
+outputs_differ place before parts = outputs_differ_from (outputs_at place before) (part_at place parts)
 
 -- whether the first message waits for a client in the event's partition
 abbrev pub begins_between : ℕ → Option PartReadings → Option Part → Bool
@@ -150,7 +151,7 @@ abbrev pub raised_in : RaisedData → Client → Subsystems
 raised_in r client =
     if is_this r.goer client.number then all
     else (if client.place == r.before.place then record r.own { message = begins_in r client.number }
-    else record r.common { output = switches client.place r.before.enabled r.parts })
+    else record r.common { output = outputs_differ client.place r.before.outputs r.parts })
 
 -- whether messages wait in the event's partition for clients for which none waited
 abbrev pub begins_beyond : Option PartReadings → Option Part → Bool
@@ -161,16 +162,16 @@ abbrev pub messages_begin : RaisedData → Bool
 messages_begin r = begins_beyond r.before.own (part_at r.before.place r.parts)
 
 -- in a partition other than the event's, outputs went or came
-abbrev pub switches_elsewhere : RaisedData → Bool
-switches_elsewhere r =
-    list_any (λ (e : EnabledAt). not (e.place == r.before.place) && switches e.place r.before.enabled r.parts) r.before.enabled
+abbrev pub outputs_differ_elsewhere : RaisedData → Bool
+outputs_differ_elsewhere r =
+    list_any (λ (o : OutputsAt). not (o.place == r.before.place) && outputs_differ o.place r.before.outputs r.parts) r.before.outputs
 
 -- nothing was raised for any client, by what is known of all of them together
 abbrev pub is_quiet : RaisedData → Bool
 is_quiet r =
     not (is_some r.goer)
     && (((not (is_nonempty (record r.own { message = false })) && not (messages_begin r)) && not (is_nonempty (record r.common { output = false })))
-    && not (switches_elsewhere r))
+    && not (outputs_differ_elsewhere r))
 
 -- the subsystems that are the same for all clients whose readings differ; whether the songs do, and what was
 -- written to the shelf, is known apart
@@ -189,7 +190,7 @@ own_by_readings subscription (Some before) (Some part) common = record common {
   playlist = differ before.parity part.queue.parity;
   player = not (same_playing before.playing (playing part.player));
   mixer = not (nat_eq before.volume part.volume);
-  output = not (same_enabled before.enabled part.outputs.enabled);
+  output = not (same_outputs before.outputs (output_flags part.outputs));
   options = not (same_options before.options (options part.player));
   subscription = subscription;
 }

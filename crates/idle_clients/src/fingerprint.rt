@@ -1,29 +1,29 @@
 //! What tells, before an event and after it, what it changed.
 ghost use Rattle.std.specs.Prelude.{◌≡◌, ◌↔◌, ◌&&◌, not, map, IfOk, IsTrue};
 ghost use Rattle.std.specs.Option.{option_copied};
-ghost use Rattle.idle_clients.specs.Clients.{bytes_of, consume_number as consume_number_lem, id_number as id_number_lem, is_this as is_this_lem, options as options_lem, playback_number as playback_number_lem, playing as playing_lem, same_enabled as same_enabled_lem, same_error as same_error_lem, same_playing as same_playing_lem, same_options as same_options_lem, single_number as single_number_lem};
+ghost use Rattle.idle_clients.specs.Clients.{bytes_of, consume_number as consume_number_lem, id_number as id_number_lem, is_this as is_this_lem, options as options_lem, output_flags as output_flags_lem, playback_number as playback_number_lem, playing as playing_lem, same_flags as same_flags_lem, same_error as same_error_lem, same_playing as same_playing_lem, same_options as same_options_lem, same_outputs as same_outputs_lem, single_number as single_number_lem};
 ghost use Rattle.idle_clients.specs.Settled.{nothing};
-ghost use Rattle.idle_clients.specs.Fingerprint.{changes_subscriptions as changes_subscriptions_lem, common_by_fingerprint, begins_in, enabled_at as enabled_at_lem, enabled_before as enabled_before_lem, enabled_in as enabled_in_lem, fingerprint, has_beyond as has_beyond_lem, has_messages_in, is_among as is_among_lem, is_bringing as is_bringing_lem, is_quiet as is_quiet_lem, messages_begin as messages_begin_lem, own_by_readings, raised_by_fingerprint, raised_in, readings, switches as switches_lem, switches_elsewhere as switches_elsewhere_lem};
+ghost use Rattle.idle_clients.specs.Fingerprint.{changes_subscriptions as changes_subscriptions_lem, common_by_fingerprint, begins_in, fingerprint, has_beyond as has_beyond_lem, has_messages_in, is_among as is_among_lem, is_bringing as is_bringing_lem, is_quiet as is_quiet_lem, messages_begin as messages_begin_lem, outputs_at as outputs_at_lem, outputs_before as outputs_before_lem, outputs_differ as outputs_differ_lem, outputs_differ_elsewhere as outputs_differ_elsewhere_lem, outputs_in as outputs_in_lem, own_by_readings, raised_by_fingerprint, raised_in, readings};
 ghost use Rattle.parts.specs.Parts.{part_at};
 
 use idle_notes::{Channels, Subsystems};
 use parts::{Crossing, Parts};
 use play_order::{Consume, Modes, Single};
 use player_core::{Playback, Player};
-use player_state::{Client, CommandEffect, Effect, Library, Part};
+use player_state::{Client, CommandEffect, Effect, Library, Outputs, Part};
 use std::alloc::{AllocError, Global};
 use std::marker::Model;
 use transitions::ShelfWrite;
 
 /// Readings before an event, by which it is told afterwards what the event changed: of what is common to all
-/// partitions, of the partition of the event, if it is there, and of all partitions which outputs are enabled,
-/// where an output goes from one to another.
+/// partitions, of the partition of the event, if it is there, and of all partitions which outputs are there and
+/// enabled, where an output goes from one to another.
 pub struct Fingerprint {
     scans: bool,
     count: usize,
     place: u8,
     own: Option<Readings>,
-    enabled: Vec<EnabledAt>,
+    outputs: Vec<OutputsAt>,
 }
 
 // Written out, so that a proof goes through one call where it lets one go (docs/DECISIONS.md).
@@ -34,7 +34,7 @@ impl Drop for Fingerprint {
             count: _,
             place: _,
             own: _,
-            enabled: _,
+            outputs: _,
         } = self;
     }
 }
@@ -44,7 +44,7 @@ impl Model for Fingerprint {
 
     ghost Value = { FingerprintData };
 
-    ghost view = { λ s. fingerprint_from s.scans s.count s.place s.own s.enabled.items };
+    ghost view = { λ s. fingerprint_from s.scans s.count s.place s.own s.outputs.items };
 }
 
 /// Readings of one partition.
@@ -52,7 +52,7 @@ struct Readings {
     parity: bool,
     playing: PlayingFingerprint,
     volume: u8,
-    enabled: [bool; 8],
+    outputs: OutputFlags,
     options: Options,
     /// The clients for which messages wait.
     having: Vec<u32>,
@@ -65,7 +65,7 @@ impl Drop for Readings {
             parity: _,
             playing: _,
             volume: _,
-            enabled: _,
+            outputs: _,
             options: _,
             having: _,
         } = self;
@@ -77,14 +77,21 @@ impl Model for Readings {
 
     ghost Value = { PartReadings };
 
-    ghost view = { λ s. readings_from s.parity s.playing s.volume s.enabled s.options s.having.items };
+    ghost view = { λ s. readings_from s.parity s.playing s.volume s.outputs s.options s.having.items };
 }
 
-/// Which outputs are enabled in the partition of a number.
+/// Which of eight outputs are in a partition, and which of these are enabled.
 #[derive(Clone, Copy, PartialEq, Eq)]
-pub struct EnabledAt {
-    pub place: u8,
+pub struct OutputFlags {
+    pub here: [bool; 8],
     pub enabled: [bool; 8],
+}
+
+/// Which outputs are there and enabled in the partition of a number.
+#[derive(Clone, Copy, PartialEq, Eq)]
+pub struct OutputsAt {
+    pub place: u8,
+    pub flags: OutputFlags,
 }
 
 /// What tells whether what is played changed.
@@ -132,7 +139,7 @@ impl Fingerprint {
             count: parts.len(),
             place,
             own,
-            enabled: enabled_before(alloc, crossing, parts)?,
+            outputs: outputs_before(alloc, crossing, parts)?,
         })
     }
 
@@ -192,7 +199,7 @@ impl Readings {
             parity: part.queue.parity(),
             playing: PlayingFingerprint::of(alloc, &part.player)?,
             volume: part.volume.percent(),
-            enabled: part.outputs.enabled(),
+            outputs: output_flags(&part.outputs),
             options: options_of(&part.player),
             having: part.channels.clients_with_messages(alloc)?,
         })
@@ -213,7 +220,7 @@ fn own_changes(
             playlist: before.parity != part.queue.parity(),
             player: !before.playing.are_of(&part.player),
             mixer: before.volume != part.volume.percent(),
-            output: !same_enabled(&before.enabled, &part.outputs.enabled()),
+            output: !same_outputs(before.outputs, output_flags(&part.outputs)),
             options: !same_options(before.options, options_of(&part.player)),
             subscription,
             ..common
@@ -222,16 +229,16 @@ fn own_changes(
     }
 }
 
-/// Of all partitions which outputs are enabled, where an output goes from one to another.
-fn enabled_before(
+/// Of all partitions which outputs are there and enabled, where an output goes from one to another.
+fn outputs_before(
     alloc: Global,
     crossing: &Crossing,
     parts: &Parts,
-) -> Result<Vec<EnabledAt>, AllocError>
-    ensures { IfOk result (λ list. list.items ≡ enabled_before_lem crossing.now parts.now) }
+) -> Result<Vec<OutputsAt>, AllocError>
+    ensures { IfOk result (λ list. list.items ≡ outputs_before_lem crossing.now parts.now) }
 {
     if is_bringing(crossing) {
-        return list_enabled(alloc, parts.items());
+        return list_outputs(alloc, parts.items());
     }
     Ok(Vec::new(alloc))
 }
@@ -242,22 +249,31 @@ fn is_bringing(crossing: &Crossing) -> bool
     matches!(crossing, Crossing::Brings(_, _))
 }
 
-fn list_enabled(alloc: Global, parts: &[Part]) -> Result<Vec<EnabledAt>, AllocError>
-    ensures { IfOk result (λ list. list.items ≡ map enabled_in_lem parts.now) }
+fn list_outputs(alloc: Global, parts: &[Part]) -> Result<Vec<OutputsAt>, AllocError>
+    ensures { IfOk result (λ list. list.items ≡ map outputs_in_lem parts.now) }
 {
     let mut list = Vec::with_capacity(alloc, parts.len())?;
     for part in parts {
-        list.push(enabled_in(part))?;
+        list.push(outputs_in(part))?;
     }
     Ok(list)
 }
 
-fn enabled_in(part: &Part) -> EnabledAt
-    ensures { result ≡ enabled_in_lem part.now }
+fn outputs_in(part: &Part) -> OutputsAt
+    ensures { result ≡ outputs_in_lem part.now }
 {
-    EnabledAt {
+    OutputsAt {
         place: part.place,
-        enabled: part.outputs.enabled(),
+        flags: output_flags(&part.outputs),
+    }
+}
+
+fn output_flags(outputs: &Outputs) -> OutputFlags
+    ensures { result ≡ output_flags_lem outputs.now }
+{
+    OutputFlags {
+        here: outputs.here(),
+        enabled: outputs.enabled(),
     }
 }
 
@@ -298,7 +314,7 @@ impl<'a> Raised<'a> {
             };
         }
         Subsystems {
-            output: switches(client.place, &before.enabled, self.parts),
+            output: outputs_differ(client.place, &before.outputs, self.parts),
             ..self.common
         }
     }
@@ -338,7 +354,10 @@ impl<'a> Raised<'a> {
             output: false,
             ..self.common
         };
-        own.is_empty() && !self.messages_begin() && common.is_empty() && !self.switches_elsewhere()
+        own.is_empty()
+            && !self.messages_begin()
+            && common.is_empty()
+            && !self.outputs_differ_elsewhere()
     }
 
     /// Whether messages wait in the event's partition for clients for which none waited.
@@ -354,12 +373,12 @@ impl<'a> Raised<'a> {
     }
 
     /// Whether outputs went or came in a partition other than the event's.
-    fn switches_elsewhere(&self) -> bool
-        ensures { result ≡ switches_elsewhere_lem self.now }
+    fn outputs_differ_elsewhere(&self) -> bool
+        ensures { result ≡ outputs_differ_elsewhere_lem self.now }
     {
         let before = self.before;
-        before.enabled.iter().any(|at| {
-            at.place != before.place && switches(at.place, &before.enabled, self.parts)
+        before.outputs.iter().any(|at| {
+            at.place != before.place && outputs_differ(at.place, &before.outputs, self.parts)
         })
     }
 }
@@ -392,23 +411,23 @@ fn has_beyond(part: Option<&Part>, having: &[u32]) -> bool
     }
 }
 
-/// Whether other outputs are enabled in a partition now.
-fn switches(place: u8, before: &[EnabledAt], parts: &Parts) -> bool
-    ensures { result ≡ switches_lem place before.now parts.now }
+/// Whether other outputs are in a partition now, or others are enabled in it.
+fn outputs_differ(place: u8, before: &[OutputsAt], parts: &Parts) -> bool
+    ensures { result ≡ outputs_differ_lem place before.now parts.now }
 {
-    match (enabled_at(place, before), parts.at(place)) {
-        (Some(enabled), Some(part)) => !same_enabled(&enabled, &part.outputs.enabled()),
+    match (outputs_at(place, before), parts.at(place)) {
+        (Some(flags), Some(part)) => !same_outputs(flags, output_flags(&part.outputs)),
         _ => false,
     }
 }
 
-/// Which outputs were enabled in the first partition of a number.
-fn enabled_at(place: u8, before: &[EnabledAt]) -> Option<[bool; 8]>
-    ensures { result ≡ enabled_at_lem place before.now }
+/// Which outputs were there and enabled in the first partition of a number.
+fn outputs_at(place: u8, before: &[OutputsAt]) -> Option<OutputFlags>
+    ensures { result ≡ outputs_at_lem place before.now }
 {
     for at in before {
         if at.place == place {
-            return Some(at.enabled);
+            return Some(at.flags);
         }
     }
     None
@@ -493,10 +512,15 @@ fn same_error(first: Option<&String>, second: Option<&str>) -> bool
     }
 }
 
-/// Whether the same outputs are enabled.
-#[tactic(auto, unfolding(crate::specs::Clients::same_enabled))]
-fn same_enabled(first: &[bool], second: &[bool]) -> bool
-    ensures { result ≡ same_enabled_lem first.now second.now }
+fn same_outputs(first: OutputFlags, second: OutputFlags) -> bool
+    ensures { result ≡ same_outputs_lem first second }
+{
+    same_flags(&first.here, &second.here) && same_flags(&first.enabled, &second.enabled)
+}
+
+#[tactic(auto, unfolding(crate::specs::Clients::same_flags))]
+fn same_flags(first: &[bool], second: &[bool]) -> bool
+    ensures { result ≡ same_flags_lem first.now second.now }
 {
     let mut ones = first;
     let mut others = second;

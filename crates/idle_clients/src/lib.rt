@@ -7,6 +7,8 @@ mod notices;
 mod same;
 
 pub use clients::{find_client, leave, list_notices, make_move, notify_all, waiting};
-pub use fingerprint::{EnabledAt, Fingerprint, Options, Raised, changes_subscriptions};
+pub use fingerprint::{
+    Fingerprint, Options, OutputFlags, OutputsAt, Raised, changes_subscriptions,
+};
 pub use notices::{Notice, Notices};
 pub use same::changes_songs;

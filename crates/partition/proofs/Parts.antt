@@ -42,8 +42,9 @@ use Rattle.partition.specs.Image.{Image}
 use Rattle.transitions.specs.Transitions.{TransitionData}
 use Rattle.player_state.specs.Scans.{is_last}
 use Rattle.player_state.proofs.Songs.{same_songs-refl, same_songs-true}
-use Rattle.idle_clients.proofs.Alike.{more_than_none, same_names-refl, same_names-true, same_pairs-refl, same_pairs-true, same_enabled-refl, same_enabled-true, same_options-refl, same_options-true, same_playing-refl, same_playing-true}
-use Rattle.idle_clients.specs.Clients.{Watched, is_this, names_of, options, playing, raised_between, raised_for_all, raised_within, same_enabled, same_names, same_pairs, same_options, same_playing, watched_at}
+use Rattle.idle_clients.proofs.Alike.{more_than_none, same_names-refl, same_names-true, same_pairs-refl, same_pairs-true, same_options-refl, same_options-true, same_outputs-refl, same_outputs-true, same_playing-refl, same_playing-true}
+use Rattle.idle_clients.specs.declared.fingerprint.OutputFlags.{OutputFlags}
+use Rattle.idle_clients.specs.Clients.{Watched, is_this, names_of, options, output_flags, playing, raised_between, raised_for_all, raised_within, same_names, same_options, same_outputs, same_pairs, same_playing, watched_at}
 use Rattle.player_state.specs.Libraries.{library_after, same_songs, songs_after}
 use Rattle.partition.specs.Step.{goer, mover, place_at}
 use Rattle.partition.specs.World.{PartWorld, World, WorldTransition, Differs, DiffersAt, DiffersBetween, DiffersForAll, DiffersWithin, names_in, part_in, part_world_after, parts_changed, past_after, place_of, raised_at, unplayed, watched_by, watched_in, world_after_transition, world_at, world_moved_output, worlds_moved}
@@ -158,7 +159,7 @@ module _ (number : ℕ) (m : WorldTransition) where
   both_differ before after Playlist = within (tells same_queue same_queue-refl same_queue-true (present before.past) (present after.past))
   both_differ before after Player = within (tells same_playing same_playing-refl same_playing-true (playing before.player) (playing after.player))
   both_differ before after Mixer = within (tells nat_eq (λ a. eq-eqb a a refl) eqb-true before.volume after.volume)
-  both_differ before after Output = within (tells same_enabled same_enabled-refl same_enabled-true before.outputs.enabled after.outputs.enabled)
+  both_differ before after Output = within (tells same_outputs same_outputs-refl same_outputs-true (output_flags before.outputs) (output_flags after.outputs))
   both_differ before after Options = within (tells same_options same_options-refl same_options-true (options before.player) (options after.player))
   both_differ before after Sticker = all_differ Sticker
   both_differ before after Subscription = within (tells same_pairs same_pairs-refl same_pairs-true (pairs before.channels) (pairs after.channels))
@@ -410,8 +411,8 @@ agree_one was after comes none =
     let set : options after.player ≡ options was.player =
     sym (decides same_options same_options-true same_options-refl (options was.player) (options after.player) (none 0 Options)) in
     let volume : after.volume ≡ was.volume = sym (decides nat_eq eqb-true (λ a. eq-eqb a a refl) was.volume after.volume (none 0 Mixer)) in
-    let enabled : after.outputs.enabled ≡ was.outputs.enabled =
-    sym (decides same_enabled same_enabled-true same_enabled-refl was.outputs.enabled after.outputs.enabled (none 0 Output)) in
+    let flags : output_flags after.outputs ≡ output_flags was.outputs =
+    sym (decides same_outputs same_outputs-true same_outputs-refl (output_flags was.outputs) (output_flags after.outputs) (none 0 Output)) in
     let listening : pairs was.channels ≡ pairs after.channels = decides same_pairs same_pairs-true same_pairs-refl (pairs was.channels) (pairs after.channels) (none 0 Subscription) in (
       λ j. record {
         place = comes.place j;
@@ -435,7 +436,7 @@ agree_one was after comes none =
           max_cut = comes.limit j;
         };
         volume = volume j;
-        outputs = record { names = comes.names j; here = after.outputs.here; enabled = enabled j; failed = after.outputs.failed; moves = after.outputs.moves; asked = after.outputs.asked };
+        outputs = record { names = comes.names j; here = (flags j).here; enabled = (flags j).enabled; failed = after.outputs.failed; moves = after.outputs.moves; asked = after.outputs.asked };
         channels = after.channels;
         played = after.played;
       },

@@ -20,17 +20,17 @@ use Rattle.idle_clients.specs.declared.notices.Notice.{Notice}
 use Rattle.player_state.specs.declared.state.Client.{Client}
 use Rattle.transitions.specs.Answers.{ResponseData}
 use Rattle.player_state.specs.declared.state.Library.{Library}
-use Rattle.idle_clients.specs.Clients.{Watched, begins_to_have, clients_after, has_messages, is_this, names_of, notices_after, options, playing, raised_between, raised_there, raised_within, same_enabled, same_names, watched_all, watched_at, watched_of}
+use Rattle.idle_clients.specs.Clients.{Watched, begins_to_have, clients_after, has_messages, is_this, names_of, notices_after, options, output_flags, playing, raised_between, raised_there, raised_within, same_names, same_outputs, watched_all, watched_at, watched_of}
 use Rattle.player_state.specs.Libraries.{same_songs}
 use Rattle.player_state.specs.Outputs.{FrameBooks, books_after}
 use Rattle.player_state.specs.Effects.{Change, ByEdit, ByStep, change_of, channels_after, part_after, queue_after}
 use Rattle.partition.specs.Image.{Image}
 use Rattle.transitions.specs.Transitions.{TransitionData, parts_after}
 use Rattle.player_state.specs.Libraries.{library_after, songs_after}
-use Rattle.idle_clients.specs.Fingerprint.{FingerprintData, RaisedData, begins_between, changes_listeners_in, changes_subscriptions, enabled_at, enabled_before, enabled_in, fingerprint, is_among, own_by_readings, raised_by_fingerprint, raised_in, readings, switches, switches_from}
+use Rattle.idle_clients.specs.Fingerprint.{FingerprintData, RaisedData, begins_between, changes_listeners_in, changes_subscriptions, fingerprint, is_among, outputs_at, outputs_before, outputs_differ, outputs_differ_from, outputs_in, own_by_readings, raised_by_fingerprint, raised_in, readings}
 use Rattle.transitions.specs.Shelves.{changes_lists, changes_stickers}
 use Rattle.transitions.specs.declared.shelf_calls.ShelfWrite.{ShelfWrite}
-use Rattle.idle_clients.proofs.Alike.{same_enabled-refl, same_names-refl, same_names-true, same_options-refl, same_pairs-refl, same_playing-refl}
+use Rattle.idle_clients.proofs.Alike.{same_names-refl, same_names-true, same_options-refl, same_outputs-refl, same_pairs-refl, same_playing-refl}
 use Rattle.idle_clients.proofs.Listeners.{among_waiting, changes}
 use Rattle.partition.specs.Step.{ended_after, goer, mover, place_at, raised_by, raised_of, report_at, after_transition, told_by}
 use Rattle.partition.proofs.Parts.{added_length, kept_all, map_length}
@@ -123,11 +123,11 @@ watched_part place (p ∷ ps) =
     elim (p.place == place) as (λ b. (if b then Some (watched_of p) else watched_at place (map watched_of ps)) ≡ option_map watched_of (if b then Some p else part_at place ps))
     [ true ↦ refl | false ↦ watched_part place ps ]
 
-enabled_part : (place : ℕ) (ps : List Part) → enabled_at place (map enabled_in ps) ≡ option_map (λ (p : Part). p.outputs.enabled) (part_at place ps)
-enabled_part place [] = refl
-enabled_part place (p ∷ ps) =
-    elim (p.place == place) as (λ b. (if b then Some p.outputs.enabled else enabled_at place (map enabled_in ps)) ≡ option_map (λ (p : Part). p.outputs.enabled) (if b then Some p else part_at place ps))
-    [ true ↦ refl | false ↦ enabled_part place ps ]
+outputs_part : (place : ℕ) (ps : List Part) → outputs_at place (map outputs_in ps) ≡ option_map (λ (p : Part). output_flags p.outputs) (part_at place ps)
+outputs_part place [] = refl
+outputs_part place (p ∷ ps) =
+    elim (p.place == place) as (λ b. (if b then Some (output_flags p.outputs) else outputs_at place (map outputs_in ps)) ≡ option_map (λ (p : Part). output_flags p.outputs) (if b then Some p else part_at place ps))
+    [ true ↦ refl | false ↦ outputs_part place ps ]
 
 -- what is raised in a partition of which the same is there before and after, but for its outputs
 module _ (number : ℕ) (database update lists stickers partitions : Bool) where
@@ -137,21 +137,21 @@ module _ (number : ℕ) (database update lists stickers partitions : Bool) where
   abbrev with_output : Bool → Subsystems
   with_output output = record common { output = output }
 
-  only_outputs : (w v : Watched) → v ≡ record w { outputs = v.outputs } → raised_within number w v common ≡ with_output (not (same_enabled w.outputs.enabled v.outputs.enabled))
+  only_outputs : (w v : Watched) → v ≡ record w { outputs = v.outputs } → raised_within number w v common ≡ with_output (not (same_outputs (output_flags w.outputs) (output_flags v.outputs)))
   only_outputs w v is =
       ap (λ (x : Watched). raised_within number w x common) is
       ∙ (λ i. record common {
         playlist = not (same_queue-refl w.queue i);
         player = not (same_playing-refl (playing w.player) i);
         mixer = not (eq-eqb w.volume w.volume refl i);
-        output = not (same_enabled w.outputs.enabled v.outputs.enabled);
+        output = not (same_outputs (output_flags w.outputs) (output_flags v.outputs));
         options = not (same_options-refl (options w.player) i);
         subscription = not (same_pairs-refl (pairs w.channels) i);
         message = begins_none (has_messages number w.channels) i;
       })
 
   same_there : (w : Watched) → raised_within number w w common ≡ common
-  same_there w = only_outputs w w refl ∙ ap (λ b. with_output (not b)) (same_enabled-refl w.outputs.enabled)
+  same_there w = only_outputs w w refl ∙ ap (λ b. with_output (not b)) (same_outputs-refl (output_flags w.outputs))
 
   pub same_between : (o : Option Watched) → raised_between number o o common ≡ common
   same_between None = refl
@@ -175,7 +175,7 @@ module _ (number : ℕ) (database update lists stickers partitions : Bool) where
 
     abbrev Elsewhere : Crossing → Type 0
     Elsewhere c =
-        with_output (switches place (enabled_before c ps) (parts_moved c next))
+        with_output (outputs_differ place (outputs_before c ps) (parts_moved c next))
         ≡ raised_between number (option_map watched_of before) (option_map watched_of (part_at place (parts_moved c next))) common
 
     left : (c : Crossing) → part_at place (parts_moved c next) ≡ own_moved place c (map known next) before
@@ -190,7 +190,7 @@ module _ (number : ℕ) (database update lists stickers partitions : Bool) where
     closed o false = sym (same_between (option_map watched_of o))
 
     brought : (output to : ℕ) (c : Option Carried) (o : Option Part)
-        → with_output (switches_from (option_map (λ (p : Part). p.outputs.enabled) o) (option_map (moved_output output to c) o))
+        → with_output (outputs_differ_from (option_map (λ (p : Part). output_flags p.outputs) o) (option_map (moved_output output to c) o))
         ≡ raised_between number (option_map watched_of o) (option_map watched_of (option_map (moved_output output to c) o)) common
     brought output to c None = refl
     brought output to c (Some p) = sym (only_outputs (watched_of p) (watched_of (moved_output output to c p)) (moved_watched output to c p))
@@ -207,8 +207,8 @@ module _ (number : ℕ) (database update lists stickers partitions : Bool) where
         ∙ ap (λ (o : Option Part). raised_between number (option_map watched_of before) (option_map watched_of o) common) (sym (left (Closes gone)))
     elsewhere (Brings output to) =
         let c : Option Carried = carried_in output to (map known next) in
-        ap (λ (o : Option Part). with_output (switches_from (enabled_at place (map enabled_in ps)) o)) (left (Brings output to))
-        ∙ ap (λ e. with_output (switches_from e (option_map (moved_output output to c) before))) (enabled_part place ps)
+        ap (λ (o : Option Part). with_output (outputs_differ_from (outputs_at place (map outputs_in ps)) o)) (left (Brings output to))
+        ∙ ap (λ e. with_output (outputs_differ_from e (option_map (moved_output output to c) before))) (outputs_part place ps)
         ∙ brought output to c before
         ∙ ap (λ (o : Option Part). raised_between number (option_map watched_of before) (option_map watched_of o) common) (sym (left (Brings output to)))
 
@@ -288,7 +288,7 @@ by_fingerprint number place parts library t =
     let told : Bool → Subsystems = λ b. common 0 database (differ library.scan.runs found.scan.runs) (changes_lists t.written) (changes_stickers t.written) b in
     let names : count ≡ not (same_names (named_in parts) (named_in after)) = ap not (sym (names_told library.rate place t parts)) in
     let Goal : Client → Bool → Type 0 = λ client own.
-    (if own then record r.own { message = begins_between client.number r.before.own (part_at place after) } else record r.common { output = switches client.place r.before.enabled after })
+    (if own then record r.own { message = begins_between client.number r.before.own (part_at place after) } else record r.common { output = outputs_differ client.place r.before.outputs after })
     ≡ raised_between client.number (option_map watched_of (part_at client.place parts)) (option_map watched_of (part_at client.place after)) (told count) in
     let one : (client : Client) → Goal client (client.place == place) =
     λ client.

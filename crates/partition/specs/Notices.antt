@@ -36,7 +36,7 @@ abbrev pub AgreesButForUnwatched : PartWorld → PartWorld → Type 0
 AgreesButForUnwatched before after =
     (after ≡ record before {
       player = with_order_of before.player after.player;
-      outputs = record after.outputs { names = before.outputs.names; enabled = before.outputs.enabled };
+      outputs = record after.outputs { names = before.outputs.names; here = before.outputs.here; enabled = before.outputs.enabled };
       channels = after.channels;
       played = after.played;
     })

@@ -21,7 +21,7 @@ use Rattle.player_state.specs.declared.effect.Effect.{Effect}
 use Rattle.player_state.specs.declared.state.Library.{Library}
 use Rattle.player_state.specs.declared.state.Part.{Part}
 use Rattle.player_state.specs.declared.report.Report.{Report}
-use Rattle.idle_clients.specs.Clients.{Watched, WatchedAll, is_this, raised, move_of, newcomer, options, playing}
+use Rattle.idle_clients.specs.Clients.{Watched, WatchedAll, is_this, raised, move_of, newcomer, options, output_flags, playing}
 use Rattle.partition.specs.History.{made_of}
 use Rattle.player_state.specs.Outputs.{FrameBooks, OutputsData, decoded_by, discarded_by, written_by}
 use Rattle.player_state.specs.Effects.{Change, ByEdit, ByStep, change_of, channels_after, outputs_after, played_after, player_after, volume_after}
@@ -115,7 +115,7 @@ abbrev pub DiffersWithin : ℕ → Subsystem → PartWorld → PartWorld → Typ
 DiffersWithin number Playlist before after = present before.past ≢ present after.past
 DiffersWithin number Player before after = playing before.player ≢ playing after.player
 DiffersWithin number Mixer before after = before.volume ≢ after.volume
-DiffersWithin number Output before after = before.outputs.enabled ≢ after.outputs.enabled
+DiffersWithin number Output before after = output_flags before.outputs ≢ output_flags after.outputs
 DiffersWithin number Options before after = options before.player ≢ options after.player
 DiffersWithin number Subscription before after = pairs before.channels ≢ pairs after.channels
 DiffersWithin number Message before after = BeginsToHave number before after

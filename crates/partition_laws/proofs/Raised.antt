@@ -16,8 +16,8 @@ use Rattle.player_state.specs.declared.state.Library.{Library}
 use Rattle.player_state.specs.declared.state.Part.{Part}
 use Rattle.parts.specs.Parts.{Known, known, part_at}
 use Rattle.transitions.specs.Transitions.{TransitionData, parts_after}
-use Rattle.idle_clients.proofs.Alike.{same_enabled-refl, same_options-refl, same_pairs-refl, same_playing-refl}
-use Rattle.idle_clients.specs.Clients.{Watched, has_messages, is_this, names_of, options, playing, raised_between, same_names, watched_at, watched_of}
+use Rattle.idle_clients.proofs.Alike.{same_options-refl, same_outputs-refl, same_pairs-refl, same_playing-refl}
+use Rattle.idle_clients.specs.Clients.{Watched, has_messages, is_this, names_of, options, output_flags, playing, raised_between, same_names, watched_at, watched_of}
 use Rattle.partition.specs.Step.{goer, raised_by}
 use Rattle.partition_laws.specs.Apart.{ShelfChanges, no_shelf_changes, shelf_changes}
 
@@ -80,7 +80,7 @@ none_between number (Some w) = λ i. record none {
   playlist = not (same_queue-refl w.queue i);
   player = not (same_playing-refl (playing w.player) i);
   mixer = not (eq-eqb w.volume w.volume refl i);
-  output = not (same_enabled-refl w.outputs.enabled i);
+  output = not (same_outputs-refl (output_flags w.outputs) i);
   options = not (same_options-refl (options w.player) i);
   subscription = not (same_pairs-refl (pairs w.channels) i);
   message = begins-own (has_messages number w.channels) i;

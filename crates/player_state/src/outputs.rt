@@ -148,6 +148,13 @@ impl Outputs {
         self.enabled.iter().any(|on| *on)
     }
 
+    /// Which of eight outputs are in the partition.
+    pub fn here(&self) -> [bool; 8]
+        ensures { result ≡ self.now.here }
+    {
+        self.here
+    }
+
     /// Which of eight outputs are enabled.
     pub fn enabled(&self) -> [bool; 8]
         ensures { result ≡ self.now.enabled }

@@ -1,7 +1,7 @@
 use Rattle.std.proofs.Common.{◌≡◌, length}
 use Rattle.std.specs.Bool.{beq}
 use lib.Pointwise.{pointwise}
-use Rattle.idle_clients.proofs.fingerprint.same_enabled.Given as goal
+use Rattle.idle_clients.proofs.fingerprint.same_flags.Given as goal
 
 abbrev pub decreases-loop-ones : goal.decreases-loop-ones
 decreases-loop-ones l = length l.ones
