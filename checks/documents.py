@@ -1,5 +1,5 @@
 #!/usr/bin/env python3
-"""Whether the documents are true to the sources, and few.
+"""Whether the documents are true to the sources.
 
     checks/documents.py
 
@@ -9,8 +9,7 @@ It fails where
 - a call `Type::name` is named and no file has both the type and the name; a path is none of the repository;
 - a library of crates.txt has no README, or the manual's list of commands is not the one that the tables make;
 - a drawing of docs/MAP.md is not as `checks/map.py` draws it;
-- README's first screen, all before its first heading, has more than 25 lines of 100 columns;
-- all documents together have more than 15,000 words.
+- README's first screen, all before its first heading, has more than 25 lines of 100 columns.
 
 A word of the protocol that the daemon does not know, of a tool or of another program is in OTHERS.
 """
@@ -26,7 +25,7 @@ import map as drawings
 from crates import table_of
 
 TOP = os.path.dirname(os.path.dirname(os.path.abspath(__file__)))
-MOST_WORDS, SCREEN_LINES, SCREEN_COLUMNS = 15000, 25, 100
+SCREEN_LINES, SCREEN_COLUMNS = 25, 100
 PARTS = ('src', 'specs', 'proofs')
 BESIDE = ('checks', 'packaging', 'examples')
 BUILT = {'out', '__pycache__', '.git'}
@@ -155,12 +154,10 @@ def check(_program=None):
     wrong += missing()
     wrong += commands.faults()
     wrong += drawings.faults()
-    lines, count = screen_lines(), sum(len(read(path).split()) for path, _ in documents())
+    lines = screen_lines()
     if lines > SCREEN_LINES:
         wrong.append("README's first screen has %d lines, at most %d are wanted" % (lines, SCREEN_LINES))
-    if count > MOST_WORDS:
-        wrong.append('the documents have %d words, at most %d are wanted' % (count, MOST_WORDS))
-    print('\n'.join(wrong + ["documents: %d words, README's first screen %d lines, %d wrong" % (count, lines, len(wrong))]))
+    print('\n'.join(wrong + ["documents: README's first screen %d lines, %d wrong" % (lines, len(wrong))]))
     return len(wrong)
 
 

@@ -1,3 +1,4 @@
 pub mod Ledgers
 pub mod Seats
 pub mod Counts
+pub mod Waking

@@ -1,4 +1,7 @@
 //! What a thread at rest is woken for.
+ghost use Rattle.std.specs.Prelude.{◌≡◌};
+ghost use Rattle.counted_player.specs.Waking.{part_fingerprint};
+
 use partition::Partition;
 use player_core::Playback;
 use player_state::Part;
@@ -22,7 +25,9 @@ struct PartFingerprint {
 }
 
 impl WakeFingerprint {
-    pub(crate) fn of(partition: &Partition) -> WakeFingerprint {
+    pub(crate) fn of(partition: &Partition) -> WakeFingerprint
+        ensures { result.ended ≡ partition.now.present.shared.ended }
+    {
         let mut parts = [None; 16];
         for (seen, part) in parts.iter_mut().zip(partition.parts()) {
             *seen = Some(PartFingerprint::of(part));
@@ -35,7 +40,9 @@ impl WakeFingerprint {
 }
 
 impl PartFingerprint {
-    fn of(part: &Part) -> PartFingerprint {
+    fn of(part: &Part) -> PartFingerprint
+        ensures { result ≡ part_fingerprint part.now }
+    {
         PartFingerprint {
             place: part.place,
             playback: part.player.playback(),

@@ -1,6 +1,6 @@
 //! The house: one lock, which any thread with a seat takes.
 ghost use Rattle.frame_ledger.specs.Shares.{HasAllParts, HasNoFrames, KeepsParts};
-ghost use Rattle.std.specs.Prelude.{◌≡◌, ◌+◌, ◌<◌, ◌≤◌, [], IfErr, IfOk, IfSome, OnErr, OnOk, length, vec_len, vec_capacity};
+ghost use Rattle.std.specs.Prelude.{◌≡◌, ◌↔◌, ◌+◌, ◌<◌, ◌≤◌, [], false, IfErr, IfOk, IfSome, OnErr, OnOk, length, vec_len, vec_capacity};
 ghost use Rattle.held_player.specs.Blanks.{AreFor};
 ghost use Rattle.partition.specs.History.{Chronicle};
 ghost use Rattle.partition.specs.Legal.{IsPast};
@@ -9,7 +9,7 @@ ghost use Rattle.held_player.specs.Lists.{StopsIn, TellsList};
 ghost use Rattle.held_player.specs.News.{event_of};
 ghost use Rattle.counted_player.specs.Seats.{after_events};
 ghost use Rattle.held_player.specs.Settling.{ClosesBooks};
-ghost use Rattle.counted_player.specs.Counts.{ArePlacesSomewhere, HasScanSomewhere, IsFresh, IsSongSomewhere};
+ghost use Rattle.counted_player.specs.Counts.{ArePlacesSomewhere, HasScanSomewhere, IsFresh, IsSongSomewhere, has_scan};
 ghost use Rattle.held_player.specs.Views.{IsUnwritten, RefusesSomewhere, TellsSomewhere, AnswersClient, StopsClient, turn_of, FeedsShare};
 
 use command_lists::ListForm;
@@ -186,6 +186,9 @@ impl<L: Ledgers> House<L> {
     }
 
     /// The client's waiting notice, which is taken out. It is no event and takes no memory.
+    ///
+    /// A hint: that it hands out every notice just once is tested. One that it passed over comes in front of
+    /// the client's next reply.
     pub fn outbox(&self, rt: &impl Wait, client: u32) -> Option<Notice>
         ensures { IfSome result (λ notice. notice.client ≡ client) }
     {
@@ -193,6 +196,8 @@ impl<L: Ledgers> House<L> {
     }
 
     /// The clients that notices wait for, all by one taking of the lock.
+    ///
+    /// A hint: a client that is missing is told later, by [`House::outbox`] or in front of its next reply.
     pub fn addressees(&self, rt: &impl Wait, alloc: Global) -> Result<Vec<u32>, AllocError> {
         self.held.lock(rt).addressees(alloc)
     }
@@ -297,6 +302,9 @@ impl<L: Ledgers> House<L> {
     }
 
     /// Of sixteen numbers those of a partition. It is no event.
+    ///
+    /// A hint: the answer may be older than what the caller did since. Each partition is then asked for a job
+    /// by an event, which is answered of the present.
     pub fn places(&self, rt: &impl Wait) -> [bool; 16]
         ensures { ArePlacesSomewhere result }
     {
@@ -304,13 +312,19 @@ impl<L: Ledgers> House<L> {
     }
 
     /// The song of the entry that has this id in the present queue of the partition of a number. It is no event.
+    ///
+    /// A hint: the answer may be older than what the caller did since. But an id is given once, so that an older
+    /// answer names the same song, or none.
     pub fn song(&self, rt: &impl Wait, place: u8, id: u32) -> Result<Option<SharedSong>, AllocError>
         ensures { IfOk result (IsSongSomewhere place id) }
     {
         self.held.lock(rt).song(place, id)
     }
 
-    /// Whether the daemon has ended.
+    /// Whether the daemon has ended. It is no event.
+    ///
+    /// A hint: the answer may be older than what the caller did since. But an end is for ever, so that a yes is
+    /// never too old, and a no costs the caller one more look.
     pub fn has_ended(&self, rt: &impl Wait) -> bool
         ensures { (past : Chronicle) × IsPast past × (result ≡ past.present.shared.ended) }
     {
@@ -353,6 +367,8 @@ impl<L: Ledgers> House<L> {
 
     /// Waits until a scan was asked for that has not ended, the daemon ends, or the time is up, and says whether
     /// there is such a scan.
+    ///
+    /// A hint: the scanner then asks by an event, which is answered of the present.
     pub fn await_scan<R: Wait + Clock>(&self, rt: &R, most: Duration) -> bool
         ensures { HasScanSomewhere result }
     {
@@ -380,7 +396,10 @@ impl<L: Ledgers> House<L> {
 }
 
 /// What is rung where the house had changed so often before a step.
-fn rung_since<L: Ledgers>(held: &Held<L>, before: u64) -> Rung {
+fn rung_since<L: Ledgers>(held: &Held<L>, before: u64) -> Rung
+    ensures notices { (result.notices_wait ≡ false) ↔ (held.now.waiting ≡ []) }
+    ensures scans { result.scan_runs ≡ has_scan held.now.player.present }
+{
     Rung {
         state_changed: held.changes() != before,
         notices_wait: held.has_notices(),
