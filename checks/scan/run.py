@@ -145,7 +145,7 @@ def calls(program, folder):
     names = [line.split(None, 1)[1].split('(')[0] for line in open(trace, errors='replace')]
     each = sum(name in ('statx', 'newfstatat', 'stat', 'lseek', 'read', 'pread64', 'fstat') for name in names) / 1000
     print('system calls of a file beyond open and close: %.2f' % each)
-    return 0 if each <= 3.1 else 1
+    return 0 if each <= 4.1 else 1
 
 
 def timed(words):

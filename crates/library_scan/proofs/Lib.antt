@@ -1,3 +1,5 @@
 pub mod Once
 pub mod Windows
+pub mod Blame
+pub mod Unread
 pub mod Listings

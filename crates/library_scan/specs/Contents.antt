@@ -1,9 +1,7 @@
 -- What a scan keeps of a file, by what its bytes mean.
-use Rattle.std.specs.Prelude.{◌≡◌, ◌<◌, ◌⊎◌, ⊤, ℕ, List, length, codes, Option, Result, Ok, Err, IfSome, IfOk}
+use Rattle.std.specs.Prelude.{◌≡◌, ◌<◌, ⊤, ℕ, Bool, true, false, List, length, codes, Option, Result, Ok, Err, IfSome, IfOk}
 use Rattle.std.specs.declared.alloc.AllocError.{AllocError}
-use Rattle.counted_devices.specs.CallCounts.{HasFailed}
 use Rattle.counted_devices.specs.declared.call_counts.CallCounts.{CallCounts}
-use Rattle.wave.specs.Devices.{CalledTooOften}
 use Rattle.wave.specs.Waves.{Wave, wave_of}
 use Rattle.wave.specs.declared.fault.WaveFault.{WaveFault}
 use Rattle.wave.specs.declared.fault.WaveFault.TheVariants.{NotRiff, NoFormat, Unsupported, NoData}
@@ -11,6 +9,7 @@ use Rattle.library_scan.specs.declared.content.Content.{Content}
 use Rattle.library_scan.specs.declared.content.Content.TheVariants.{Song, Empty, Refused}
 use Rattle.library_scan.specs.declared.content.Refusal.{Refusal}
 use Rattle.library_scan.specs.declared.content.Refusal.TheVariants as refusal
+use Rattle.library_scan.specs.Causes.{BlamesFile}
 
 -- a refusal of the bytes is theirs; one of the device says nothing of them
 abbrev pub Refuses : Refusal → Result Wave WaveFault → Type 0
@@ -30,10 +29,23 @@ Keeps (Refused r) meaning = Refuses r meaning
 abbrev pub KeepsBytes : ℕ → Option (List ℕ) → Result Content AllocError → Type 0
 KeepsBytes rate known result = IfSome known (λ bytes. IfOk result (λ content. Keeps content (wave_of rate bytes)))
 
--- a file is unread only where its device failed in the call, or was called too often, or its count is at its
--- greatest value
+-- a refusal that says that the file could not be opened or read
+abbrev pub is_read_fault : Refusal → Bool
+is_read_fault refusal.NotRiff = false
+is_read_fault refusal.NoFormat = false
+is_read_fault refusal.Unsupported = false
+is_read_fault refusal.NoData = false
+is_read_fault refusal.ReadFault = true
+
+abbrev pub is_unread : Content → Bool
+is_unread (Song tags frames) = false
+is_unread Empty = false
+is_unread (Refused cause) = is_read_fault cause
+
+-- A file is unread exactly where its device failed in the call. Else it is unread only where the device was
+-- called too often, or a count is at its greatest value.
 abbrev pub UnreadOnFailure : CallCounts → CallCounts → Result Content AllocError → Type 0
-UnreadOnFailure old new result = result ≡ Ok (Refused refusal.ReadFault) → HasFailed old new ⊎ CalledTooOften old new
+UnreadOnFailure old new result = IfOk result (λ content. BlamesFile (is_unread content) old new)
 
 -- the name that a refusal is shown by
 abbrev pub name_of : Refusal → List ℕ

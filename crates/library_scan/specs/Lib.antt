@@ -1,7 +1,9 @@
 pub mod Steps
+pub mod Causes
 pub mod Contents
 pub mod Scans
 pub mod Windows
 pub mod Trees
+pub mod Faults
 pub mod Seeing
 pub mod Views

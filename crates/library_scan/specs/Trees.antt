@@ -10,10 +10,10 @@ use Rattle.library_scan.specs.declared.scanned.Refused.{Refused}
 use Rattle.library_scan.specs.declared.scanned.Scanned.{Scanned}
 use Rattle.library_scan.specs.declared.disk.Entry.{Entry}
 use Rattle.library_scan.specs.declared.disk.Entry.TheVariants.{Name, NotText, Broken}
-use Rattle.library_scan.specs.declared.disk.Seen.{Seen}
 use Rattle.library_scan.specs.declared.fault.ScanFault.{ScanFault}
 use Rattle.library_scan.specs.declared.fault.ScanFault.TheVariants.{NoFolder, TooMany, NoMemory}
 use Rattle.library_scan.specs.declared.found.Found.{Found}
+use Rattle.library_scan.specs.declared.step.Kind.{Kind}
 use Rattle.library_scan.specs.declared.step.Step.{Step}
 use Rattle.library_scan.specs.declared.step.Step.TheVariants.{Skip, Descend, Read, Refuse}
 use Rattle.library_scan.specs.Steps.{step_of, path_of}
@@ -30,11 +30,11 @@ reading_of content.Empty = AsNothing
 reading_of (content.Refused cause) = AsRefused cause
 
 -- What lies on a disk, by URI: what a folder tells in its order, or that it cannot be opened; what the system
--- says of a path; and what a file turns out to be at a rate, where it is read as one of so many bytes.
+-- says that a path is; and what a file turns out to be at a rate.
 pub record Tree : Type 0 where
   pub told : List ℕ → Option (List Entry)
-  pub seen : List ℕ → Seen
-  pub reading : ℕ → List ℕ → ℕ → Reading
+  pub kind : List ℕ → Kind
+  pub reading : ℕ → List ℕ → Reading
 
 -- what holds where the tree is known
 abbrev pub OnTree : Option Tree → (Tree → Type 0) → Type 0
@@ -73,7 +73,7 @@ kept_of uri Refuse reading = one_refused uri refusal.ReadFault
 kept_of uri Read reading = kept_of_file uri reading
 
 abbrev pub kept_at : Tree → ℕ → List ℕ → Kept
-kept_at tree rate uri = kept_of uri (step_of uri (tree.seen uri).kind) (tree.reading rate uri (tree.seen uri).len)
+kept_at tree rate uri = kept_of uri (step_of uri (tree.kind uri)) (tree.reading rate uri)
 
 -- of what a folder tells: a name that is no text is passed over
 abbrev pub kept_of_entry : Tree → ℕ → List ℕ → Entry → Kept
@@ -115,8 +115,8 @@ Tells old new None = old ≡ []
 Tells old new (Some entry) = old ≡ entry ∷ new
 
 -- a file turns out to be what it is
-abbrev pub Reads : Tree → ℕ → List ℕ → ℕ → Content → Type 0
-Reads tree rate uri len content = reading_of content ≡ tree.reading rate uri len
+abbrev pub Reads : Tree → ℕ → List ℕ → Content → Type 0
+Reads tree rate uri content = reading_of content ≡ tree.reading rate uri
 
 -- what is heard of a folder of a tree
 abbrev pub told_in : Tree → List ℕ → List Entry

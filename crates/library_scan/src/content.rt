@@ -1,10 +1,11 @@
 //! What a scan keeps of a file.
 ghost use Rattle.std.specs.Prelude.{◌≡◌, Ok, IfOk, IfErr};
+ghost use Rattle.counted_devices.specs.CallCounts.{NoFewer};
+ghost use Rattle.library_scan.specs.Causes.{with_those_of};
 ghost use Rattle.library_scan.specs.Contents.{KeepsBytes, UnreadOnFailure, name_of};
-ghost use Rattle.library_scan.specs.Windows.{whole};
 
 use crate::window::Windowed;
-use counted_devices::{Counting, Media, ReadSeek};
+use counted_devices::{CallCounts, Counting, Failing, Media, ReadSeek};
 use mpd_text::Tag;
 use song_db::Rate;
 use std::alloc::{AllocError, Global};
@@ -60,10 +61,18 @@ pub fn content_of<M: Media>(
 ) -> Result<Content, AllocError>
     // It is what the whole bytes mean.
     ensures value { KeepsBytes rate.now (M.all_bytes media.old) result }
-    // It is unread only where the device failed, or was called too often.
-    ensures read_fault { UnreadOnFailure (M.call_counts media.old) (M.call_counts media.new) result }
+    // It is unread exactly where the device failed, or was called too often.
+    ensures cause { UnreadOnFailure (M.call_counts media.old) (M.call_counts media.new) result }
+    ensures calm { NoFewer (M.call_counts media.old) (M.call_counts media.new) }
 {
-    match read_head(alloc, media, rate.frames()) {
+    let failures = media.failures();
+    let blocked = media.blocked();
+    let head = read_head(alloc, media, rate.frames());
+    // What was read over a failure says nothing of the file.
+    if media.failures() > failures || media.blocked() > blocked {
+        return Ok(Content::Refused(Refusal::ReadFault));
+    }
+    match head {
         Ok(head) if head.frames() == 0 => Ok(Content::Empty),
         Ok(head) => {
             let frames = head.frames();
@@ -78,32 +87,67 @@ pub fn content_of<M: Media>(
     }
 }
 
-/// What a scan at this rate keeps of a file of this length, which is read some kilobytes at a time.
-pub fn content_in<F: ReadSeek + Drop>(
+/// What a scan at this rate keeps of a file, which is read some kilobytes at a time. Its calls are added to
+/// those that were counted before.
+pub(crate) fn content_in<F: ReadSeek + Drop>(
     alloc: Global,
     file: F,
-    len: u64,
     rate: &Rate,
+    call_counts: &mut CallCounts,
 ) -> Result<Content, AllocError>
-    // It is what the whole bytes mean, where there are as many.
-    ensures value { KeepsBytes rate.now (whole (F.known_bytes file) len) result }
+    // It is what the whole bytes mean.
+    ensures value { KeepsBytes rate.now (F.known_bytes file) result }
+    ensures cause { UnreadOnFailure call_counts.old call_counts.new result }
+    ensures calm { NoFewer call_counts.old call_counts.new }
 {
-    let mut media = Windowed::new(Counting::new(file), len);
-    content_of(alloc, &mut media, rate)
+    // Read once, so that the proof has the range of each count.
+    let CallCounts {
+        failures: _failures,
+        blocked: _blocked,
+        calls: _calls,
+    } = *call_counts;
+    let mut file = Counting::new(file);
+    let Ok(len) = file.seek_to_end() else {
+        add_calls(call_counts, &file);
+        return Ok(Content::Refused(Refusal::ReadFault));
+    };
+    let mut window = Windowed::new(file, len);
+    let content = content_of(alloc, &mut window, rate);
+    add_calls(call_counts, &window);
+    content
 }
 
-/// The same of a file that was to be opened.
+/// Adds the calls of a device to those that were counted before.
+fn add_calls<D: Failing>(call_counts: &mut CallCounts, device: &D)
+    ensures { call_counts.new ≡ with_those_of call_counts.old (D.call_counts device.now) }
+{
+    let CallCounts {
+        failures,
+        blocked,
+        calls,
+    } = *call_counts;
+    *call_counts = CallCounts {
+        failures: failures.saturating_add(device.failures()),
+        blocked: blocked.saturating_add(device.blocked()),
+        calls: calls.saturating_add(device.calls()),
+    };
+}
+
+/// The same of a file that was to be opened, which is a call too.
 pub(crate) fn content_if_open<F: ReadSeek + Drop>(
     alloc: Global,
     opened: io::Result<F>,
-    len: u64,
     rate: &Rate,
+    call_counts: &mut CallCounts,
 ) -> Result<Content, AllocError>
-    ensures open { IfOk opened (λ file. KeepsBytes rate.now (whole (F.known_bytes file) len) result) }
+    ensures open { IfOk opened (λ file. KeepsBytes rate.now (F.known_bytes file) result) }
     ensures shut { IfErr opened (λ _. result ≡ Ok (Content.Refused Refusal.ReadFault)) }
+    ensures cause { UnreadOnFailure call_counts.old call_counts.new result }
+    ensures calm { NoFewer call_counts.old call_counts.new }
 {
+    call_counts.count_result(&opened);
     match opened {
-        Ok(file) => content_in(alloc, file, len, rate),
+        Ok(file) => content_in(alloc, file, rate, call_counts),
         Err(_) => Ok(Content::Refused(Refusal::ReadFault)),
     }
 }

@@ -1,10 +1,14 @@
 //! A disk that is asked for what lies in its folders.
 ghost use Rattle.std.specs.Prelude.{◌≡◌, Option, List, IfOk};
+ghost use Rattle.counted_devices.specs.CallCounts.{NoFewer};
+ghost use Rattle.library_scan.specs.Contents.{UnreadOnFailure};
+ghost use Rattle.library_scan.specs.Faults.{ShutOnFailure, MissedOnFailure, UnseenOnFailure};
 ghost use Rattle.library_scan.specs.Trees.{Tree, OnTree, Opens, Tells, Reads};
 ghost use Rattle.library_scan.specs.declared.disk.Entry.{Entry};
 
 use crate::content::Content;
 use crate::step::Kind;
+use counted_devices::Failing;
 use mpd_text::Text;
 use song_db::Rate;
 use std::alloc::{AllocError, Global};
@@ -20,18 +24,13 @@ pub enum Entry {
     Broken,
 }
 
-/// What the system says of a path, where links are followed.
-#[derive(Clone, Copy, PartialEq, Eq)]
-pub struct Seen {
-    /// What it is.
-    pub kind: Kind,
-    /// How long the file is, in bytes; 0 of what is none.
-    pub len: u64,
-}
-
-/// A disk that is asked for what lies in one of its folders. A URI is a path from there on, and the empty one
-/// is the folder itself.
-pub trait Disk {
+/// A disk that is asked for what lies in one of its folders, and counts how its calls end, with those of its
+/// files. A URI is a path from that folder on, and the empty one is the folder itself.
+///
+/// An answer that tells of a fault comes exactly where a call failed: a folder that cannot be listed, a name
+/// that is no text, the end of a listing before its last name, a path of which the system tells nothing, and a
+/// file that cannot be read.
+pub trait Disk: Failing {
     // What lies there, where it is known.
     ghost known_tree: { Self → Option Tree };
 
@@ -41,18 +40,30 @@ pub trait Disk {
     /// Opens a folder in place of the one before; false where it cannot be listed.
     fn open_folder(&mut self, alloc: Global, uri: &str) -> Result<bool, AllocError>
         ensures stays { known_tree self.new ≡ known_tree self.old }
-        ensures open { OnTree (known_tree self.old) (λ tree. IfOk result (Opens (tree.told uri.now) (left self.new))) };
+        ensures open { OnTree (known_tree self.old) (λ tree. IfOk result (Opens (tree.told uri.now) (left self.new))) }
+        ensures cause { ShutOnFailure (Self.call_counts self.old) (Self.call_counts self.new) result }
+        ensures calm { NoFewer (Self.call_counts self.old) (Self.call_counts self.new) };
 
     /// What the folder that was opened last tells next.
     fn next_entry(&mut self, alloc: Global) -> Result<Option<Entry>, AllocError>
         ensures stays { known_tree self.new ≡ known_tree self.old }
-        ensures tells { OnTree (known_tree self.old) (λ _. IfOk result (Tells (left self.old) (left self.new))) };
+        ensures tells { OnTree (known_tree self.old) (λ _. IfOk result (Tells (left self.old) (left self.new))) }
+        ensures cause { MissedOnFailure (Self.call_counts self.old) (Self.call_counts self.new) result }
+        ensures calm { NoFewer (Self.call_counts self.old) (Self.call_counts self.new) };
 
-    /// What the system says of a path.
-    fn look(&self, alloc: Global, uri: &str) -> Result<Seen, AllocError>
-        ensures { OnTree (known_tree self.now) (λ tree. IfOk result (λ seen. seen ≡ tree.seen uri.now)) };
+    /// What the system says that a path is.
+    fn look(&mut self, alloc: Global, uri: &str) -> Result<Kind, AllocError>
+        ensures stays { known_tree self.new ≡ known_tree self.old }
+        ensures left { left self.new ≡ left self.old }
+        ensures kind { OnTree (known_tree self.old) (λ tree. IfOk result (λ kind. kind ≡ tree.kind uri.now)) }
+        ensures cause { UnseenOnFailure (Self.call_counts self.old) (Self.call_counts self.new) result }
+        ensures calm { NoFewer (Self.call_counts self.old) (Self.call_counts self.new) };
 
-    /// What a file of this length is at this rate.
-    fn read(&self, alloc: Global, uri: &str, len: u64, rate: &Rate) -> Result<Content, AllocError>
-        ensures { OnTree (known_tree self.now) (λ tree. IfOk result (Reads tree rate.now uri.now len)) };
+    /// What a file is at this rate.
+    fn read(&mut self, alloc: Global, uri: &str, rate: &Rate) -> Result<Content, AllocError>
+        ensures stays { known_tree self.new ≡ known_tree self.old }
+        ensures left { left self.new ≡ left self.old }
+        ensures reads { OnTree (known_tree self.old) (λ tree. IfOk result (Reads tree rate.now uri.now)) }
+        ensures cause { UnreadOnFailure (Self.call_counts self.old) (Self.call_counts self.new) result }
+        ensures calm { NoFewer (Self.call_counts self.old) (Self.call_counts self.new) };
 }

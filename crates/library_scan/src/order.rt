@@ -3,6 +3,7 @@ ghost use Rattle.std.specs.Prelude.{◌≤◌, length, All};
 ghost use Rattle.std.specs.List.{Contains};
 ghost use Rattle.mpd_text.specs.Songs.Song.{SongData};
 ghost use Rattle.song_db.specs.Library.{InByteOrder};
+ghost use Rattle.library_scan.specs.Faults.{unread_in};
 ghost use Rattle.library_scan.specs.Scans.{KeepsEachUri, RefusedInOrder};
 ghost use Rattle.library_scan.specs.declared.scanned.Refused.{Refused};
 
@@ -26,6 +27,7 @@ pub(crate) fn sort_refused(refused: &mut Vec<Refused>)
     ensures order { RefusedInOrder refused.new.items }
     ensures among { All (Contains refused.old.items) refused.new.items }
     ensures each { KeepsEachUri (λ (file : Refused). file.uri) refused.old.items refused.new.items }
+    ensures unread { unread_in refused.new.items ≤ unread_in refused.old.items }
 {
     refused.sort_unstable_by(|a, b| a.uri.as_str().cmp(b.uri.as_str()));
     refused.dedup_by(|a, b| a.uri.as_str() == b.uri.as_str());

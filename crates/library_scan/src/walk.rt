@@ -1,6 +1,8 @@
 //! The scan of a folder.
-ghost use Rattle.std.specs.Prelude.{◌≡◌, ◌≤◌, length, All, IfOk, IfErr, OnOk, IsTrue};
+ghost use Rattle.std.specs.Prelude.{◌≡◌, ◌≤◌, false, length, All, IfOk, IfErr, IsErrOf, OnOk, IsTrue};
+ghost use Rattle.counted_devices.specs.CallCounts.{HasFailed, NoFewer};
 ghost use Rattle.song_db.specs.Library.{InByteOrder};
+ghost use Rattle.library_scan.specs.Faults.{FoundFailed, GivenFailed, unread_in};
 ghost use Rattle.library_scan.specs.Scans.{IsFound, RefusedInOrder};
 ghost use Rattle.library_scan.specs.Steps.{is_song_uri};
 ghost use Rattle.library_scan.specs.Trees.{AddsFolder, AddsTold, Explains, IsLimit, IsScanOf, Keeps, KeepsName, ListsAll, NoRoom, OnTooMany, OnTree, OnceEach, OverByFolder, OverByName, OverByTold, RestIsTooLarge, is_whole, kept_of_file, never_breaks, reading_of};
@@ -41,10 +43,12 @@ impl Watcher for Unwatched {
 /// `.wav`, whatever the case of these letters. Passed over without a word are names that are not UTF-8 or
 /// have a byte below 0x20, URIs of more than 1,024 bytes, folders that lie deeper or cannot be listed, and
 /// files of no frames.
+///
+/// The disk is blamed only where it failed: each file that is called unreadable has a call of its own that
+/// failed, and so has the folder where it is told that there is none.
 pub fn scan<R: Files + AllocGlobal + Clone + Drop, W: Watcher>(
-    rt: &R,
     alloc: Global,
-    folder: &str,
+    disk: &mut SystemDisk<'_, R>,
     rate: &Rate,
     watcher: &mut W,
 ) -> Result<Scanned, ScanFault>
@@ -54,8 +58,10 @@ where
     ensures found { IfOk result (λ scanned. All IsFound scanned.songs.items) }
     ensures few { IfOk result (λ scanned. length scanned.songs.items ≤ 100000) }
     ensures refused_order { IfOk result (λ scanned. RefusedInOrder scanned.refused.items) }
+    ensures unread { GivenFailed disk.old.call_counts disk.new.call_counts result }
+    ensures no_folder { IsErrOf result ScanFault.NoFolder → HasFailed disk.old.call_counts disk.new.call_counts }
 {
-    scan_disk(alloc, &mut SystemDisk::new(rt, folder), rate, watcher)
+    scan_disk(alloc, disk, rate, watcher)
 }
 
 /// Scans a disk, as [`scan`] does a folder of the system.
@@ -73,6 +79,9 @@ pub fn scan_disk<D: Disk, W: Watcher>(
     ensures scan { OnTree (D.known_tree disk.old) (λ tree. IfOk result (IsScanOf tree rate.now)) }
     // A fault names what the disk has: no whole listing of its own folder, or more than the limits.
     ensures cause { OnTree (D.known_tree disk.old) (λ tree. IfErr result (Explains tree rate.now)) }
+    // Each file that is called unreadable has a call of its own that failed.
+    ensures unread { GivenFailed (D.call_counts disk.old) (D.call_counts disk.new) result }
+    ensures no_folder { IsErrOf result ScanFault.NoFolder → HasFailed (D.call_counts disk.old) (D.call_counts disk.new) }
 {
     let mut found = Found::new(alloc)?;
     if !list(alloc, disk, "", rate, &mut found, watcher)? {
@@ -89,6 +98,7 @@ fn in_order(found: Found) -> Scanned
     ensures refused_order { RefusedInOrder result.refused.items }
     ensures songs { OnceEach (λ song. song.uri) found.songs.items result.songs.items }
     ensures refused { OnceEach (λ file. file.uri) found.refused.items result.refused.items }
+    ensures unread { unread_in result.refused.items ≤ unread_in found.refused.items }
 {
     let Found {
         mut songs,
@@ -111,6 +121,8 @@ fn list_below<D: Disk, W: Watcher>(
     ensures all { OnTree (D.known_tree disk.old) (λ tree. OnOk result (ListsAll tree rate.now found.old found.new)) }
     ensures over { OnTree (D.known_tree disk.old) (λ tree. OnTooMany result (RestIsTooLarge tree rate.now found.old)) }
     ensures cause { IfErr result (IsLimit found.new) }
+    ensures unread { FoundFailed (D.call_counts disk.old) (D.call_counts disk.new) found.old found.new result }
+    ensures calm { NoFewer (D.call_counts disk.old) (D.call_counts disk.new) }
 {
     let mut at = 1;
     loop {
@@ -136,6 +148,9 @@ fn list<D: Disk, W: Watcher>(
     ensures whole { OnTree (D.known_tree disk.old) (λ tree. IfOk result (λ all. all ≡ is_whole (tree.told uri.now))) }
     ensures over { OverByFolder (D.known_tree disk.old) rate.now uri.now found.old result }
     ensures cause { IfErr result (IsLimit found.new) }
+    ensures short { IfOk result (λ all. all ≡ false → HasFailed (D.call_counts disk.old) (D.call_counts disk.new)) }
+    ensures unread { FoundFailed (D.call_counts disk.old) (D.call_counts disk.new) found.old found.new result }
+    ensures calm { NoFewer (D.call_counts disk.old) (D.call_counts disk.new) }
 {
     if !disk.open_folder(alloc, uri)? {
         return Ok(false);
@@ -157,6 +172,9 @@ fn list_open<D: Disk, W: Watcher>(
     ensures whole { OnTree (D.known_tree disk.old) (λ tree. IfOk result (λ all. all ≡ never_breaks (D.left disk.old))) }
     ensures over { OverByTold (D.known_tree disk.old) rate.now uri.now (D.left disk.old) found.old result }
     ensures cause { IfErr result (IsLimit found.new) }
+    ensures short { IfOk result (λ all. all ≡ false → HasFailed (D.call_counts disk.old) (D.call_counts disk.new)) }
+    ensures unread { FoundFailed (D.call_counts disk.old) (D.call_counts disk.new) found.old found.new result }
+    ensures calm { NoFewer (D.call_counts disk.old) (D.call_counts disk.new) }
 {
     loop {
         let Some(entry) = disk.next_entry(alloc)? else {
@@ -174,25 +192,29 @@ fn list_open<D: Disk, W: Watcher>(
 /// Does with a name of a folder what is to be done with it.
 fn look_at<D: Disk>(
     alloc: Global,
-    disk: &D,
+    disk: &mut D,
     folder: &str,
     name: &str,
     rate: &Rate,
     found: &mut Found,
 ) -> Result<(), ScanFault>
-    ensures keeps { KeepsName (D.known_tree disk.now) rate.now folder.now name.now found.old found.new result }
-    ensures over { OverByName (D.known_tree disk.now) rate.now folder.now name.now found.old result }
+    ensures stays { D.known_tree disk.new ≡ D.known_tree disk.old }
+    ensures left { D.left disk.new ≡ D.left disk.old }
+    ensures keeps { KeepsName (D.known_tree disk.old) rate.now folder.now name.now found.old found.new result }
+    ensures over { OverByName (D.known_tree disk.old) rate.now folder.now name.now found.old result }
     ensures names { found.new.names ≡ found.old.names }
     ensures cause { IfErr result (IsLimit found.new) }
+    ensures unread { FoundFailed (D.call_counts disk.old) (D.call_counts disk.new) found.old found.new result }
+    ensures calm { NoFewer (D.call_counts disk.old) (D.call_counts disk.new) }
 {
     let uri = joined(alloc, folder, name)?;
-    let seen = disk.look(alloc, uri.as_str())?;
-    match step_of(uri.as_str(), seen.kind) {
+    let kind = disk.look(alloc, uri.as_str())?;
+    match step_of(uri.as_str(), kind) {
         Step::Skip => Ok(()),
         Step::Descend => found.descend(uri),
         Step::Refuse => found.refuse(uri, Refusal::ReadFault),
         Step::Read => {
-            let content = disk.read(alloc, uri.as_str(), seen.len, rate)?;
+            let content = disk.read(alloc, uri.as_str(), rate)?;
             keep(uri, content, found)
         }
     }

@@ -5,7 +5,7 @@
 use command_line::{LineFault, Program, command_line};
 use counted_devices::Counting;
 use daemon_script::{ScriptFault, run_script};
-use library_scan::{ScanFault, scan};
+use library_scan::{ScanFault, SystemDisk, scan};
 use scan_report::{Progress, report_of};
 use shelf_file::{Purpose, serve_by_file};
 use song_db::Rate;
@@ -85,7 +85,8 @@ fn run_input(rt: &HostRuntime) -> io::Result<ExitCode> {
 /// Prints the songs of a folder, and on standard error why other files are none.
 fn print_scan(rt: &HostRuntime, folder: &str, rate: &Rate) -> io::Result<ExitCode> {
     let mut progress = Progress::new(rt, rt.stderr().is_terminal());
-    let found = scan(rt, rt.alloc(), folder, rate, &mut progress);
+    let mut disk = SystemDisk::new(rt, folder);
+    let found = scan(rt.alloc(), &mut disk, rate, &mut progress);
     progress.end();
     let scanned = match found {
         Ok(scanned) => scanned,

@@ -1,5 +1,5 @@
 //! How far a scan is.
-ghost use Rattle.std.specs.Prelude.{◌≡◌};
+ghost use Rattle.std.specs.Prelude.{◌≡◌, ◌<◌, ◌↔◌, IsTrue};
 ghost use Rattle.scan_report.specs.Speeds.{per_second as per_second_lem};
 
 use library_scan::Watcher;
@@ -32,9 +32,16 @@ impl<'a, R: Clock + Eprint> Progress<'a, R> {
 
     /// Clears what it wrote.
     pub fn end(self) {
-        if self.fifths > 0 {
+        if self.has_told() {
             let _written = eprint!(self.rt; "\r\x1b[K");
         }
+    }
+
+    /// Whether a line of it stands on the terminal.
+    fn has_told(&self) -> bool
+        ensures { IsTrue result ↔ (0 < self.now.fifths) }
+    {
+        self.fifths > 0
     }
 }
 

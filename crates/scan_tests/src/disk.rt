@@ -1,7 +1,7 @@
 //! Folders that are made on the disk, and scanned.
 use crate::helpers::{add_scan, size_of};
 use counted_devices::ReadSeek;
-use library_scan::{ScanFault, Scanned, Unwatched, Watcher, scan};
+use library_scan::{ScanFault, Scanned, SystemDisk, Unwatched, Watcher, scan};
 use song_db::Rate;
 use std::alloc::{AllocError, Global};
 use std::os::unix::fs::symlink;
@@ -97,7 +97,8 @@ where
     R::File: ReadSeek,
 {
     let rate = Rate::new(frames).unwrap_or(Rate::lowest());
-    scan(rt, rt.alloc(), folder, &rate, &mut Unwatched)
+    let mut disk = SystemDisk::new(rt, folder);
+    scan(rt.alloc(), &mut disk, &rate, &mut Unwatched)
 }
 
 fn add_scanned<R: Files + AllocGlobal + Clone + Drop>(
@@ -128,7 +129,8 @@ where
     R::File: ReadSeek,
 {
     let mut count = Count(0);
-    let _scanned = scan(rt, rt.alloc(), folder, &Rate::lowest(), &mut count);
+    let mut disk = SystemDisk::new(rt, folder);
+    let _scanned = scan(rt.alloc(), &mut disk, &Rate::lowest(), &mut count);
     count.0
 }
 

@@ -12,6 +12,8 @@ mod limits;
 #[cfg(test)]
 mod odd;
 #[cfg(test)]
+mod progress;
+#[cfg(test)]
 mod questions;
 #[cfg(test)]
 mod reports;

@@ -1,8 +1,8 @@
 //! A disk of so many songs, and a file whose reads fail.
 use crate::disk::WAVE;
 use crate::helpers::size_of;
-use counted_devices::{FailAt, FailurePoint};
-use library_scan::{Content, Disk, Entry, Kind, Seen, Unwatched, content_of, scan_disk};
+use counted_devices::{FailAt, Failing, FailurePoint};
+use library_scan::{Content, Disk, Entry, Kind, Unwatched, content_of, scan_disk};
 use mpd_text::Text;
 use song_db::Rate;
 use std::alloc::{AllocError, Global};
@@ -13,6 +13,25 @@ use wanted::{Told, wants};
 #[derive(Drop)]
 struct Many {
     left: u32,
+}
+
+// It never fails.
+impl Failing for Many {
+    ghost use Rattle.counted_devices.specs.CallCounts.{no_calls};
+
+    ghost call_counts = { λ _. no_calls };
+
+    fn failures(&self) -> u64 {
+        0
+    }
+
+    fn blocked(&self) -> u64 {
+        0
+    }
+
+    fn calls(&self) -> u64 {
+        0
+    }
 }
 
 impl Disk for Many {
@@ -35,20 +54,11 @@ impl Disk for Many {
         Ok(Some(Entry::Name(Text::of(format!(in alloc; "{number}.wav")?))))
     }
 
-    fn look(&self, _alloc: Global, _uri: &str) -> Result<Seen, AllocError> {
-        Ok(Seen {
-            kind: Kind::File,
-            len: 1,
-        })
+    fn look(&mut self, _alloc: Global, _uri: &str) -> Result<Kind, AllocError> {
+        Ok(Kind::File)
     }
 
-    fn read(
-        &self,
-        alloc: Global,
-        _uri: &str,
-        _len: u64,
-        _rate: &Rate,
-    ) -> Result<Content, AllocError> {
+    fn read(&mut self, alloc: Global, _uri: &str, _rate: &Rate) -> Result<Content, AllocError> {
         Ok(Content::Song(Vec::new(alloc), 1))
     }
 }

@@ -3,10 +3,10 @@
 use crate::disk::WAVE;
 use crate::helpers::add_scan;
 use counted_devices::{FailAt, FailurePoint, ReadSeek};
-use library_scan::{Unwatched, scan};
+use library_scan::{SystemDisk, Unwatched, scan};
 use song_db::Rate;
 use std::alloc::{AllocError, Allocator, Global};
-use std::fs::{Metadata, OpenOptions};
+use std::fs::{Metadata, OpenFile, OpenOptions};
 use std::io::ErrorKind;
 use std::rt::Files;
 use std::test::Fail;
@@ -57,7 +57,6 @@ impl<R: Files> Files for Odd<'_, R> {
     fn metadata(&self, path: &str) -> io::Result<Metadata> {
         match path {
             "odd/broken" | "odd/gone" => Ok(Metadata::of_dir()),
-            "odd/far.wav" => Ok(Metadata::of_file((1 << 32) + 70)),
             _ => Ok(Metadata::of_file(75)),
         }
     }
@@ -103,10 +102,9 @@ where
     R::File: ReadSeek,
 {
     let fake = (Odd { rt, alloc }, alloc);
-    add_scan(
-        told,
-        &scan(&fake, alloc, folder, &Rate::lowest(), &mut Unwatched),
-    );
+    let mut disk = SystemDisk::new(&fake, folder);
+    let scanned = scan(alloc, &mut disk, &Rate::lowest(), &mut Unwatched);
+    add_scan(told, &scanned);
 }
 
 fn told_of_odd<R: Files + Clone + Drop>(rt: &R, alloc: Global) -> Result<String, AllocError>
@@ -126,6 +124,9 @@ where
 {
     fs::write(rt, "odd_near", &WAVE)?;
     fs::write(rt, "odd_far", &far())?;
+    // The rest takes no room on the disk.
+    let far = OpenOptions::new().write(true).open(rt, "odd_far")?;
+    far.set_len((1 << 32) + 70)?;
     let told = told_of_odd(rt, rt.alloc())?;
     fs::remove_file(rt, "odd_near")?;
     fs::remove_file(rt, "odd_far")?;

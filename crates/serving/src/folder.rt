@@ -2,7 +2,9 @@
 use crate::fault::DaemonFault;
 use counted_devices::{Counting, ReadSeek};
 use crew::Scanner;
-use library_scan::{Content, Refusal, Refused, Scanned, Unwatched, Watcher, content_of, scan};
+use library_scan::{
+    Content, Refusal, Refused, Scanned, SystemDisk, Unwatched, Watcher, content_of, scan,
+};
 use scan_report::{Progress, found_text, rate_text};
 use song_db::{Db, Rate, SharedDb};
 use std::alloc::{AllocError, Global};
@@ -40,7 +42,7 @@ fn songs_watched<R: Files + AllocGlobal + Clone + Drop, W: Watcher>(
 where
     R::File: ReadSeek + Drop,
 {
-    match scan(rt, alloc, folder, rate, watcher) {
+    match scan(alloc, &mut SystemDisk::new(rt, folder), rate, watcher) {
         Ok(scanned) => {
             let told = told_of(rt, alloc, folder, &scanned)?;
             match Db::of_songs(alloc, scanned.songs) {
@@ -70,7 +72,8 @@ where
     if scanned.songs.is_empty() {
         if let Some(rate) = rate_of_first(rt, alloc, folder, scanned)? {
             // The scan at that rate says how many files are songs at it.
-            if let Ok(other) = scan(rt, alloc, folder, &rate, &mut Unwatched) {
+            let mut disk = SystemDisk::new(rt, folder);
+            if let Ok(other) = scan(alloc, &mut disk, &rate, &mut Unwatched) {
                 return rate_text(
                     alloc,
                     other.songs.len(),

@@ -1,6 +1,7 @@
-use Rattle.std.proofs.Common.{◌∙◌, ◌<◌, length, rules, arith}
+use Rattle.std.proofs.Common.{◌∙◌, ◌<◌, length, inl, rules, arith}
 use Rattle.std.proofs.lemmas.Option.{slice_get_within}
-use Rattle.library_scan.proofs.Listings.{listed, too_large}
+use Rattle.library_scan.proofs.Blame.{each_on, fewer_on}
+use Rattle.library_scan.proofs.Listings.{listed, too_large, first_listed}
 use Rattle.library_scan.proofs.walk.list_below.Goals as goal
 
 pub returns-in_err-_is_listed-clause-over : goal.returns-in_err-_is_listed-clause-over
@@ -19,4 +20,14 @@ loop-uri-preserved g c = record {
   holds = λ tree known root.
       listed tree c.args.rate.now c.loop-uri.at c.as_str.result.now c.loop-uri.found c.list.new.found (c.loop-uri.invariant.holds tree known root) (search rules)
       (c.in_ok-_is_listed.ensures.adds tree (c.loop-uri.invariant.stays ∙ known));
+  calm = fewer_on _ _ _ c.loop-uri.invariant.calm c.list.ensures.calm;
+  unread = each_on _ _ _ _ _ _ c.loop-uri.invariant.calm c.list.ensures.calm c.loop-uri.invariant.unread c.in_ok-_is_listed.ensures.unread;
+}
+
+pub loop-uri-init : goal.loop-uri-init
+loop-uri-init g c = record {
+  stays = search rules;
+  holds = λ tree known root. first_listed tree c.args.rate.now c.args.found.now root;
+  calm = search (rules, arith);
+  unread = inl (omega arith);
 }
