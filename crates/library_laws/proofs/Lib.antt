@@ -1,0 +1,12 @@
+pub mod Inboxes
+pub mod Delivery
+pub mod OneEntry
+pub mod Shelved
+pub mod Insertion
+pub mod StoredLists
+pub mod ListEdits
+pub mod SetStickers
+pub mod PickedSongs
+pub mod FoundSongs
+pub mod FoundTexts
+pub mod FoundGroups

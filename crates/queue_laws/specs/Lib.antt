@@ -1,0 +1,5 @@
+pub mod Places
+pub mod Queues
+pub mod Edits
+pub mod Options
+pub mod Outputs
