@@ -8,4 +8,5 @@ pub mod Apart
 pub mod Moves
 pub mod Crossings
 pub mod Reports
+pub mod Asking
 pub mod Owing

@@ -27,7 +27,7 @@ use Rattle.player_events.specs.declared.event.Event.{Event}
 use Rattle.player_events.specs.declared.event.Event.TheVariants.{Have, OutputTurn}
 use Rattle.partition.specs.Image.{Image, overview}
 use Rattle.partition.specs.Step.{absent, have, next_image, output_turn, place_at, speaker_in, told, transition}
-use Rattle.partition_laws.specs.Moves.{AreApart, Spot, spot}
+use Rattle.partition_laws.specs.Moves.{AreApart, HasPlaces, IsAt, Spot, spot}
 use Rattle.partition_laws.specs.Reports.{AllAskHere, AsksHere, FeedsNameMoves, IsTold, KeepsOutputs, OpensWithOutputs, TurnsTellMoves}
 use Rattle.partition_laws.proofs.Crossings.{off_at, opens_apart, stays_apart}
 use Rattle.partition_laws.proofs.Moves.{holder_is, set_false}
@@ -242,14 +242,21 @@ pub have_report : (i : Image) (place number frames : ℕ) → (told i (Have plac
 unfolding told
 have_report i place number frames = refl
 
+-- an output of a partition is there, moved as often as is said there
+pub is_at : (i : Image) (place : ℕ) (p : Part) (output : ℕ) → HasPlaces i → part_at place i.parts ≡ Some p → is_output p.outputs output ≡ true
+    → IsAt output i (record { place = place; moves = slice_index_or p.outputs.moves output 0 })
+is_at i place p output places there here =
+    let fs : List Known = (overview i).parts in
+    let at : known_at place fs ≡ Some (known p) = at_known place i.parts ∙ ap (option_map known) there in
+    let held : holding output fs ≡ Some (known p) = holder_is output place (known p) fs places at here in
+    ap (option_map (spot output)) held
+    ∙ (λ z. Some (record { place = found_place i.shared.openings place i.parts p there z; moves = slice_index_or p.outputs.moves output 0 }))
+
 pub feeds_name_moves : FeedsNameMoves
 feeds_name_moves i place number frames feed has e output moves f =
-    let fs : List Known = (overview i).parts in
     let x = feed_is i.shared.library.rate number frames i.shared.ended (part_at place i.parts) feed (sym (have_report i place number frames) ∙ e) in
     let p : Part = x.0 in
     let own = asked_is (slice_index_or p.outputs.asked output false) (is_enabled p.outputs output) (slice_index_or p.outputs.moves output 0) moves
     (fed_is p.outputs output moves (sym (ap (λ (outputs : List (Option ℕ)). slice_index_or outputs output None) x.2) ∙ f)) in
     let here : is_output p.outputs output ≡ true = asks_at place p i.parts has.asked x.1 output own.0 in
-    let at : known_at place fs ≡ Some (known p) = at_known place i.parts ∙ ap (option_map known) x.1 in
-    let held : holding output fs ≡ Some (known p) = holder_is output place (known p) fs has.places at here in
-    ap (option_map (spot output)) held ∙ (λ z. Some (record { place = found_place i.shared.openings place i.parts p x.1 z; moves = own.1 z }))
+    is_at i place p output has.places x.1 here ∙ ap (λ n. Some (record { place = place; moves = n })) own.1

@@ -1,4 +1,5 @@
--- A ring is fed only where it owed no frames when their job was given, over the events of a daemon.
+-- A ring is fed only where it owed no frames when their job was given, and only where its output has been in the
+-- partition since then, over the events of a daemon.
 use Rattle.std.specs.Prelude.{◌≡◌, ℕ, ◌==◌, Bool, true, false, ◌&&◌, List, [], ◌∷◌, Some, slice_index_or}
 use Rattle.player_state.specs.declared.report.Feed.{Feed}
 use Rattle.player_state.specs.declared.report.Report.{Report}
@@ -8,6 +9,7 @@ use Rattle.player_events.specs.declared.event.Event.TheVariants.{Have, Want}
 use Rattle.partition.specs.Image.{Image}
 use Rattle.partition.specs.Step.{next_image, place_at, told}
 use Rattle.partition_laws.specs.Apart.{after_events}
+use Rattle.partition_laws.specs.Moves.{IsAt}
 use Rattle.partition_laws.specs.Reports.{HasOutputs, is_fed_at}
 
 abbrev pub is_job : Report → Bool
@@ -34,3 +36,16 @@ abbrev pub FeedsOweNothing : Type 0
 FeedsOweNothing = (i : Image) (seat place : ℕ) (owes : List Bool) (es : List (ℕ × Event)) → HasOutputs i
     → gives_job place i (Want place owes) ≡ true → GivesNoJob place (next_image seat i (Want place owes)) es
     → FeedsNoneOf owes place (after_events (next_image seat i (Want place owes)) es)
+
+-- the frames of a partition's job are fed only to outputs that were in it at another moment, each of them moved as
+-- often then
+abbrev pub FeedsThoseOf : Image → ℕ → Image → Type 0
+FeedsThoseOf earlier place i = (number frames : ℕ) (feed : Feed) → (told i (Have place number frames)).report ≡ ToFeed (Some feed)
+    → (output moves : ℕ) → is_fed_at feed output ≡ Some moves → IsAt output earlier (record { place = place; moves = moves })
+
+-- A want is given a job. Whatever happens before its frames are decoded, they are fed to no output that came to the
+-- partition since then, be it for the first time or once more: one that comes was moved more often.
+abbrev pub FeedsNoNewcomer : Type 0
+FeedsNoNewcomer = (i : Image) (seat place : ℕ) (owes : List Bool) (es : List (ℕ × Event)) → HasOutputs i
+    → gives_job place i (Want place owes) ≡ true → GivesNoJob place (next_image seat i (Want place owes)) es
+    → FeedsThoseOf i place (after_events (next_image seat i (Want place owes)) es)

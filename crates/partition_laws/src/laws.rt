@@ -1,7 +1,7 @@
 //! Laws of daemons with several partitions. A caller that calls one may use it; each does nothing.
 ghost use Rattle.partition_laws.specs.Apart.{EqualViewsHearTheSame, LeadsToLegal, OpensLegal, OthersMayBeLeftOut, StaysLegal};
 ghost use Rattle.partition_laws.specs.Moves.{MovesRise, MovesTellPlaces, OpensApart, StaysApart};
-ghost use Rattle.partition_laws.specs.Owing.{FeedsOweNothing};
+ghost use Rattle.partition_laws.specs.Owing.{FeedsNoNewcomer, FeedsOweNothing};
 ghost use Rattle.partition_laws.specs.Reports.{FeedsNameMoves, KeepsOutputs, OpensWithOutputs, TurnsTellMoves};
 
 /// A daemon that nothing happened to is legal, and a legal one is so after every event: so each is that some
@@ -47,4 +47,11 @@ pub fn reports_tell_moves()
 /// any.
 pub fn feeds_owe_nothing()
     ensures { FeedsOweNothing }
+{}
+
+/// Whatever happens between a want that is given a job and the have of its frames, these are fed to no output
+/// that came to the partition in between, also where it was there before: each of those that they are fed to was
+/// in it at the want, moved as often as at the have.
+pub fn feeds_no_newcomer()
+    ensures { FeedsNoNewcomer }
 {}

@@ -4,6 +4,6 @@
 mod laws;
 
 pub use laws::{
-    daemons_stay_legal, equal_views_hear_the_same, feeds_owe_nothing, moves_rise,
-    others_may_be_left_out, reports_tell_moves,
+    daemons_stay_legal, equal_views_hear_the_same, feeds_no_newcomer, feeds_owe_nothing,
+    moves_rise, others_may_be_left_out, reports_tell_moves,
 };

@@ -2,7 +2,14 @@
 use crate::session::{session, session_over};
 use command_arguments::Volume;
 use mpd_command::{CommandSet, Name, Request, names};
+use notice_laws::{
+    answers_are_told_of, events_are_passages, lines_are_told_of, messages_are_told_of,
+};
 use partition::{PartitionFault, folds_are_unseen, reads_pending, replays_worlds};
+use partition_laws::{
+    daemons_stay_legal, equal_views_hear_the_same, feeds_no_newcomer, feeds_owe_nothing,
+    moves_rise, others_may_be_left_out, reports_tell_moves,
+};
 use std::alloc::{AllocError, Global};
 use std::test::Fail;
 use wanted::{Told, wants, wants_made};
@@ -358,6 +365,21 @@ fn laws_can_be_called(_rt: HostRuntime) {
     replays_worlds();
     folds_are_unseen();
     reads_pending();
+    events_are_passages();
+    answers_are_told_of();
+    lines_are_told_of();
+    messages_are_told_of();
+}
+
+#[test]
+fn laws_of_partitions_can_be_called(_rt: HostRuntime) {
+    daemons_stay_legal();
+    equal_views_hear_the_same();
+    others_may_be_left_out();
+    moves_rise();
+    reports_tell_moves();
+    feeds_owe_nothing();
+    feeds_no_newcomer();
 }
 
 /// What a volume is kept as; 1,000 where there is none.

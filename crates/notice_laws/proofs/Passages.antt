@@ -1,0 +1,104 @@
+-- Each event is a passage for each client that stays where it is.
+use Rattle.std.proofs.Common.{◌≡◌, ◌≢◌, ℕ, ◌==◌, Bool, true, false, List, Option, Some, None, map, refl, ap, sym, ◌∙◌, subst, if◌then◌else◌}
+use Rattle.std.specs.Prelude.{option_map}
+use Rattle.std.proofs.lemmas.Bool.{eq-eqb, eqb-true}
+use Rattle.song_queue.specs.State.{QueueState}
+use Rattle.player_core.specs.declared.state.Job.{Job}
+use Rattle.player_state.specs.Effects.{ByStep, Change, asked_for, change_of, outputs_after, part_after, queue_after, wanted}
+use Rattle.player_state.specs.Outputs.{OutputsData, brought, is_output, released, turned}
+use Rattle.player_state.specs.declared.effect.AudioStep.TheVariants.{Settles, Wants}
+use Rattle.player_state.specs.declared.effect.CommandEffect.TheVariants.{Switches}
+use Rattle.player_state.specs.declared.effect.Effect.{Effect}
+use Rattle.player_state.specs.declared.effect.Effect.TheVariants.{ByAudio, ByCommand}
+use Rattle.player_state.specs.declared.outputs.Carried.{Carried}
+use Rattle.player_state.specs.declared.state.Part.{Part}
+use Rattle.parts.specs.Parts.{Known, carried_in, changed, known, moved_output, once_more, outputs_moved, part_at, parts_moved}
+use Rattle.parts.specs.declared.crossing.Crossing.{Crossing}
+use Rattle.parts.specs.declared.crossing.Crossing.TheVariants as crossing
+use Rattle.parts.proofs.Looks.{other_changed, own_changed, own_moved, part_moved}
+use Rattle.notice_laws.specs.Passages.{EventsArePassages}
+
+-- the name of a partition, the names of all outputs, and its queue
+pub record IsAlike (p : Part) (q : QueueState) (later : Part) : Type 0 where
+  pub name : later.name ≡ p.name
+  pub outputs : later.outputs.names ≡ p.outputs.names
+  pub queue : later.queue ≡ q
+
+abbrev IsAs : Part → Part → Type 0
+IsAs p later = IsAlike p p.queue later
+
+as_it_is : (p : Part) → IsAs p p
+as_it_is p = record { name = refl; outputs = refl; queue = refl }
+
+only : (p later : Part) → Some p ≡ Some later → IsAs p later
+only p later e = (let same : p ≡ later = cc in subst (λ (x : Part). IsAs p x) same (as_it_is p))
+
+names_moved : (output : ℕ) (comes : Bool) (c : Carried) (outputs : OutputsData) → (outputs_moved output comes c outputs).names ≡ outputs.names
+names_moved output true c outputs = elim (is_output outputs output) as (λ b. (if b then outputs else brought outputs output (once_more c)).names ≡ outputs.names) [ true ↦ refl | false ↦ refl ]
+names_moved output false c outputs = elim (is_output outputs output) as (λ b. (if b then released outputs output else outputs).names ≡ outputs.names) [ true ↦ refl | false ↦ refl ]
+
+moved_as : (output to : ℕ) (c : Option Carried) (p : Part) → IsAs p (moved_output output to c p)
+moved_as output to None p = as_it_is p
+moved_as output to (Some c) p = record { name = refl; outputs = names_moved output (p.place == to) c p.outputs; queue = refl }
+
+crossed : (place : ℕ) (c : Crossing) (fs : List Known) (p later : Part) → own_moved place c fs (Some p) ≡ Some later → IsAs p later
+crossed place crossing.Stays fs p later e = only p later e
+crossed place (crossing.Opens new) fs p later e = only p later e
+crossed place (crossing.Closes gone) fs p later e =
+    elim (gone == place) as (λ b. (if b then None else Some p) ≡ Some later → IsAs p later) [ true ↦ λ f. cc | false ↦ λ f. only p later f ] e
+crossed place (crossing.Brings output to) fs p later e =
+    let c : Option Carried = carried_in output to fs in
+    let same : moved_output output to c p ≡ later = cc in
+    subst (λ (x : Part). IsAs p x) same (moved_as output to c p)
+
+names_asked : (job : Option Job) (outputs : OutputsData) → (asked_for job outputs).names ≡ outputs.names
+names_asked None outputs = refl
+names_asked (Some job) outputs = refl
+
+names_turned : (output : ℕ) (failed : Bool) (outputs : OutputsData) → (turned outputs output failed).names ≡ outputs.names
+names_turned output true outputs = refl
+names_turned output false outputs = refl
+
+names_after : (rate : ℕ) (p : Part) (effect : Effect) → (outputs_after rate p effect).names ≡ p.outputs.names
+names_after rate p (ByCommand (Switches output on)) = refl
+names_after rate p (ByAudio (Wants owes)) = names_asked (wanted rate p owes).job p.outputs
+names_after rate p (ByAudio (Settles output written discarded failed)) = names_turned output failed p.outputs
+names_after rate p _ = refl
+
+module _ (rate place : ℕ) (effect : Effect) (c : Crossing) (parts : List Part) (own later : Part) where
+  abbrev after : List Part
+  after = changed rate place effect parts
+
+  abbrev change : Bool → Change
+  change here = if here then change_of rate own effect else ByStep None
+
+  abbrev IsLeft : Bool → Type 0
+  IsLeft here = IsAlike own (queue_after own.queue (change here)) later
+
+  left_here : part_at place parts ≡ Some own → part_at place (parts_moved c after) ≡ Some later → IsLeft true
+  left_here e f =
+      let there : part_at place after ≡ Some (part_after rate own effect) = own_changed place rate effect parts ∙ ap (option_map (λ (p : Part). part_after rate p effect)) e in
+      let by = crossed place c (map known after) (part_after rate own effect) later (sym (part_moved place c after ∙ ap (own_moved place c (map known after)) there) ∙ f) in
+      record { name = by.name; outputs = by.outputs ∙ names_after rate own effect; queue = by.queue }
+
+  left_elsewhere : (at : ℕ) → place ≢ at → part_at at parts ≡ Some own → part_at at (parts_moved c after) ≡ Some later → IsLeft false
+  left_elsewhere at apart e f =
+      let there : part_at at after ≡ Some own = other_changed at rate place effect parts apart ∙ e in
+      let by = crossed at c (map known after) own later (sym (part_moved at c after ∙ ap (own_moved at c (map known after)) there) ∙ f) in
+      record { name = by.name; outputs = by.outputs; queue = by.queue }
+
+  pub left : (at : ℕ) → part_at at parts ≡ Some own → part_at at (parts_moved c after) ≡ Some later → IsLeft (at == place)
+  left at e f =
+      let cases : (b : Bool) → (at == place) ≡ b → IsLeft b =
+      λ b. elim b as (λ b. (at == place) ≡ b → IsLeft b) [
+        | true ↦ λ t.
+            let same : at ≡ place = eqb-true at place t in
+            left_here (ap (λ n. part_at n parts) (sym same) ∙ e) (ap (λ n. part_at n (parts_moved c after)) (sym same) ∙ f)
+        | false ↦ λ t. left_elsewhere at (λ same. (let clash : true ≡ false = sym (eq-eqb at place (sym same)) ∙ t in cc)) e f
+      ] in
+      cases (at == place) refl
+
+pub events_are_passages : EventsArePassages
+events_are_passages client place t parts library own later e f =
+    let by = left library.rate place t.effect t.crossing parts own later client.place e f in
+    record { own = e; later = f; name = by.name; outputs = by.outputs; queue = by.queue }

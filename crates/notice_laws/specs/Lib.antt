@@ -1,0 +1,4 @@
+pub mod Passages
+pub mod Tellers
+pub mod Lines
+pub mod Told
