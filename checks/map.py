@@ -24,7 +24,7 @@ TESTS = re.compile(r'_tests$|^(?:worked_rows|house_rooms|wanted)$')
 # the rooms, the highest first
 ROOMS = [
     ('the program', 'music_daemon shelf_file serving patience state_laws kept_state scan_report settings command_line'),
-    ('clients', 'mpd_server mpd_session mpd_answers'),
+    ('clients', 'mpd_server server_rounds mpd_session mpd_answers'),
     ("the house's threads", 'crew crew_steps'),
     ('the house', 'house held_player counted_player'),
     ('scripts', 'daemon_script script_reports script_lines'),

@@ -2,7 +2,6 @@
 #![tactic(auto)]
 
 mod connection;
-mod inbox;
 mod slot;
 mod sockets;
 mod waking;

@@ -8,81 +8,23 @@ use mio::{Interest, Registry, Token};
 use mpd_answers::Asker;
 use mpd_command::CommandSet;
 use mpd_session::Session;
+use server_rounds::{Arrival, Turn};
 use shelf::Shelf;
 use std::alloc::Global;
 use std::sync::Wait;
-use std::time::Clock;
 
 /// A slot for one client at a time, which has the number of the slot.
 #[derive(Drop)]
 pub(crate) struct Slot {
     client: u32,
-    tenant: Tenant,
-}
-
-/// Who has a slot.
-#[derive(Drop)]
-enum Tenant {
-    Nobody,
-    Client(Connection),
-    /// A client that is gone, of which the player was not told yet, for want of memory.
-    Gone,
+    connection: Option<Connection>,
 }
 
 impl Slot {
     pub(crate) fn new(client: u32) -> Slot {
         Slot {
             client,
-            tenant: Tenant::Nobody,
-        }
-    }
-
-    pub(crate) fn is_free(&self) -> bool {
-        matches!(&self.tenant, Tenant::Nobody)
-    }
-
-    /// The system tells of its client's socket; whether the peer ends.
-    pub(crate) fn call(&mut self, is_ending: bool) {
-        if let Tenant::Client(connection) = &mut self.tenant {
-            connection.call(is_ending);
-        }
-    }
-
-    /// Whether there is something to do at once.
-    pub(crate) fn is_ready(&self) -> bool {
-        match &self.tenant {
-            Tenant::Client(connection) => connection.is_ready(),
-            Tenant::Nobody | Tenant::Gone => false,
-        }
-    }
-
-    /// Whether something is tried again that was not done for want of memory.
-    pub(crate) fn is_starved(&self) -> bool {
-        match &self.tenant {
-            Tenant::Client(connection) => connection.is_starved(),
-            Tenant::Gone => true,
-            Tenant::Nobody => false,
-        }
-    }
-
-    /// Whether its client is closed, and did not read its last answers yet.
-    pub(crate) fn is_leaving(&self) -> bool {
-        match &self.tenant {
-            Tenant::Client(connection) => connection.is_leaving(),
-            Tenant::Nobody | Tenant::Gone => false,
-        }
-    }
-
-    /// Whether its client is one of these and waits to be told something.
-    pub(crate) fn is_addressed(&self, clients: &[u32]) -> bool {
-        self.may_wait() && clients.contains(&self.client)
-    }
-
-    /// Whether its client may have to be told something.
-    pub(crate) fn may_wait(&self) -> bool {
-        match &self.tenant {
-            Tenant::Client(connection) => connection.may_wait(),
-            Tenant::Nobody | Tenant::Gone => false,
+            connection: None,
         }
     }
 
@@ -96,7 +38,7 @@ impl Slot {
         registry: &Registry,
         stream: TcpStream,
         commands: CommandSet,
-    ) {
+    ) -> Arrival {
         let mut stream = stream;
         let interest = Interest::READABLE | Interest::WRITABLE;
         // Answers are small and are waited for, so none waits for an acknowledgement. Where this fails they
@@ -106,60 +48,60 @@ impl Slot {
             .register(&mut stream, Token(self.client as usize), interest)
             .is_err()
         {
-            return;
+            return Arrival::Refused;
         }
         let Ok(told) = house.notice(rt, seat, News::Comes(self.client)) else {
-            return;
+            return Arrival::Refused;
         };
         if told.reply().next().closes() {
-            return;
+            return Arrival::Refused;
         }
         let asker = Asker {
             client: self.client,
             commands,
         };
-        let tenant = match Session::new(alloc, asker, told.reply()) {
-            Ok(session) => Tenant::Client(Connection::new(stream, session)),
-            Err(_) => Tenant::Gone,
-        };
-        self.let_to(tenant);
+        match Session::new(alloc, asker, told.reply()) {
+            Ok(session) => {
+                self.let_to(Some(Connection::new(stream, session)));
+                Arrival::Greeted
+            }
+            Err(_) => Arrival::Lost,
+        }
     }
 
     /// Gives the slot to another. It is a function of its own so that the proofs of others do not go through
     /// all that a client has.
-    fn let_to(&mut self, tenant: Tenant) {
-        self.tenant = tenant;
+    fn let_to(&mut self, connection: Option<Connection>) {
+        self.connection = connection;
     }
 
-    /// Gives its client a turn, or tells the player that it is gone. True where the client ends the daemon.
-    pub(crate) fn visit<L: Ledgers, S: Shelf, R: Wait + Clock>(
+    /// Closes the socket of a client that is gone.
+    pub(crate) fn let_go(&mut self) {
+        self.let_to(None);
+    }
+
+    /// Gives its client a turn, if one is there, and says what it came to.
+    pub(crate) fn turn<L: Ledgers, S: Shelf, R: Wait>(
         &mut self,
         rt: &R,
         house: &House<L>,
         seat: &mut Seat<L>,
         shelf: &mut S,
+        may_read: bool,
+    ) -> Option<Turn> {
+        match &mut self.connection {
+            Some(connection) => Some(connection.turn(rt, house, seat, shelf, may_read)),
+            None => None,
+        }
+    }
+
+    /// Tells the player that its client is gone. False where there was no memory for that.
+    pub(crate) fn tell<L: Ledgers, R: Wait>(
+        &self,
+        rt: &R,
+        house: &House<L>,
+        seat: &mut Seat<L>,
     ) -> bool {
-        let next = match &mut self.tenant {
-            Tenant::Nobody => return false,
-            Tenant::Client(connection) => {
-                connection.turn(rt, self.client, house, seat, shelf);
-                if connection.has_killed() || !connection.is_over() {
-                    return connection.has_killed();
-                }
-                if connection.is_known() {
-                    Tenant::Nobody
-                } else {
-                    Tenant::Gone
-                }
-            }
-            Tenant::Gone => {
-                if house.notice(rt, seat, News::Goes(self.client)).is_err() {
-                    return false;
-                }
-                Tenant::Nobody
-            }
-        };
-        self.let_to(next);
-        false
+        house.notice(rt, seat, News::Goes(self.client)).is_ok()
     }
 }

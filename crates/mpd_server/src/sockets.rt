@@ -1,4 +1,6 @@
 //! The loop over the sockets.
+ghost use Rattle.std.specs.Prelude.{◌<◌};
+
 use crate::slot::Slot;
 use counted_player::{Ledgers, Seat};
 use house::House;
@@ -6,23 +8,18 @@ use mio::net::{TcpListener, TcpStream};
 use mio::{Events, Interest, Poll, Token, Waker};
 use mpd_command::CommandSet;
 use partition::MAX_CLIENTS;
+use server_rounds::{Rounds, Step};
 use shelf::Shelf;
 use std::alloc::{AllocError, Global};
 use std::io::ErrorKind;
 use std::net::{Net, SocketAddr};
 use std::sync::Wait;
-use std::time::{Clock, Duration};
+use std::time::{Clock, Duration, Instant};
 
-/// The most clients that are let in between two rounds.
-const MAX_LET_IN: u32 = 64;
-
-/// How long, in milliseconds, the loop sleeps at most while there is something to do of which the system does
-/// not tell.
-const SHORT_SLEEP: u64 = 50;
-
+/// The sockets have these numbers ([`Rounds::hear`]): the clients' are those that they have in the player.
 const LISTENER: Token = Token(0);
 
-/// Behind those of the clients, which are their numbers.
+/// Behind those of the clients.
 const WAKER: Token = Token(65);
 
 /// Why nothing is served.
@@ -52,26 +49,13 @@ pub fn bind<N: Net>(rt: &N, address: &str) -> Result<TcpListener, ServeFault> {
     }
 }
 
-/// Whether a client may wait to be let in.
-#[derive(Clone, Copy, PartialEq, Eq)]
-enum ListenerState {
-    /// None waits.
-    Idle,
-    /// One may wait.
-    Ready,
-    /// One waits that could not be let in, which is tried again.
-    TryLater,
-}
-
 /// The sockets, and the slots of the clients.
 pub struct Server {
     poll: Poll,
     events: Events,
     listener: TcpListener,
-    listener_state: ListenerState,
     slots: Vec<Slot>,
-    /// Whether another thread wakes the loop where a notice waits.
-    is_woken: bool,
+    rounds: Rounds,
 }
 
 // Written out, so that it is proved here once, and not again in each crate that lets a server go.
@@ -81,9 +65,8 @@ impl Drop for Server {
             poll: _,
             events: _,
             listener: _,
-            listener_state: _,
             slots: _,
-            is_woken: _,
+            rounds: _,
         } = self;
     }
 }
@@ -112,9 +95,8 @@ impl Server {
             poll,
             events,
             listener,
-            listener_state: ListenerState::Ready,
             slots,
-            is_woken: false,
+            rounds: Rounds::new(),
         })
     }
 
@@ -123,22 +105,19 @@ impl Server {
         let Ok(waker) = Waker::new(self.poll.registry(), WAKER) else {
             return Err(ServeFault::ListenFault);
         };
-        self.is_woken = true;
+        self.rounds.set_woken(true);
         Ok(waker)
     }
 
     /// The thread that was to wake the loop is not there.
     pub(crate) fn look_itself(&mut self) {
-        self.is_woken = false;
+        self.rounds.set_woken(false);
     }
 
-    /// Serves clients until one of them ends the daemon.
+    /// Serves clients until one of them ends the daemon: what is done next [`Rounds`] says.
     ///
-    /// Each round every client that sent something, or whose socket takes bytes again, has one turn, and what
-    /// others are to be told is handed to them. So the lines of one client cost the others one turn's worth,
-    /// and one that does not read costs them nothing. Between rounds the loop sleeps until the system tells
-    /// of a socket, or a thread wakes it ([`start_waker`](crate::start_waker)); without such a thread, 50 ms
-    /// at most while a client idles.
+    /// Between rounds the loop sleeps until the system tells of a socket, or a thread wakes it
+    /// ([`start_waker`](crate::start_waker)); without such a thread, 50 ms at most while a client idles.
     pub fn serve<L: Ledgers, S: Shelf, R: Wait + Clock>(
         &mut self,
         rt: &R,
@@ -149,50 +128,33 @@ impl Server {
         commands: CommandSet,
     ) -> Result<(), ServeFault> {
         for _ in rt.forever() {
-            self.sleep()?;
-            self.let_all_in(rt, alloc, house, seat, commands);
-            if self.visit_all(rt, alloc, house, seat, shelf) {
-                break;
+            match self.rounds.next_step() {
+                Step::Sleep(most) => self.sleep(most)?,
+                Step::LetIn => self.let_in(rt, alloc, house, seat, commands),
+                Step::Visit(slot) => self.visit(rt, house, seat, shelf, slot),
+                Step::Ask => self.ask(rt, alloc, house),
+                Step::End => break,
             }
         }
         Ok(())
     }
 
-    /// Sleeps until the system tells of a socket, and marks its client.
-    fn sleep(&mut self) -> Result<(), ServeFault> {
-        let most = self.longest_sleep();
+    /// Sleeps until the system tells of a socket, so many milliseconds at most.
+    fn sleep(&mut self, most: Option<u64>) -> Result<(), ServeFault> {
+        let most = most.map(Duration::from_millis);
         if self.poll.poll(&mut self.events, most).is_err() {
             return Err(ServeFault::ListenFault);
         }
         for event in &self.events {
             let Token(number) = event.token();
-            if number == 0 {
-                self.listener_state = ListenerState::Ready;
-            } else if let Some(slot) = self.slots.get_mut(number - 1) {
-                slot.call(event.is_read_closed() || event.is_error());
-            }
+            self.rounds
+                .hear(number, event.is_read_closed() || event.is_error());
         }
         Ok(())
     }
 
-    /// How long the loop may sleep; `None` is until the system tells of a socket.
-    fn longest_sleep(&self) -> Option<Duration> {
-        if self.listener_state == ListenerState::Ready
-            || self.slots.iter().any(|slot| slot.is_ready())
-        {
-            return Some(Duration::from_millis(0));
-        }
-        let looks = !self.is_woken;
-        if self.listener_state == ListenerState::TryLater
-            || self.slots.iter().any(|slot| is_looked_at(slot, looks))
-        {
-            return Some(Duration::from_millis(SHORT_SLEEP));
-        }
-        None
-    }
-
-    /// Lets in the clients that wait at the listener.
-    fn let_all_in<L: Ledgers, R: Wait>(
+    /// Lets in a client that waits at the listener.
+    fn let_in<L: Ledgers, R: Wait>(
         &mut self,
         rt: &R,
         alloc: Global,
@@ -200,22 +162,16 @@ impl Server {
         seat: &mut Seat<L>,
         commands: CommandSet,
     ) {
-        if self.listener_state == ListenerState::Idle {
-            return;
-        }
-        for _ in 0..MAX_LET_IN {
-            match self.listener.accept() {
-                Ok((stream, _)) => self.let_in(rt, alloc, house, seat, stream, commands),
-                Err(fault) => {
-                    self.listener_state = state_after(fault.kind());
-                    return;
-                }
-            }
+        match self.listener.accept() {
+            Ok((stream, _)) => self.take_in(rt, alloc, house, seat, stream, commands),
+            Err(fault) => self
+                .rounds
+                .nobody_came(fault.kind() == ErrorKind::WouldBlock),
         }
     }
 
-    /// Lets in a client; one that finds no slot is closed without a greeting.
-    fn let_in<L: Ledgers, R: Wait>(
+    /// Gives a client a slot; one that finds none is closed without a greeting.
+    fn take_in<L: Ledgers, R: Wait>(
         &mut self,
         rt: &R,
         alloc: Global,
@@ -224,53 +180,46 @@ impl Server {
         stream: TcpStream,
         commands: CommandSet,
     ) {
-        let registry = self.poll.registry();
-        if let Some(slot) = self.slots.iter_mut().find(|slot| slot.is_free()) {
-            slot.take_in(rt, alloc, house, seat, registry, stream, commands);
-        }
-    }
-
-    /// Gives each client a turn for which there is something to do, and then, where one idles, hands out what
-    /// the others are to be told. True where a client ends the daemon.
-    fn visit_all<L: Ledgers, S: Shelf, R: Wait + Clock>(
-        &mut self,
-        rt: &R,
-        alloc: Global,
-        house: &House<L>,
-        seat: &mut Seat<L>,
-        shelf: &mut S,
-    ) -> bool {
-        for slot in &mut self.slots {
-            if has_turn(slot) && slot.visit(rt, house, seat, shelf) {
-                return true;
-            }
-        }
-        self.slots.iter().any(|slot| slot.may_wait())
-            && self.tell_addressees(rt, alloc, house, seat, shelf)
-    }
-
-    /// Gives each client a turn for which a notice waits. True where a client ends the daemon.
-    fn tell_addressees<L: Ledgers, S: Shelf, R: Wait + Clock>(
-        &mut self,
-        rt: &R,
-        alloc: Global,
-        house: &House<L>,
-        seat: &mut Seat<L>,
-        shelf: &mut S,
-    ) -> bool {
-        // Without memory for this, each is told when the loop looks again.
-        let Ok(clients) = house.addressees(rt, alloc) else {
-            return false;
+        let Some(number) = self.rounds.free_place() else {
+            return;
         };
-        for slot in &mut self.slots {
-            if slot.is_addressed(&clients)
-                && !slot.is_ready()
-                && slot.visit(rt, house, seat, shelf)
-            {
-                return true;
-            }
+        let registry = self.poll.registry();
+        if let Some(slot) = self.slots.get_mut(number) {
+            let arrival = slot.take_in(rt, alloc, house, seat, registry, stream, commands);
+            self.rounds.arrive(number, arrival);
         }
-        false
+    }
+
+    /// Gives a client its turn, and tells the player of it if it is gone.
+    fn visit<L: Ledgers, S: Shelf, R: Wait + Clock>(
+        &mut self,
+        rt: &R,
+        house: &House<L>,
+        seat: &mut Seat<L>,
+        shelf: &mut S,
+        number: usize,
+    )
+        requires { number < 64 }
+    {
+        let Some(slot) = self.slots.get_mut(number) else {
+            return;
+        };
+        if let Some(turn) = slot.turn(rt, house, seat, shelf, self.rounds.may_read(number)) {
+            self.rounds.end_turn(number, turn, Instant::now(rt).ok());
+        }
+        if self.rounds.owes_notice(number) && slot.tell(rt, house, seat) {
+            self.rounds.tell(number);
+        }
+        if !self.rounds.has_socket(number) {
+            slot.let_go();
+        }
+    }
+
+    /// Asks for whom notices wait. Without memory for this, each is told when the loop looks again.
+    fn ask<L: Ledgers, R: Wait>(&mut self, rt: &R, alloc: Global, house: &House<L>) {
+        if let Ok(clients) = house.addressees(rt, alloc) {
+            self.rounds.call(&clients);
+        }
     }
 }
 
@@ -281,24 +230,4 @@ fn free_slots(alloc: Global) -> Result<Vec<Slot>, AllocError> {
         slots.push(Slot::new(client))?;
     }
     Ok(slots)
-}
-
-/// Whether there is something to do for a client, or it is looked whether there is.
-fn has_turn(slot: &Slot) -> bool {
-    slot.is_ready() || slot.is_starved() || slot.is_leaving()
-}
-
-/// Whether a slot is looked at again after a short sleep: something is to be tried again, or its client
-/// leaves, or, where the loop looks for notices, it may have to be told of what no client did.
-fn is_looked_at(slot: &Slot, looks: bool) -> bool {
-    slot.is_starved() || slot.is_leaving() || looks && slot.may_wait()
-}
-
-/// Whether a client may still wait where one could not be let in.
-fn state_after(fault: ErrorKind) -> ListenerState {
-    if fault == ErrorKind::WouldBlock {
-        ListenerState::Idle
-    } else {
-        ListenerState::TryLater
-    }
 }

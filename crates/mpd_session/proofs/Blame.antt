@@ -42,7 +42,7 @@ none_blames (Some Killed) a b none = tt
 none_blames (Some LongLine) a b none = tt
 none_blames (Some LargeList) a b none = tt
 none_blames (Some Unsent) a b none = tt
-none_blames (Some NoPeer) a b none = tt
+none_blames (Some NoPeer) a b none = absurd none
 none_blames (Some ReadFault) a b none = absurd none
 none_blames (Some WriteFault) a b none = absurd none
 

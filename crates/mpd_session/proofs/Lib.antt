@@ -1,4 +1,5 @@
 mod Blame
+mod Reading
 mod Sending
 mod Pends
 mod Runs

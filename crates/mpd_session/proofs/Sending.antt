@@ -1,7 +1,13 @@
 -- Bytes that go from a session to its writer.
-use Rattle.std.proofs.Common.{◌≡◌, ℕ, ◌+◌, List, [], ◌++◌, take, drop, Option, None, Some, true, refl, sym, ap, subst, ◌∙◌, append_assoc, append-nil, arith}
+use Rattle.std.proofs.Common.{◌≡◌, ℕ, ◌+◌, List, [], ◌++◌, take, drop, length, Option, None, Some, Bool, true, false, not, inl, inr, refl, sym, ap, subst, ◌∙◌, append_assoc, append-nil, arith}
+use Rattle.std.specs.Prelude.{◌⊎◌}
 use Rattle.std.specs.Io.KnownBytes.{Appends}
 use Rattle.std.proofs.lemmas.List.{take-append-drop, drop-take, take-take}
+use Rattle.std.proofs.Math.Seq.{drop-length}
+use Rattle.counted_devices.specs.declared.call_counts.CallCounts.{CallCounts}
+use Rattle.mpd_session.specs.declared.end.End.{End}
+use Rattle.mpd_session.specs.declared.end.End.TheVariants.{WriteFault}
+use Rattle.mpd_session.specs.Devices.{WritesOut}
 use Rattle.mpd_answers.specs.Owing.{is_nothing, owed_bytes}
 use Rattle.mpd_answers.specs.declared.owed.Owed.{Owed}
 use Rattle.mpd_answers.specs.declared.owed.Owed.TheVariants as owed
@@ -63,3 +69,22 @@ none_owed (owed.ListFault stop) is = cc
 pub told_eq : (x items owed owed' notice : List ℕ) → x ≡ items ++ owed' → owed' ≡ notice → owed ≡ [] → x ≡ (items ++ owed) ++ notice
 told_eq x items owed owed' notice is same none =
     is ∙ ap (λ (y : List ℕ). items ++ y) same ∙ ap (λ (y : List ℕ). y ++ notice) (sym (append-nil items)) ∙ ap (λ (y : List ℕ). (items ++ y) ++ notice) (sym none)
+
+-- all that is there is written
+pub all_written : (bytes items rest : List ℕ) (n : ℕ) → bytes ≡ items → n ≡ length bytes → rest ≡ drop n items → rest ≡ []
+all_written bytes items rest n same all is = is ∙ ap (λ (m : ℕ). drop m items) (all ∙ ap length same) ∙ drop-length items
+
+-- what is owed for lack of memory is not written
+pub owed_or_written : (owed : Owed) (e : Option End) (items : List ℕ) (w w' : CallCounts) → WritesOut e items w w' → (not (is_nothing owed) ≡ true) ⊎ WritesOut e (items ++ owed_bytes owed) w w'
+owed_or_written owed.Nothing e items w w' h = inr (subst (λ (x : List ℕ). WritesOut e x w w') (sym (append-nil items)) h)
+owed_or_written (owed.Notice notice) e items w w' h = inl refl
+owed_or_written (owed.Line answered) e items w w' h = inl refl
+owed_or_written (owed.List answered unread) e items w w' h = inl refl
+owed_or_written owed.EmptyList e items w w' h = inl refl
+owed_or_written (owed.LineFault name fault) e items w w' h = inl refl
+owed_or_written (owed.ListFault stop) e items w w' h = inl refl
+
+-- an open session's writer did not fail in a write that left it open
+pub sound_or : (failed : Bool) (e : Option End) {X : Type 0} → (failed ≡ true → e ≡ Some WriteFault) → (failed ≡ false → X) → e ≡ None → X
+sound_or true e fails sound none = absurd (let never : None ≡ Some WriteFault = sym none ∙ fails refl in cc)
+sound_or false e fails sound none = sound refl

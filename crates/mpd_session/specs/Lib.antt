@@ -1,1 +1,3 @@
+pub mod Devices
+pub mod Ends
 pub mod Sessions

@@ -1,5 +1,5 @@
 -- What a session holds, and what a turn does.
-use Rattle.std.specs.Prelude.{◌≡◌, ◌≢◌, ◌⊎◌, ◌<◌, ◌≤◌, ◌-◌, ◌^◌, ℕ, List, [], ◌∷◌, ◌++◌, length, map, Option, Some, None, Bool, false, true, not, if◌then◌else◌, Result, Ok, Err}
+use Rattle.std.specs.Prelude.{◌≡◌, ◌≢◌, ◌⊎◌, ◌<◌, ◌≤◌, ◌-◌, ◌^◌, ℕ, List, [], ◌∷◌, ◌++◌, length, map, Option, Some, None, Bool, false, true, not, ◌&&◌, is_none, if◌then◌else◌, Result, Ok, Err}
 use Rattle.std.specs.Io.KnownBytes.{Appends, Consumes}
 use Rattle.mpd_text.specs.Lines.Cut.{Split, split_from}
 use Rattle.mpd_text.specs.Lines.Split.{line_of, views}
@@ -15,6 +15,7 @@ use Rattle.mpd_session.specs.declared.end.Goes.{Goes as TurnAnswer}
 use Rattle.mpd_session.specs.declared.end.Goes.TheVariants.{On, Closed}
 use Rattle.mpd_session.specs.declared.end.SessionFault.{SessionFault}
 use Rattle.mpd_session.specs.declared.end.SessionFault.TheVariants as fault
+use Rattle.mpd_session.specs.Devices.{WritesOut}
 use Rattle.mpd_answers.specs.Notices.{AreNotices}
 use Rattle.mpd_answers.specs.Output.{IsOutput, IsLastOutput}
 use Rattle.mpd_answers.specs.Owing.{is_nothing, owed_bytes}
@@ -68,19 +69,29 @@ abbrev pub is_some_byte : List ℕ → Bool
 is_some_byte [] = false
 is_some_byte (b ∷ bs) = true
 
--- whose session it is, what it holds, and whether some of the unsent bytes are owed: not put after the others
--- yet, for want of memory
+-- whose session it is, what it holds, whether some of the unsent bytes are owed: not put after the others yet, for
+-- lack of memory; and whether its client waits for a notice
 pub record SessionData : Type 0 where
   pub asker : Asker
   pub held : Held
   pub owes : Bool
+  pub waits : Bool
 
 abbrev pub session_of : Conversation → SessionData
-session_of c = record { asker = c.asker; held = held_of c; owes = not (is_nothing c.owed) }
+session_of c = record { asker = c.asker; held = held_of c; owes = not (is_nothing c.owed); waits = c.waits }
 
 -- whether bytes are not written, or are owed
 abbrev pub has_unsent : SessionData → Bool
 has_unsent s = if s.owes then true else is_some_byte s.held.unsent
+
+-- a client that is not closed may have to be told something
+abbrev pub may_wait : SessionData → Bool
+may_wait s = s.waits && is_none s.held.ended
+
+-- All bytes for the client are written, or some are owed for lack of memory, or the writer would have blocked or
+-- failed; but nothing is written where that was given up.
+abbrev pub WritesAll : SessionData → CallCounts → CallCounts → Type 0
+WritesAll s old new = (s.owes ≡ true) ⊎ WritesOut s.held.ended s.held.unsent old new
 
 -- Something is not done that came or is owed: a piece is not split, a line is not run, or bytes are owed.
 abbrev pub HasMore : SessionData → Type 0
@@ -216,10 +227,11 @@ Sends old written new written' =
 abbrev pub HasFailedSince : CallCounts → CallCounts → Type 0
 HasFailedSince old new = (old.failures < new.failures) ⊎ (2 ^ 64 - 1 ≤ new.failures)
 
--- a session is ended for no device's fault
+-- a session is ended for no device's fault, and not by its peer
 abbrev pub BlamesNone : Option End → Type 0
 BlamesNone (Some ReadFault) = ⊥
 BlamesNone (Some WriteFault) = ⊥
+BlamesNone (Some NoPeer) = ⊥
 BlamesNone _ = Unit {0}
 
 -- a session is ended for its reader's fault only where that failed, and for no writer's
@@ -230,6 +242,7 @@ BlamesReader _ old new = Unit {0}
 
 abbrev pub BlamesWriter : Option End → CallCounts → CallCounts → Type 0
 BlamesWriter (Some ReadFault) old new = ⊥
+BlamesWriter (Some NoPeer) old new = ⊥
 BlamesWriter (Some WriteFault) old new = HasFailedSince old new
 BlamesWriter _ old new = Unit {0}
 

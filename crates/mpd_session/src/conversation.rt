@@ -15,10 +15,12 @@ ghost use Rattle.std.specs.Io.KnownBytes.{Appends, Consumes};
 ghost use Rattle.mpd_text.specs.Lines.Split.{views, line_of};
 ghost use Rattle.mpd_text.specs.Lines.Cut.{split_from};
 ghost use Rattle.mpd_answers.specs.Answers.{Answers, caller};
-ghost use Rattle.mpd_answers.specs.Owing.{is_nothing};
+ghost use Rattle.mpd_answers.specs.Owing.{is_nothing, waits_after};
 ghost use Rattle.mpd_answers.specs.Requests.{is_over};
 ghost use Rattle.mpd_session.specs.declared.end.End.{End};
-ghost use Rattle.mpd_session.specs.Sessions.{AnswersClosing, Blames, BlamesNone, BlamesReader, BlamesWriter, HasFailedSince, HasMore, HasPiece, IsWithinLimits, LastsUnlessShort, ReadsAs, Runs, Says, Sends, StopsShort, TellsOf, Turns, coming, end_by as end_by_lem, end_in_list as end_in_list_lem, has_unsent as has_unsent_lem, held_of, opening, pending_of, session_of, turn_answer, EndsByWrite, EndsForLongLine, EndsWithoutBytes, FailsAsItsWriter, HasNoLongLine, HasRunAll, KeepsAllButRead, KeepsAllButSplit, KeepsAllButTold, ReadsInto, SendsOnceClosed};
+ghost use Rattle.counted_devices.specs.CallCounts.{HasFailed};
+ghost use Rattle.mpd_session.specs.Devices.{EndsByReader, NeverFails, ReadEnds, WritesOut, is_given_up as is_given_up_lem};
+ghost use Rattle.mpd_session.specs.Sessions.{AnswersClosing, Blames, BlamesNone, BlamesReader, BlamesWriter, HasFailedSince, HasMore, HasPiece, IsWithinLimits, LastsUnlessShort, ReadsAs, Runs, Says, Sends, StopsShort, TellsOf, Turns, coming, end_by as end_by_lem, end_in_list as end_in_list_lem, has_unsent as has_unsent_lem, held_of, may_wait as may_wait_lem, opening, pending_of, session_of, turn_answer, EndsByWrite, EndsForLongLine, EndsWithoutBytes, FailsAsItsWriter, HasNoLongLine, HasRunAll, KeepsAllButRead, KeepsAllButSplit, KeepsAllButTold, ReadsInto, SendsOnceClosed, WritesAll};
 
 use crate::end::{End, Goes, SessionFault};
 use crate::unsent::Unsent;
@@ -86,6 +88,7 @@ impl Conversation {
         ensures held { IfOk result (λ c. held_of c ≡ opening greeting.now.text) }
         ensures asker { IfOk result (λ c. c.asker ≡ asker) }
         ensures nothing { IfOk result (λ c. is_nothing c.owed ≡ true) }
+        ensures waits { IfOk result (λ c. c.waits ≡ false) }
     {
         Ok(Conversation {
             alloc,
@@ -116,7 +119,9 @@ impl Conversation {
     }
 
     /// Whether its client may wait for a notice.
-    pub(crate) fn may_wait(&self) -> bool {
+    pub(crate) fn may_wait(&self) -> bool
+        ensures { result ≡ may_wait_lem (session_of self.now) }
+    {
         self.waits && self.ended.is_none()
     }
 
@@ -145,6 +150,10 @@ impl Conversation {
         ensures read_fault { result ≡ Err SessionFault.ReadFault → self.new.ended ≡ Some End.ReadFault }
         ensures write_fault { result ≡ Err SessionFault.WriteFault → self.new.ended ≡ Some End.WriteFault }
         ensures blamed { self.old.ended ≡ None → Blames self.new.ended (I.call_counts reader.old) (I.call_counts reader.new) (O.call_counts writer.old) (O.call_counts writer.new) }
+        ensures reader { self.old.ended ≡ None → EndsByReader self.new.ended (I.call_counts reader.old) (I.call_counts reader.new) }
+        ensures unread { (end : End) → self.old.ended ≡ Some end → I.call_counts reader.new ≡ I.call_counts reader.old }
+        ensures sound { self.new.ended ≡ None → NeverFails (O.call_counts writer.old) (O.call_counts writer.new) }
+        ensures writes { (end : End) → self.old.ended ≡ Some end → WritesAll (session_of self.new) (O.call_counts writer.old) (O.call_counts writer.new) }
     {
         if let Some(end) = self.ended {
             let _settled = self.settle();
@@ -178,6 +187,8 @@ impl Conversation {
         ensures all { OnOk result (self.new.ended ≡ None → self.new.lines.items ≡ []) }
         ensures calm { (O.call_counts writer.old).failures ≤ (O.call_counts writer.new).failures }
         ensures blamed { Blames self.new.ended (I.call_counts reader.old) (I.call_counts reader.new) (O.call_counts writer.old) (O.call_counts writer.new) }
+        ensures reader { EndsByReader self.new.ended (I.call_counts reader.old) (I.call_counts reader.new) }
+        ensures sound { self.new.ended ≡ None → NeverFails (O.call_counts writer.old) (O.call_counts writer.new) }
     {
         self.settle()?;
         self.tell(rt, house)?;
@@ -195,6 +206,7 @@ impl Conversation {
         ensures more { OnErr result (HasPiece self.new ⊎ (I.call_counts reader.new ≡ I.call_counts reader.old)) }
         ensures reads { ReadsInto self.old (I.remaining reader.old) self.new (I.remaining reader.new) }
         ensures blamed { BlamesReader self.new.ended (I.call_counts reader.old) (I.call_counts reader.new) }
+        ensures reader { EndsByReader self.new.ended (I.call_counts reader.old) (I.call_counts reader.new) }
     {
         if !self.lines.is_empty() {
             return Ok(());
@@ -211,6 +223,7 @@ impl Conversation {
         ensures unasked { OnErr result (I.call_counts reader.new ≡ I.call_counts reader.old) }
         ensures reads { ReadsInto self.old (I.remaining reader.old) self.new (I.remaining reader.new) }
         ensures blamed { BlamesReader self.new.ended (I.call_counts reader.old) (I.call_counts reader.new) }
+        ensures reader { EndsByReader self.new.ended (I.call_counts reader.old) (I.call_counts reader.new) }
     {
         if !self.piece.is_empty() {
             return Ok(());
@@ -257,6 +270,7 @@ impl Conversation {
         ensures reads { Consumes (I.remaining reader.old) (I.remaining reader.new) self.new.piece.items }
         ensures ends { ReadsAs self.old.ended self.new.piece.items self.new.ended }
         ensures blamed { BlamesReader self.new.ended (I.call_counts reader.old) (I.call_counts reader.new) }
+        ensures reader { EndsByReader self.new.ended (I.call_counts reader.old) (I.call_counts reader.new) }
     {
         self.piece.resize(PIECE, 0)?;
         let Got { count, end } = read_some(reader, self.piece.as_mut_slice());
@@ -303,6 +317,7 @@ impl Conversation {
         ensures all { OnOk result (self.new.ended ≡ None → self.new.lines.items ≡ []) }
         ensures calm { (O.call_counts writer.old).failures ≤ (O.call_counts writer.new).failures }
         ensures blamed { BlamesWriter self.new.ended (O.call_counts writer.old) (O.call_counts writer.new) }
+        ensures sound { self.new.ended ≡ None → NeverFails (O.call_counts writer.old) (O.call_counts writer.new) }
     {
         while self.has_work() {
             self.step(rt, house, seat, shelf)?;
@@ -360,7 +375,7 @@ impl Conversation {
             return Ok(());
         };
         let owed = ask(rt, self.alloc, house, seat, shelf, self.asker, &asked);
-        self.waits = owed.leaves_waiting(self.waits);
+        wait_on(&mut self.waits, &owed);
         self.ended = end_by(owed.next());
         self.owed = owed;
         self.settle()
@@ -374,6 +389,8 @@ impl Conversation {
         ensures sends { Sends (held_of self.old) (O.contents writer.old) (held_of self.new) (O.contents writer.new) }
         ensures failed { FailsAsItsWriter self.old self.new (O.call_counts writer.old) (O.call_counts writer.new) }
         ensures calm { (O.call_counts writer.old).failures ≤ (O.call_counts writer.new).failures }
+        ensures sound { self.new.ended ≡ None → NeverFails (O.call_counts writer.old) (O.call_counts writer.new) }
+        ensures writes { WritesOut self.new.ended self.new.unsent (O.call_counts writer.old) (O.call_counts writer.new) }
     {
         if is_given_up(self.ended) {
             return;
@@ -397,6 +414,7 @@ fn read_some<I: Source>(reader: &mut I, buf: &mut [u8]) -> Got
     ensures bytes { Consumes (I.remaining reader.old) (I.remaining reader.new) (take result.count buf.new) }
     ensures ends { EndsWithoutBytes result.count result.end }
     ensures blamed { BlamesReader result.end (I.call_counts reader.old) (I.call_counts reader.new) }
+    ensures cause { ReadEnds result.count result.end (I.call_counts reader.old) (I.call_counts reader.new) }
 {
     match reader.read_some(buf) {
         Ok(0) => Got {
@@ -413,7 +431,7 @@ fn read_some<I: Source>(reader: &mut I, buf: &mut [u8]) -> Got
 
 /// The end by a read that failed so.
 fn end_of_fault(fault: ErrorKind) -> Option<End>
-    ensures { (result ≡ None) ⊎ ((result ≡ Some End.ReadFault) × (fault ≢ ErrorKind.WouldBlock)) }
+    ensures { ((result ≡ None) × (fault ≡ ErrorKind.WouldBlock)) ⊎ ((result ≡ Some End.ReadFault) × (fault ≢ ErrorKind.WouldBlock)) }
 {
     if is_failure(fault) {
         Some(End::ReadFault)
@@ -424,7 +442,8 @@ fn end_of_fault(fault: ErrorKind) -> Option<End>
 
 /// Whether a device failed, and did not only have to wait.
 fn is_failure(fault: ErrorKind) -> bool
-    ensures { result ≡ true → fault ≢ ErrorKind.WouldBlock }
+    ensures failed { result ≡ true → fault ≢ ErrorKind.WouldBlock }
+    ensures waits { result ≡ false → fault ≡ ErrorKind.WouldBlock }
 {
     fault != ErrorKind::WouldBlock
 }
@@ -446,6 +465,7 @@ fn split_piece(splitter: &mut Splitter, piece: &[u8]) -> Result<Vec<Line>, Alloc
 fn is_given_up(ended: Option<End>) -> bool
     ensures writes { result ≡ false → ended ≢ Some End.Unsent }
     ensures closed { result ≡ true → ended ≢ None }
+    ensures given_up { result ≡ is_given_up_lem ended }
 {
     matches!(ended, Some(End::Unsent | End::WriteFault))
 }
@@ -470,6 +490,13 @@ fn answer_of(ended: Option<End>, all: bool) -> Result<Goes, SessionFault>
             }
         }
     }
+}
+
+/// Whether a client waits for a notice after an answer: an empty list neither begins nor ends a wait.
+fn wait_on(waits: &mut bool, owed: &Owed)
+    ensures { waits.new ≡ waits_after owed.now waits.old }
+{
+    *waits = owed.leaves_waiting(*waits);
 }
 
 /// The end of a session by what becomes of its client after an answer.
@@ -498,6 +525,7 @@ fn end_after(ended: Option<End>, failed: bool, left: &[u8]) -> Option<End>
     ensures few { result ≡ None → length left.now ≤ 16777216 }
     ensures end { EndsByWrite ended result left.now }
     ensures failed { result ≡ Some End.WriteFault → (ended ≡ Some End.WriteFault) ⊎ (failed ≡ true) }
+    ensures fails { failed ≡ true → ended ≡ None → result ≡ Some End.WriteFault }
 {
     if ended.is_some() {
         return ended;
@@ -524,6 +552,8 @@ fn send_some<O: Sink>(writer: &mut O, bytes: &[u8]) -> Sent
     ensures written { Appends (O.contents writer.old) (O.contents writer.new) (take result.count bytes.now) }
     ensures failed { result.failed ≡ true → HasFailedSince (O.call_counts writer.old) (O.call_counts writer.new) }
     ensures calm { (O.call_counts writer.old).failures ≤ (O.call_counts writer.new).failures }
+    ensures sound { result.failed ≡ false → NeverFails (O.call_counts writer.old) (O.call_counts writer.new) }
+    ensures all { (result.count ≡ length bytes.now) ⊎ HasFailed (O.call_counts writer.old) (O.call_counts writer.new) }
 {
     let mut count = 0;
     while count < bytes.len() {

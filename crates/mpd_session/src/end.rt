@@ -1,4 +1,6 @@
 //! Why a session is closed, and what its turns answer.
+ghost use Rattle.std.specs.Prelude.{◌≡◌};
+ghost use Rattle.mpd_session.specs.Ends.{gives_up as gives_up_lem, is_by_answer as is_by_answer_lem};
 
 /// Why a session is closed.
 #[derive(Clone, Copy, PartialEq, Eq)]
@@ -19,6 +21,22 @@ pub enum End {
     ReadFault,
     /// The writer failed.
     WriteFault,
+}
+
+impl End {
+    /// Whether the player took the client out by an answer, so that it need not be told that it is gone.
+    pub fn is_by_answer(self) -> bool
+        ensures { result ≡ is_by_answer_lem self }
+    {
+        matches!(self, End::Left | End::Killed)
+    }
+
+    /// Whether what is unsent is not written any more.
+    pub fn gives_up(self) -> bool
+        ensures { result ≡ gives_up_lem self }
+    {
+        matches!(self, End::ReadFault | End::WriteFault | End::Unsent)
+    }
 }
 
 /// What a turn leaves.

@@ -35,13 +35,14 @@ impl Model for Session {
 impl Session {
     ghost use Rattle.std.specs.Prelude.{◌≡◌, ◌≢◌, None, Some, Ok, Err, false, IfOk};
     ghost use Rattle.mpd_answers.specs.Answers.{Answers, caller};
-    ghost use Rattle.mpd_session.specs.Sessions.{AnswersClosing, Blames, GoesOnUnlessShort, HasRunAll, IsWithinLimits, StaysClosed, Turns, has_unsent as has_unsent_lem, opening};
+    ghost use Rattle.mpd_session.specs.Sessions.{AnswersClosing, Blames, GoesOnUnlessShort, HasRunAll, IsWithinLimits, StaysClosed, Turns, WritesAll, has_unsent as has_unsent_lem, may_wait as may_wait_lem, opening};
+    ghost use Rattle.mpd_session.specs.Devices.{EndsByReader, NeverFails};
     ghost use Rattle.mpd_session.specs.declared.end.End.{End};
 
     /// The session of a client that the player let in, and what it was greeted with. Nothing was read, and
     /// the greeting is not written yet.
     pub fn new(alloc: Global, asker: Asker, greeting: &Reply) -> Result<Session, AllocError>
-        ensures { IfOk result (λ s. s ≡ record { asker = asker; held = opening greeting.now.text; owes = false }) }
+        ensures { IfOk result (λ s. s ≡ record { asker = asker; held = opening greeting.now.text; owes = false; waits = false }) }
     {
         let conversation = Conversation::new(alloc, asker, greeting)?;
         Ok(Session { conversation })
@@ -62,7 +63,9 @@ impl Session {
     }
 
     /// Whether a notice may come for its client. Where there is none to come, this may still be so.
-    pub fn may_wait(&self) -> bool {
+    pub fn may_wait(&self) -> bool
+        ensures { result ≡ may_wait_lem self.now }
+    {
         self.conversation.may_wait()
     }
 
@@ -71,7 +74,8 @@ impl Session {
     /// Some bytes are read. Of all that came so far, the first that is asked is answered, each by one answer
     /// that the player of one thread may give, with notices between; what is not answered is held, so that
     /// nothing is lost or answered twice, wherever the bytes are cut. What was written and what is held
-    /// unsent grow by just these answers. A turn of a closed session only writes.
+    /// unsent grow by just these answers. A turn of a closed session only writes: all that it holds, until the
+    /// writer would block or fails, but nothing where writing was given up.
     ///
     /// # Errors
     ///
@@ -99,6 +103,10 @@ impl Session {
         ensures read_fault { result ≡ Err SessionFault.ReadFault → self.new.held.ended ≡ Some End.ReadFault }
         ensures write_fault { result ≡ Err SessionFault.WriteFault → self.new.held.ended ≡ Some End.WriteFault }
         ensures blamed { self.old.held.ended ≡ None → Blames self.new.held.ended (I.call_counts reader.old) (I.call_counts reader.new) (O.call_counts writer.old) (O.call_counts writer.new) }
+        ensures reader { self.old.held.ended ≡ None → EndsByReader self.new.held.ended (I.call_counts reader.old) (I.call_counts reader.new) }
+        ensures unread { (end : End) → self.old.held.ended ≡ Some end → I.call_counts reader.new ≡ I.call_counts reader.old }
+        ensures sound { self.new.held.ended ≡ None → NeverFails (O.call_counts writer.old) (O.call_counts writer.new) }
+        ensures writes { (end : End) → self.old.held.ended ≡ Some end → WritesAll self.new (O.call_counts writer.old) (O.call_counts writer.new) }
     {
         self.conversation
             .turn(rt, reader, writer, house, seat, shelf)

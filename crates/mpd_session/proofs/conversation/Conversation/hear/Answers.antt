@@ -1,8 +1,9 @@
-use Rattle.std.proofs.Common.{◌≡◌, ◌∙◌, None, ap, subst, rules}
+use Rattle.std.proofs.Common.{◌≡◌, ◌∙◌, None, ap, refl, subst, rules}
 use Rattle.mpd_answers.specs.Answers.{Answers}
 use Rattle.mpd_session.specs.Sessions.{Held, TellsOf, held_of, pending_of}
 use Rattle.mpd_session.proofs.Runs.{turns_none, turns_told, turns_read, turns_run_as}
 use Rattle.mpd_session.proofs.Blame.{open_blames_none, reader_blames, writer_blames}
+use Rattle.mpd_session.proofs.Reading.{hears, ran_ends, unasked}
 use Rattle.mpd_session.proofs.conversation.Conversation.hear.Goals as goal
 
 pub returns-in_err-settle-clause-turns : goal.returns-in_err-settle-clause-turns
@@ -52,3 +53,15 @@ returns-then-is_some-clause-blamed g c = reader_blames _ (g.I.Failing.call_count
 
 pub returns-clause-blamed : goal.returns-clause-blamed
 returns-clause-blamed g c = writer_blames _ (g.I.Failing.call_counts c.args.reader.now) (g.I.Failing.call_counts c.take_in.new.reader) (g.O.Failing.call_counts c.args.writer.now) (g.O.Failing.call_counts c.run.new.writer) c.run.ensures.blamed
+
+pub returns-in_err-settle-clause-reader : goal.returns-in_err-settle-clause-reader
+returns-in_err-settle-clause-reader g c = unasked _ (g.I.Failing.call_counts c.args.reader.now) (g.I.Failing.call_counts c.args.reader.now) (ap (λ (h : Held). h.ended) c.settle.ensures.held ∙ c.requires.goes) refl
+
+pub returns-in_err-tell-clause-reader : goal.returns-in_err-tell-clause-reader
+returns-in_err-tell-clause-reader g c = unasked _ (g.I.Failing.call_counts c.args.reader.now) (g.I.Failing.call_counts c.args.reader.now) (ap (λ s. (held_of s).ended) c.tell.ensures.frame ∙ ap (λ (h : Held). h.ended) c.settle.ensures.held ∙ c.requires.goes) refl
+
+pub returns-clause-reader : goal.returns-clause-reader
+returns-clause-reader g c =
+    let ended : c.take_in.new.self.ended ≡ None = search rules in
+    ran_ends _ (g.I.Failing.call_counts c.args.reader.now) (g.I.Failing.call_counts c.take_in.new.reader) (g.O.Failing.call_counts c.args.writer.now) (g.O.Failing.call_counts c.run.new.writer)
+    (hears _ (g.I.Failing.call_counts c.args.reader.now) (g.I.Failing.call_counts c.take_in.new.reader) ended c.take_in.ensures.reader) c.run.ensures.blamed

@@ -1,4 +1,4 @@
-use Rattle.std.proofs.Common.{◌≡◌, ◌⊎◌, ◌∙◌, ◌≤◌, ℕ, arith, [], None, Some, inl, inr, ap, refl, rules, subst}
+use Rattle.std.proofs.Common.{◌≡◌, ◌⊎◌, ◌∙◌, ◌≤◌, ℕ, arith, [], None, Some, inl, inr, ap, refl, rules, subst, sym}
 use Rattle.mpd_text.specs.Lines.Split.{views}
 use Rattle.mpd_answers.specs.Answers.{Answers, caller}
 use Rattle.mpd_answers.specs.Requests.{is_over}
@@ -13,7 +13,7 @@ grows : {a b c : ℕ} → a ≤ b → b ≤ c → a ≤ c
 grows h i = omega (arith, h, i)
 
 pub loop-self-init : goal.loop-self-init
-loop-self-init g c = (runs_none (Answers g.S.Shelf.standing g.S.Shelf.failed c.args.self.now.asker) (held_of c.args.self.now) _ _ c.requires.goes, c.requires.nothing, refl, omega arith, open_blames _ _ _ c.requires.goes, λ _. c.requires.open)
+loop-self-init g c = (runs_none (Answers g.S.Shelf.standing g.S.Shelf.failed c.args.self.now.asker) (held_of c.args.self.now) _ _ c.requires.goes, c.requires.nothing, refl, omega arith, open_blames _ _ _ c.requires.goes, λ _. c.requires.open, λ _. refl)
 
 pub returns-in_err-step-clause-runs : goal.returns-in_err-step-clause-runs
 returns-in_err-step-clause-runs g c =
@@ -35,6 +35,7 @@ loop-self-preserved-then-as_slice-gt-MAX_UNSENT g c =
       grows c.loop-self.invariant.3 c.send.ensures.calm,
       sent_blames _ _ (held_of c.step.new.self).unsent (held_of c.send.new.self).unsent (g.O.Failing.call_counts c.args.writer.now) (g.O.Failing.call_counts c.loop-self.writer) (g.O.Failing.call_counts c.send.new.writer) c.step.ensures.blameless c.send.ensures.sends.2 c.send.ensures.failed c.loop-self.invariant.3,
       λ none. ap (λ s. is_over s.gatherer) c.send.ensures.frame ∙ c.step.ensures.open (c.send.ensures.stays none),
+      λ none. c.send.ensures.sound none ∙ c.loop-self.invariant.6 (c.has_work.ensures.works c.loop-self-test.true).0,
     )
 
 pub loop-self-preserved : goal.loop-self-preserved
@@ -48,6 +49,7 @@ loop-self-preserved g c =
       c.loop-self.invariant.3,
       none_blames _ _ _ c.step.ensures.blameless,
       c.step.ensures.open,
+      λ _. c.loop-self.invariant.6 (c.has_work.ensures.works c.loop-self-test.true).0,
     )
 
 pub returns-clause-runs : goal.returns-clause-runs
@@ -64,3 +66,11 @@ returns-clause-blamed g c =
     let ends : (c.end_lines.new.self.ended ≡ c.loop-self.self.ended) ⊎ ((c.loop-self.self.ended ≡ None) × (c.end_lines.new.self.ended ≡ Some LongLine)) =
     elim c.end_lines.ensures.ends [ inl e ↦ inl e | inr e ↦ inr (e.0, e.1) ] in
     ended_blames _ _ _ _ c.loop-self.invariant.4 ends
+
+pub returns-in_err-step-clause-sound : goal.returns-in_err-step-clause-sound
+returns-in_err-step-clause-sound g c = λ none. c.loop-self.invariant.6 (c.has_work.ensures.works c.loop-self-test.true).0
+
+pub returns-clause-sound : goal.returns-clause-sound
+returns-clause-sound g c = λ none.
+    let was : c.loop-self.self.ended ≡ None = elim c.end_lines.ensures.ends [ inl e ↦ sym e ∙ none | inr e ↦ e.0 ] in
+    c.loop-self.invariant.6 was

@@ -2,6 +2,7 @@ use Rattle.std.proofs.Common.{◌≡◌, ◌≤◌, length, None, false, true}
 use Rattle.mpd_answers.specs.Answers.{Answers, caller}
 use Rattle.mpd_answers.specs.Owing.{is_nothing}
 use Rattle.mpd_answers.specs.Requests.{is_over}
+use Rattle.mpd_session.specs.Devices.{NeverFails}
 use Rattle.mpd_session.specs.Sessions.{BlamesWriter, held_of, Runs}
 use Rattle.mpd_session.proofs.conversation.Conversation.run.Given as goal
 
@@ -13,6 +14,7 @@ invariant-loop-self g l =
     × ((g.O.Failing.call_counts l.initial.writer).failures ≤ (g.O.Failing.call_counts l.writer).failures)
     × BlamesWriter l.self.ended (g.O.Failing.call_counts l.initial.writer) (g.O.Failing.call_counts l.writer)
     × (l.self.ended ≡ None → is_over l.self.gatherer ≡ false)
+    × (l.self.ended ≡ None → NeverFails (g.O.Failing.call_counts l.initial.writer) (g.O.Failing.call_counts l.writer))
 
 abbrev pub decreases-loop-self : goal.decreases-loop-self
 decreases-loop-self g l = length l.self.lines.items

@@ -2,6 +2,7 @@ use Rattle.std.proofs.Common.{ap}
 use Rattle.mpd_session.specs.Sessions.{held_of}
 use Rattle.mpd_session.proofs.Runs.{reads_split}
 use Rattle.mpd_session.proofs.Blame.{same_reader}
+use Rattle.mpd_session.proofs.Reading.{same_end}
 use Rattle.mpd_session.proofs.conversation.Conversation.take_in.Goals as goal
 
 pub returns-clause-reads : goal.returns-clause-reads
@@ -10,3 +11,6 @@ returns-clause-reads g c =
 
 pub returns-clause-blamed : goal.returns-clause-blamed
 returns-clause-blamed g c = same_reader _ _ _ _ (ap (λ s. (held_of s).ended) c.split.ensures.frame) c.read_in.ensures.blamed
+
+pub returns-clause-reader : goal.returns-clause-reader
+returns-clause-reader g c = same_end _ _ _ _ (ap (λ s. (held_of s).ended) c.split.ensures.frame) c.read_in.ensures.reader

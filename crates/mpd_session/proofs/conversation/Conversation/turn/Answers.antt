@@ -5,8 +5,9 @@ use Rattle.mpd_answers.specs.Owing.{owed_bytes}
 use Rattle.mpd_answers.specs.Requests.{is_over}
 use Rattle.mpd_session.specs.Sessions.{held_of}
 use Rattle.mpd_session.proofs.Runs.{turns_sent}
-use Rattle.mpd_session.proofs.Sending.{none_owed}
+use Rattle.mpd_session.proofs.Sending.{none_owed, owed_or_written}
 use Rattle.mpd_session.proofs.Blame.{turn_blames}
+use Rattle.mpd_session.proofs.Reading.{sent_ends}
 use Rattle.mpd_session.proofs.conversation.Conversation.turn.Goals as goal
 use Rattle.mpd_session.proofs.conversation.Conversation.turn.Goals.{then-is_ok, else-is_ok}
 
@@ -35,3 +36,14 @@ returns-clause-within g c = λ on.
       ap (λ s. is_over s.gatherer) c.send-2.ensures.frame ∙ c.hear-heard.ensures.open was,
       subst (λ (bytes : List ℕ). length (c.send-2.new.self.unsent ++ bytes) ≤ 16777216) (sym owed) few,
     )
+
+pub returns-clause-reader : goal.returns-clause-reader
+returns-clause-reader g c = λ e.
+    sent_ends _ _ (held_of c.hear-heard.new.self).unsent (held_of c.send-2.new.self).unsent (g.I.Failing.call_counts c.args.reader.now) (g.I.Failing.call_counts c.hear-heard.new.reader) c.send-2.ensures.sends.2 c.hear-heard.ensures.reader
+
+pub returns-clause-sound : goal.returns-clause-sound
+returns-clause-sound g c = λ none. c.send-2.ensures.sound none ∙ c.hear-heard.ensures.sound (c.send-2.ensures.stays none)
+
+pub returns-in-Some-clause-writes : goal.returns-in-Some-clause-writes
+returns-in-Some-clause-writes g c = λ end is.
+    owed_or_written c.send.new.self.owed c.send.new.self.ended c.send.new.self.unsent (g.O.Failing.call_counts c.args.writer.now) (g.O.Failing.call_counts c.send.new.writer) c.send.ensures.writes

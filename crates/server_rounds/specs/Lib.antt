@@ -1,0 +1,3 @@
+pub mod Inboxes
+pub mod Places
+pub mod Rounds
