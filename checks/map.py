@@ -118,6 +118,7 @@ THEOREMS = [
     ('house', 'House::command', 'somewhere', 'held_player/Views', 'AnswersClient', ''),
     ('mpd_session', 'Session::turn', 'turns', 'mpd_session/Sessions', 'Turns',
      'mpd_session: turns_join any_cut_of_bytes; mpd_answers: lines_ask_for'),
+    ('server_rounds', 'Rounds::next_step', 'next', 'server_rounds/Rounds', 'IsNext', ''),
     ('daemon_script', 'run_script', 'ok', 'daemon_script/Output', 'WritesOutput', 'daemon_script: runs_are_traced'),
     'no partition sees the others',
     ('partition_laws', 'equal_views_hear_the_same', '', 'partition_laws/Apart', 'EqualViewsHearTheSame', 'partition_laws: daemons_stay_legal'),

@@ -1,0 +1,100 @@
+"""The table of commands: how many arguments each has, of which forms, and what it does."""
+from dataclasses import dataclass
+from typing import Callable
+
+from words import ARGUMENT, PERMISSION, UNKNOWN, Ack, NoCommand
+
+# Of a daemon without the everyday profile, and of one with it.
+BASE, EVERYDAY = {}, {}
+
+
+class WrongNumber(Exception):
+    """There are too few or too many arguments."""
+
+
+@dataclass
+class Command:
+    name: str
+    read: Callable
+    run: Callable
+
+
+@dataclass
+class Speaker:
+    """The client whose command runs, in the daemon that it runs in."""
+    world: object
+    client: object
+
+    @property
+    def partition(self):
+        return self.world.partitions[self.client.partition]
+
+    @property
+    def queue(self):
+        return self.partition.queue
+
+    @property
+    def player(self):
+        return self.partition.player
+
+    @property
+    def order(self):
+        return self.partition.player.order
+
+    @property
+    def library(self):
+        return self.world.library
+
+    @property
+    def shelf(self):
+        return self.world.shelf
+
+
+def by_forms(forms, optional, more):
+    """Reads arguments of these forms, then up to so many optional ones, or one or more of the last form."""
+    def read(arguments):
+        most = len(arguments) if more else len(forms) + len(optional)
+        least = len(forms) + (1 if more else 0)
+        if not least <= len(arguments) <= most:
+            raise WrongNumber()
+        every = [*forms, *optional, *[more] * len(arguments)]
+        return [form(word) for form, word in zip(every, arguments)]
+    return read
+
+
+def registered(tables, name, read):
+    def register(run):
+        for table in tables:
+            table[name] = Command(name, read, run)
+        return run
+    return register
+
+
+def command(name, *forms, optional=(), more=None, read=None):
+    """Registers a command of both profiles; `read` stands for arguments whose number and forms no list tells."""
+    return registered((BASE, EVERYDAY), name, read or by_forms(forms, optional, more))
+
+
+def everyday(name, *forms, optional=(), more=None, read=None):
+    """Registers a command of the everyday profile, in place of the base profile's if that has one."""
+    return registered((EVERYDAY,), name, read or by_forms(forms, optional, more))
+
+
+def names(world):
+    """The names of all commands but `kill`, which a script may not use."""
+    return sorted(EVERYDAY if world.everyday else BASE)
+
+
+def typed(words, world):
+    """The command that a line's words name, and its arguments; the first refusal is raised."""
+    if not words:
+        raise NoCommand(UNKNOWN, 'no command given')
+    found = (EVERYDAY if world.everyday else BASE).get(words[0])
+    if words[0] == 'kill':
+        raise Ack(PERMISSION, 'no permission for "kill"')
+    if found is None:
+        raise NoCommand(UNKNOWN, 'unknown command "%s"' % words[0])
+    try:
+        return found, found.read(words[1:])
+    except WrongNumber:
+        raise Ack(ARGUMENT, 'wrong number of arguments for "%s"' % words[0]) from None

@@ -1,0 +1,87 @@
+"""Scripts of the model and of a program side by side: where they part, and the least lines that show it."""
+import difflib
+
+from program import NotRun
+from script import answer_of
+
+
+def is_same(printed, wanted):
+    return not isinstance(printed, NotRun) and printed == wanted
+
+
+def lines_of(text):
+    return text.split(b'\n')[:-1]
+
+
+def joined(lines):
+    return b''.join(line + b'\n' for line in lines)
+
+
+def readable(text):
+    return [line.decode('utf-8', 'backslashreplace') for line in lines_of(text)]
+
+
+def cut_behind_difference(text, printed):
+    """The front of a script up to the line whose answer differs first, and what the program printed for it. No run is needed: what a
+    line prints depends on the lines before it alone."""
+    if isinstance(printed, NotRun):
+        return text, printed
+    wanted, found = lines_of(answer_of(text)), lines_of(printed)
+    alike = 0
+    while alike < min(len(wanted), len(found)) and wanted[alike] == found[alike]:
+        alike += 1
+    lines = lines_of(text)
+    for count in range(1, len(lines)):
+        front = joined(lines[:count])
+        printed_lines = answer_of(front).count(b'\n')
+        if printed_lines > alike:
+            return front, joined(found[:printed_lines])
+    return text, printed
+
+
+class Shrinking:
+    """Takes lines away from a script that still differs without them. A round asks the program of many scripts at once, since a
+    build, where one is needed, is dearer than a run."""
+
+    def __init__(self, program, text, printed):
+        self.program, self.text, self.printed = program, text, printed
+
+    def differing(self, scripts):
+        """Those of these scripts whose outputs differ, with what the program printed."""
+        if not scripts:
+            return []
+        return [(text, printed) for text, printed in zip(scripts, self.program.run_all(scripts)) if not is_same(printed, answer_of(text))]
+
+    def run(self, rounds):
+        """The least script, and what the program prints for it."""
+        for _ in range(rounds):
+            lines = lines_of(self.text)
+            without = {joined(lines[:n] + lines[n + 1:]): n for n in range(len(lines)) if len(lines) > 1}
+            single = self.differing(list(without))
+            if not single:
+                break
+            self.take_the_shortest(single + self.differing(self.without_several(lines, [without[text] for text, _ in single])))
+        return self.text, self.printed
+
+    @staticmethod
+    def without_several(lines, removable):
+        """Scripts without several of the lines that one by one can go: all of them, and front and back parts of them."""
+        sizes = {len(removable) * part // 8 for part in range(2, 9)}
+        parts = [part for size in sizes if size > 1 for part in (removable[:size], removable[-size:])]
+        return list({joined([line for n, line in enumerate(lines) if n not in part]) for part in parts})
+
+    def take_the_shortest(self, found):
+        self.text, self.printed = min(found, key=lambda it: it[0].count(b'\n'))
+
+
+def shrunk(program, text, printed, rounds=40):
+    return Shrinking(program, *cut_behind_difference(text, printed)).run(rounds)
+
+
+def report(title, text, printed):
+    """A difference as a reader wants it: the script, then what the model has and what the program printed, as a diff."""
+    lines = ['== ' + title, *('  > ' + line for line in readable(text))]
+    if isinstance(printed, NotRun):
+        return '\n'.join([*lines, '  the program: %s' % printed])
+    diff = difflib.unified_diff(readable(answer_of(text)), readable(printed), 'model', 'program', n=3, lineterm='')
+    return '\n'.join(lines + ['  ' + line for line in diff])

@@ -1,0 +1,111 @@
+"""The queue: entries with their ids, and which slots changed since when.
+
+Every change of the queue has a number, from 1 on; a slot remembers the number of the change that touched it last, and all that clients
+are told of versions is worked out from these numbers."""
+from dataclasses import dataclass, replace
+
+from library import Song, seconds
+from words import FULL, Ack
+
+
+@dataclass(frozen=True)
+class Entry:
+    id: int
+    song: Song
+    priority: int = 0
+
+
+class Queue:
+    def __init__(self, limits):
+        self.limits = limits
+        self.entries = []
+        self.greatest_id = 0
+        self.changes = 0
+        self.last_change = {}
+
+    # What there is.
+
+    def __len__(self):
+        return len(self.entries)
+
+    def place_of(self, entry_id):
+        for place, entry in enumerate(self.entries):
+            if entry.id == entry_id:
+                return place
+        return None
+
+    def entry(self, entry_id):
+        place = self.place_of(entry_id)
+        return None if place is None else self.entries[place]
+
+    def lines(self, place, shown):
+        """The lines of the song at a place, as the queue shows them."""
+        entry = self.entries[place]
+        priority = ['Prio: %d' % entry.priority] if entry.priority else []
+        return [*entry.song.lines(shown), 'Pos: %d' % place, 'Id: %d' % entry.id, *priority]
+
+    # Changes.
+
+    def room_for(self, count):
+        """Refuses so many new entries where there is no room for them, or where ids have run out."""
+        if len(self.entries) + count > self.limits['max_queue']:
+            raise Ack(FULL, 'playlist is full')
+        if self.greatest_id + count > self.limits['max_id']:
+            raise Ack(FULL, 'no more song ids')
+
+    def insert(self, at, songs):
+        """Puts songs in at a place, and gives the new entries."""
+        added = [Entry(self.greatest_id + 1 + number, song) for number, song in enumerate(songs)]
+        self.greatest_id += len(added)
+        self.entries[at:at] = added
+        return added
+
+    def remove(self, start, end):
+        gone = self.entries[start:end]
+        del self.entries[start:end]
+        return gone
+
+    def move(self, start, end, to):
+        moved = self.remove(start, end)
+        self.entries[to:to] = moved
+
+    def swap(self, one, other):
+        self.entries[one], self.entries[other] = self.entries[other], self.entries[one]
+
+    def give_priority(self, place, priority):
+        self.entries[place] = replace(self.entries[place], priority=priority)
+
+    # Versions.
+
+    def note_changes(self, before):
+        """Counts what one event changed in the entries, which were these before it."""
+        if before == self.entries:
+            return
+        self.changes += 1
+        for place in range(max(len(before), len(self.entries))):
+            if before[place:place + 1] != self.entries[place:place + 1]:
+                self.last_change[place] = self.changes
+
+    def version_of(self, change):
+        return change % self.limits['max_version'] + 1
+
+    @property
+    def version(self):
+        return self.version_of(self.changes)
+
+    def changed_since(self, version):
+        """The places of the slots that a client of this version has to be shown."""
+        return [place for place in range(len(self.entries)) if self.is_shown(place, version)]
+
+    def is_shown(self, place, version):
+        if version > self.version:
+            return True
+        last = self.last_change[place]
+        wrapped = self.changes - self.changes % self.limits['max_version']
+        marked = wrapped > 0 and last <= wrapped
+        return marked or self.version_of(last) > version
+
+
+def span_of(entry):
+    """How long an entry's song is, in seconds."""
+    return seconds(entry.song.milliseconds)
