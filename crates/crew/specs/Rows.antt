@@ -1,4 +1,5 @@
--- Of which feeder and drainer the thread of an output is.
+-- Of which output, feeder and drainer a thread is.
+use Rattle.std.specs.Prelude.{ℕ}
 use Rattle.output_ring.specs.declared.feeder.Feeder.{Feeder}
 use Rattle.output_ring.specs.declared.drainer.Drainer.{Drainer}
 use Rattle.crew.specs.declared.output.OutputRun.{OutputRun}
@@ -9,4 +10,8 @@ module _ {L : Type 0} where
   first_of_run r = r.first.value
 
   abbrev pub drainer_of_run : OutputRun L → Drainer
-  drainer_of_run r = r.handle.promise.0.value
+  drainer_of_run r = r.handle.promise.drainer.value
+
+  -- the number that it tells the house at each turn
+  abbrev pub output_of_run : OutputRun L → ℕ
+  output_of_run r = r.handle.promise.output

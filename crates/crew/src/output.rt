@@ -1,6 +1,7 @@
 //! What is had of the outputs' threads.
 ghost use Rattle.frame_ledger.specs.Shares.{HasOnePart};
 ghost use Rattle.output_ring.specs.Rings.{AreEnds, SameDrainer};
+ghost use Rattle.crew_steps.specs.Turns.{HasRun};
 
 use counted_player::{Discarded, Ledgers, Written};
 use crew_steps::OutputEnd;
@@ -10,20 +11,24 @@ use output_ring::{Drainer, Feeder};
 use std::snapshot::Snapshot;
 use std::thread::{Promise, PromisedHandle};
 
-/// The output's end is of the ring of this drainer.
+/// The output's end is of the ring of this drainer, with which the output of this number ran until it was told of
+/// the end.
 #[derive(Drop)]
-pub struct OfDrainer(pub Snapshot<Drainer>);
+pub struct OfOutput {
+    pub output: usize,
+    pub drainer: Snapshot<Drainer>,
+}
 
-impl<L: Ledgers> Promise<OutputEnd<L>> for OfDrainer {
-    ghost kept_by = { λ p r. SameDrainer p.0.value r.drainer };
+impl<L: Ledgers> Promise<OutputEnd<L>> for OfOutput {
+    ghost kept_by = { λ p r. SameDrainer p.drainer.value r.drainer × HasRun p.output p.drainer.value r.drainer };
 }
 
 /// The thread of an output that runs, with the feeder of its ring.
 #[derive(Drop)]
 pub struct OutputRun<L: Ledgers> {
-    pub handle: PromisedHandle<OutputEnd<L>, OfDrainer>,
+    pub handle: PromisedHandle<OutputEnd<L>, OfOutput>,
     pub first: Snapshot<Feeder>,
-    ghost pair: { AreEnds first.value handle.promise.0.value },
+    ghost pair: { AreEnds first.value handle.promise.drainer.value },
 }
 
 /// What an output's thread leaves: its ring, of which the feeder has ended too, and its shares.

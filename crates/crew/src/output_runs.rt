@@ -1,7 +1,8 @@
 //! The threads of all outputs, which run.
 ghost use Rattle.std.specs.Prelude.{◌≡◌, map, vec_len};
+ghost use Rattle.std.specs.List.{range_with_len};
 ghost use Rattle.frame_ledger.specs.Shares.{HasPartsBut};
-ghost use Rattle.crew.specs.Rows.{first_of_run};
+ghost use Rattle.crew.specs.Rows.{first_of_run, output_of_run};
 
 use crate::output::OutputRun;
 use counted_player::{Discarded, Ledgers, Written};
@@ -14,6 +15,7 @@ pub struct OutputRuns<L: Ledgers> {
     pub runs: Vec<OutputRun<L>>,
     pub feeders: Vec<Feeder>,
     pub shares: OutputShares<Written<L>, Discarded<L>>,
+    ghost numbers: { map output_of_run runs.items ≡ range_with_len 0 (vec_len runs) },
     ghost rings: { map first_of_run runs.items ≡ feeders.items },
     ghost parts: { HasPartsBut (vec_len runs) shares },
 }

@@ -1,9 +1,11 @@
 //! The start of an output's thread.
-ghost use Rattle.std.specs.Prelude.{◌≡◌, IfOk};
+ghost use Rattle.std.specs.Prelude.{◌≡◌, IfOk, false};
 ghost use Rattle.frame_ledger.specs.Shares.{HasOnePart};
-ghost use Rattle.output_ring.specs.Rings.{SameDrainer};
+ghost use Rattle.output_ring.specs.Rings.{SameDrainer, has_failed};
+ghost use Rattle.crew.specs.Rows.{drainer_of_run, output_of_run};
+ghost use Rattle.crew_steps.specs.Turns.{HasRun};
 
-use crate::output::{OfDrainer, OutputRun};
+use crate::output::{OfOutput, OutputRun};
 use counted_devices::Sink;
 use counted_player::{Discarded, Ledgers, Written};
 use crew_steps::{Draining, Gate, OutputEnd, OutputSetup};
@@ -27,14 +29,17 @@ struct Post<L: Ledgers, O, G> {
     ghost parts: { HasOnePart shares },
 }
 
-/// Drains frames until the end.
+/// Drains frames until it is told of the end.
+#[tactic(auto, using(crate::proofs::Numbers::ran))]
 fn drain<L: Ledgers, O: Sink + Drop, G: Gate + Drop, R: Wait + Clock + Copy>(
     rt: R,
     house: Arc<House<L>, Global>,
     post: Post<L, O, G>,
     drainer: Drainer,
 ) -> OutputEnd<L>
-    ensures { SameDrainer drainer result.drainer }
+    requires { has_failed drainer ≡ false }
+    ensures ring { SameDrainer drainer result.drainer }
+    ensures runs { HasRun post.output drainer result.drainer }
 {
     let Post {
         gate,
@@ -56,15 +61,21 @@ fn start_thread<
     house: Arc<House<L>, Global>,
     post: Post<L, O, G>,
     drainer: Drainer,
-) -> Result<PromisedHandle<OutputEnd<L>, OfDrainer>, AllocError>
-    ensures { IfOk result (λ handle. handle.promise.0.value ≡ drainer) }
+) -> Result<PromisedHandle<OutputEnd<L>, OfOutput>, AllocError>
+    requires { has_failed drainer ≡ false }
+    ensures output { IfOk result (λ handle. handle.promise.output ≡ post.output) }
+    ensures drainer { IfOk result (λ handle. handle.promise.drainer.value ≡ drainer) }
 {
-    let of_drainer = OfDrainer(Snapshot::of(&drainer));
+    let of_output = OfOutput {
+        output: post.output,
+        drainer: Snapshot::of(&drainer),
+    };
     let handle = thread::spawn_with(
         &rt,
-        of_drainer,
+        of_output,
         move || -> OutputEnd<L>
-            ensures { SameDrainer drainer result.drainer }
+            requires { has_failed drainer ≡ false }
+            ensures { SameDrainer drainer result.drainer × HasRun post.output drainer result.drainer }
         { drain(rt, house, post, drainer) },
     )?;
     Ok(handle)
@@ -85,7 +96,8 @@ pub(crate) fn start_output<
     shares: OutputShares<Written<L>, Discarded<L>>,
 ) -> Result<(OutputRun<L>, Feeder), AllocError>
     requires { HasOnePart shares }
-    ensures { IfOk result (λ r. (r.0.first.value ≡ output_setup.feeder) × (r.0.handle.promise.0.value ≡ output_setup.drainer) × (r.1 ≡ output_setup.feeder)) }
+    ensures rings { IfOk result (λ r. (r.0.first.value ≡ output_setup.feeder) × (drainer_of_run r.0 ≡ output_setup.drainer) × (r.1 ≡ output_setup.feeder)) }
+    ensures output { IfOk result (λ r. output_of_run r.0 ≡ output) }
 {
     let OutputSetup {
         feeder,

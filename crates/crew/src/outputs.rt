@@ -1,7 +1,8 @@
 //! The threads of all outputs.
 ghost use Rattle.std.specs.Prelude.{◌≡◌, ◌≤◌, map, IfOk, vec_len};
+ghost use Rattle.std.specs.List.{range_with_len};
 ghost use Rattle.frame_ledger.specs.Shares.{AreEmpty, HasPartsBut};
-ghost use Rattle.crew.specs.Rows.{first_of_run, drainer_of_run};
+ghost use Rattle.crew.specs.Rows.{drainer_of_run, first_of_run, output_of_run};
 ghost use Rattle.crew_steps.specs.OutputSetups.{feeder_of_setup, drainer_of_setup};
 
 use crate::output_runs::OutputRuns;
@@ -16,7 +17,8 @@ use std::sync::{Arc, Wait};
 use std::thread::Threads;
 use std::time::Clock;
 
-/// Starts the thread of each output.
+/// Starts the thread of each output: the one at each place speaks for the output of that number.
+#[tactic(auto, using(crate::proofs::Numbers::one_more))]
 pub fn start_outputs<
     L: Ledgers + Send + Sync + 'static,
     O: Sink + Drop + Send + 'static,
@@ -35,6 +37,7 @@ pub fn start_outputs<
     requires empty { AreEmpty shares }
     ensures runs { IfOk result (λ r. map first_of_run r.runs.items ≡ map feeder_of_setup output_setups.items) }
     ensures drainers { IfOk result (λ r. map drainer_of_run r.runs.items ≡ map drainer_of_setup output_setups.items) }
+    ensures numbers { IfOk result (λ r. map output_of_run r.runs.items ≡ range_with_len 0 (vec_len output_setups)) }
     ensures count { IfOk result (λ r. vec_len r.runs ≡ vec_len output_setups) }
 {
     let OutputShares {

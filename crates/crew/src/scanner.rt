@@ -3,7 +3,7 @@ ghost use Rattle.std.specs.Prelude.{◌≡◌, IsSome, OnOk};
 
 use crate::start::Crew;
 use counted_player::{Ledgers, Seat};
-use held_player::News;
+use held_player::{News, Reported};
 use house::House;
 use player_state::Report;
 use song_db::SharedDb;
@@ -33,38 +33,59 @@ struct Scanning<'h, L: Ledgers, N: Scanner + Drop, R: Wait + Clock> {
     house: &'h House<L>,
     seat: Seat<L>,
     scanner: N,
+    ghost own: { seat.number ≡ 13 },
 }
 
 impl<'h, L: Ledgers, N: Scanner + Drop, R: Wait + Clock> Scanning<'h, L, N, R> {
-    /// Scans where that is asked for, until the end.
-    fn run(self) {
+    ghost use Rattle.std.specs.Prelude.{◌≡◌, IfSome, false};
+    ghost use Rattle.player_events.specs.declared.event.Event.TheVariants.{ScanQuestion};
+    ghost use Rattle.player_state.specs.declared.report.Report.TheVariants.{Ended};
+    ghost use Rattle.held_player.specs.Views.{TellsSomewhere};
+    ghost use Rattle.crew_steps.specs.Turns.{goes_on};
+
+    /// Scans where that is asked for, until it is told of the end. Says what it was told then.
+    fn run(self) -> Reported
+        ensures { result.report ≡ Ended }
+    {
         let mut scanning = self;
         let rt = scanning.rt;
         for _ in rt.forever() {
-            if !scanning.scan_once() {
-                return;
+            if let Some(told) = scanning.scan_once() {
+                return told;
             }
         }
+        unreachable!()
     }
 
-    /// Scans if that is asked for. False at the end.
-    fn scan_once(&mut self) -> bool {
+    /// Scans if that is asked for. At the end it says what it was told.
+    fn scan_once(&mut self) -> Option<Reported>
+        ensures { IfSome result (λ told. (told.report ≡ Ended) × TellsSomewhere self.old.seat ScanQuestion told) }
+    {
         let Ok(told) = self.house.notice(self.rt, &mut self.seat, News::AsksToScan) else {
             self.pause();
-            return true;
+            return None;
         };
+        if self.obey(&told) { None } else { Some(told) }
+    }
+
+    /// Scans where it was told to, and else waits until a scan is asked for. False at the end.
+    fn obey(&mut self, told: &Reported) -> bool
+        ensures goes { result ≡ goes_on told.now.report }
+        ensures ends { result ≡ false → told.now.report ≡ Ended }
+    {
         match told.report() {
-            Report::Ended => return false,
+            Report::Ended => false,
             Report::ToScan(Some(_)) => {
                 let found = self.scanner.scan(self.alloc);
                 self.tell(found, second_now(self.rt));
+                true
             }
             _ => {
                 let most = Duration::from_millis(LONGEST_WAIT);
                 let _ = self.house.await_scan(self.rt, most);
+                true
             }
         }
-        true
     }
 
     /// Tells what a scan found that ended at this second; where that is refused, again after a while.
@@ -127,7 +148,7 @@ fn start_thread<
             seat: Seat::of_crew(9),
             scanner,
         };
-        scanning.run();
+        let _told = scanning.run();
     })?;
     Ok(handle)
 }

@@ -1,8 +1,10 @@
 //! The start of the decoder.
 ghost use Rattle.std.specs.Prelude.{◌≡◌, ◌≤◌, IfOk, [], map, vec_len, vec_capacity};
+ghost use Rattle.std.specs.List.{range_with_len};
 ghost use Rattle.frame_ledger.specs.Shares.{HasPartsBut};
+ghost use Rattle.crew_steps.specs.Decoding.{RunsDecoder};
 ghost use Rattle.crew_steps.specs.Each.{Each};
-ghost use Rattle.crew.specs.Rows.{first_of_run};
+ghost use Rattle.crew.specs.Rows.{first_of_run, output_of_run};
 ghost use Rattle.output_ring.specs.Rings.{EndsFeeder};
 
 use crate::output::OutputRun;
@@ -22,12 +24,16 @@ use std::thread;
 use std::thread::{JoinHandle, Promise, PromisedHandle, Threads};
 use std::time::Clock;
 
-/// Each end is of the ring of the feeder at its place.
+/// Each end is of the ring of the feeder at its place, and the rings took what a decoder of songs of this rate
+/// handed out until it was told of the end.
 #[derive(Drop)]
-pub struct OfFeeders(pub Snapshot<Vec<Feeder>>);
+pub struct OfFeeders {
+    pub rate: u32,
+    pub feeders: Snapshot<Vec<Feeder>>,
+}
 
 impl<L: Ledgers> Promise<DecoderEnd<L>> for OfFeeders {
-    ghost kept_by = { λ p r. Each EndsFeeder p.0.value.items r.ends.items };
+    ghost kept_by = { λ p r. Each EndsFeeder p.feeders.value.items r.ends.items × RunsDecoder p.rate p.feeders.value.items r.ends.items };
 }
 
 /// The decoder and the outputs that run. The feeder at each place is of the ring of the output there. The
@@ -42,7 +48,8 @@ pub struct Crew<L: Ledgers> {
     /// the end.
     pub(crate) ended: Vec<EndedRing>,
     pub(crate) results: Vec<Settlement<L>>,
-    ghost rings: { map first_of_run outputs.items ≡ decoder.promise.0.value.items },
+    ghost numbers: { map output_of_run outputs.items ≡ range_with_len 0 (vec_len outputs) },
+    ghost rings: { map first_of_run outputs.items ≡ decoder.promise.feeders.value.items },
     ghost few: { vec_len outputs ≤ 8 },
     ghost parts: { HasPartsBut (vec_len outputs) shares },
     ghost places: { (ended.items ≡ []) × (vec_len outputs ≤ vec_capacity ended) },
@@ -61,7 +68,7 @@ struct Bench<L: Ledgers, S> {
     ghost part: { share.parts ≡ 1 },
 }
 
-/// Decodes until the end, and finishes the feeders. There is room for their ends.
+/// Decodes until it is told of the end, and finishes the feeders. There is room for their ends.
 fn decode<L: Ledgers, S: SongSource<M> + Drop, M: Media + Drop, R: Wait + Clock + Copy>(
     rt: R,
     house: Arc<House<L>, Global>,
@@ -69,7 +76,8 @@ fn decode<L: Ledgers, S: SongSource<M> + Drop, M: Media + Drop, R: Wait + Clock 
     feeders: Vec<Feeder>,
 ) -> DecoderEnd<L>
     requires { (bench.room.items ≡ []) × (vec_len feeders ≤ vec_capacity bench.room) }
-    ensures { Each EndsFeeder feeders.items result.ends.items }
+    ensures rings { Each EndsFeeder feeders.items result.ends.items }
+    ensures decodes { RunsDecoder bench.rate feeders.items result.ends.items }
 {
     let Bench {
         alloc,
@@ -95,15 +103,19 @@ fn start_thread<
     feeders: Vec<Feeder>,
 ) -> Result<PromisedHandle<DecoderEnd<L>, OfFeeders>, AllocError>
     requires { (bench.room.items ≡ []) × (vec_len feeders ≤ vec_capacity bench.room) }
-    ensures { IfOk result (λ handle. handle.promise.0.value ≡ feeders) }
+    ensures rate { IfOk result (λ handle. handle.promise.rate ≡ bench.rate) }
+    ensures feeders { IfOk result (λ handle. handle.promise.feeders.value ≡ feeders) }
 {
-    let of_feeders = OfFeeders(Snapshot::of(&feeders));
+    let of_feeders = OfFeeders {
+        rate: bench.rate,
+        feeders: Snapshot::of(&feeders),
+    };
     let handle = thread::spawn_with(
         &rt,
         of_feeders,
         move || -> DecoderEnd<L>
             requires { (bench.room.items ≡ []) × (vec_len feeders ≤ vec_capacity bench.room) }
-            ensures { Each EndsFeeder feeders.items result.ends.items }
+            ensures { Each EndsFeeder feeders.items result.ends.items × RunsDecoder bench.rate feeders.items result.ends.items }
         { decode::<L, S, M, R>(rt, house, bench, feeders) },
     )?;
     Ok(handle)
@@ -162,7 +174,8 @@ pub fn start_decoder<
 ) -> Result<Crew<L>, AllocError>
     requires part { share.parts ≡ 1 }
     requires few { vec_len outputs.runs ≤ 8 }
-    ensures { IfOk result (λ crew. crew.outputs ≡ outputs.runs) }
+    ensures outputs { IfOk result (λ crew. crew.outputs ≡ outputs.runs) }
+    ensures rate { IfOk result (λ crew. crew.decoder.promise.rate ≡ rate) }
 {
     let OutputRuns {
         runs,

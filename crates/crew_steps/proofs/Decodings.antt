@@ -1,31 +1,78 @@
--- What comes of a job.
-use Rattle.std.proofs.Common.{◌≡◌, inl, inr, ℕ, ℤ, Bool, List, length, refl, subst, sym}
+-- What comes of a job, and of all of them.
+use Rattle.std.proofs.Common.{◌≡◌, inl, inr, ℕ, ℤ, Bool, List, [], ◌∷◌, length, Option, Some, None, Result, Ok, Err, OnOk, IfOk, IfErr, refl, subst, sym}
 use Rattle.output_ring.specs.declared.feeder.Feeder.{Feeder}
 use Rattle.output_ring.specs.Rings.{SameFeeder}
 use Rattle.player_core.specs.declared.state.Job.{Job}
 use Rattle.player_events.specs.Outcomes.{OutcomeData}
 use Rattle.counted_player.specs.Seats.{SeatCount}
 use Rattle.held_player.specs.Views.{FeedsShare}
+use Rattle.crew_steps.specs.Decoding.{DecodesAll, DecodesOnce, DidTasks, DoesTask, Task}
 use Rattle.crew_steps.specs.Each.{Each}
-use Rattle.crew_steps.specs.Feeding.{DoesJob, Feeds, HandsOut, feed_told, handed}
-use Rattle.crew_steps.specs.Sounds.{AreOpenFor, IsShut, OpenSongs, ReadsJob}
-use Rattle.crew_steps.proofs.Pushes.{each_fed}
+use Rattle.crew_steps.specs.Feeding.{DoesJob, Feeds, FinishesJob, HandsOut, TakesNone, feed_told, handed}
+use Rattle.crew_steps.specs.Songs.{Fails}
+use Rattle.crew_steps.specs.Sounds.{AreOpenFor, OpenSongs, ReadsJob}
+use Rattle.crew_steps.specs.declared.songs.JobFrames.{JobFrames}
+use Rattle.crew_steps.specs.declared.songs.NoFrames.{NoFrames}
+use Rattle.crew_steps.specs.declared.songs.NoFrames.TheVariants.{NoMemory, Failed}
+use Rattle.crew_steps.proofs.Eaches.{each_refl, each_unchanged}
+use Rattle.crew_steps.proofs.Pushes.{each_fed, each_none, none_refl}
 
 -- what was fed is of its rings
-pub each_decoded : (seat : SeatCount) (before after place : ℕ) (job : Job) (frames others : List (List ℤ)) (old new : List Feeder) → Feeds seat before after place job frames others old new → Each SameFeeder old new
-each_decoded seat before after place job frames others old new feeds =
-    each_fed (handed (feed_told feeds.0.report) job.fade others frames) old new feeds.2
+pub each_decoded : (seat : SeatCount) (before after place : ℕ) (job : Job) (frames others : List (List ℤ)) (told : OutcomeData) (old new : List Feeder) → Feeds seat before after place job frames others told old new → Each SameFeeder old new
+each_decoded seat before after place job frames others told old new feeds =
+    each_fed (handed (feed_told told.report) job.fade others frames) old new feeds.1
 
 pub feeds : (seat : SeatCount) (before after place : ℕ) (job : Job) (frames others : List (List ℤ)) (old new : List Feeder) (told : OutcomeData) → FeedsShare seat place job.number (length frames) before after told → HandsOut job.fade frames others told old new
-    → Feeds seat before after place job frames others old new
-feeds seat before after place job frames others old new told tells hands = (told, tells, hands)
+    → Feeds seat before after place job frames others told old new
+feeds seat before after place job frames others old new told tells hands = (tells, hands)
 
--- what was read and fed, by the same songs, of the seat and the share that were there before
-pub fed_later : {A B : Type 0} (songs' songs : B) (view : B → OpenSongs) (seat' seat : SeatCount) (share' share : A) (amount : A → ℕ) (after place : ℕ) (job : Job) (frames others : List (List ℤ)) (old new : List Feeder) → songs' ≡ songs → seat' ≡ seat → share' ≡ share
-    → AreOpenFor (view songs) place job → ReadsJob (view songs) job frames others → Feeds seat' (amount share') after place job frames others old new → DoesJob (view songs') seat (amount share) after place job old new
-fed_later songs' songs view seat' seat share' share amount after place job frames others old new same seats shares are_open read feeds =
-    subst (λ s. DoesJob (view s) seat (amount share) after place job old new) (sym same)
-    (inr (are_open, (frames, others, read, subst (λ s. Feeds s (amount share) after place job frames others old new) seats (subst (λ a. Feeds seat' (amount a) after place job frames others old new) shares feeds))))
+-- what came of a job is of its rings
+pub each_finished : (seat : SeatCount) (before after place : ℕ) (job : Job) (read : Result JobFrames NoFrames) (told : Option OutcomeData) (old new : List Feeder) → FinishesJob seat before after place job read told old new → Each SameFeeder old new
+each_finished seat before after place job (Ok read) None old new done = absurd done
+each_finished seat before after place job (Ok read) (Some told) old new done = each_decoded seat before after place job read.frames.items read.others.items told old new done
+each_finished seat before after place job (Err (Failed partner)) None old new done = absurd done
+each_finished seat before after place job (Err (Failed partner)) (Some told) old new done = subst (λ fs. Each SameFeeder old fs) (sym done.1) (each_unchanged old)
+each_finished seat before after place job (Err NoMemory) None old new done = subst (λ fs. Each SameFeeder old fs) (sym done.1) (each_unchanged old)
+each_finished seat before after place job (Err NoMemory) (Some told) old new done = absurd done
 
-pub failed : (songs : OpenSongs) (seat : SeatCount) (before after place : ℕ) (job : Job) (partner : Bool) (old : List Feeder) → IsShut songs place job partner → DoesJob songs seat before after place job old old
-failed songs seat before after place job partner old shut = inl (refl, (partner, shut))
+-- a job was done by what was read for it, of the same songs
+does : (songs : OpenSongs) (seat : SeatCount) (before after place : ℕ) (job : Job) (read : Result JobFrames NoFrames) (told : Option OutcomeData) (old new : List Feeder)
+    → OnOk read (AreOpenFor songs place job) → IfOk read (λ (r : JobFrames). ReadsJob songs job r.frames.items r.others.items) → IfErr read (Fails songs place job)
+    → FinishesJob seat before after place job read told old new → DoesJob songs seat before after place job told old new
+does songs seat before after place job (Ok read) None old new opens reads fails done = absurd done
+does songs seat before after place job (Ok read) (Some told) old new opens reads fails done = inr (opens, (read.frames.items, read.others.items, reads, done))
+does songs seat before after place job (Err (Failed partner)) None old new opens reads fails done = absurd done
+does songs seat before after place job (Err (Failed partner)) (Some told) old new opens reads fails done = inl (done.0, (done.1, (partner, fails, done.2)))
+does songs seat before after place job (Err NoMemory) None old new opens reads fails done = done
+does songs seat before after place job (Err NoMemory) (Some told) old new opens reads fails done = absurd done
+
+-- the same, of the seat and the share that were there before the reading
+pub does_later : {A B : Type 0} (songs' songs : B) (view : B → OpenSongs) (seat' seat : SeatCount) (share' share : A) (amount : A → ℕ) (after place : ℕ) (job : Job) (read : Result JobFrames NoFrames) (told : Option OutcomeData) (old new : List Feeder)
+    → songs' ≡ songs → seat' ≡ seat → share' ≡ share
+    → OnOk read (AreOpenFor (view songs) place job) → IfOk read (λ (r : JobFrames). ReadsJob (view songs) job r.frames.items r.others.items) → IfErr read (Fails (view songs) place job)
+    → FinishesJob seat' (amount share') after place job read told old new → DoesJob (view songs') seat (amount share) after place job told old new
+does_later songs' songs view seat' seat share' share amount after place job read told old new same seats shares opens reads fails done =
+    subst (λ s. DoesJob (view s) seat (amount share) after place job told old new) (sym same)
+    (subst (λ s. DoesJob (view songs) s (amount share) after place job told old new) seats
+    (subst (λ a. DoesJob (view songs) seat' (amount a) after place job told old new) shares
+    (does (view songs) seat' (amount share') after place job read told old new opens reads fails done)))
+
+-- what was done so far, and what went into the rings since
+abbrev pub DidSoFar : ℕ → List Feeder → List Feeder → Type 0
+DidSoFar rate old new = (tasks : List Task) × (mid : List Feeder) × DidTasks rate tasks old mid × Each TakesNone mid new
+
+pub begun : (rate : ℕ) (old : List Feeder) → DidSoFar rate old old
+begun rate old = ([], old, refl, each_refl TakesNone old none_refl)
+
+-- a task whose rings were pushed before is one whose rings were pushed then
+task_later : (rate : ℕ) (task : Task) (mid now new : List Feeder) → Each TakesNone mid now → DoesTask rate task now new → DoesTask rate task mid new
+task_later rate task mid now new none does =
+    (does.0, does.1, does.2, each_none mid now does.0 none does.3, does.4, does.5, does.6, does.7)
+
+pub next : (rate rate' : ℕ) (old now new : List Feeder) → rate' ≡ rate → DidSoFar rate old now → DecodesOnce rate' None now new → DidSoFar rate old new
+next rate rate' old now new same did (inl none) = (did.0, did.1, did.2, each_none did.1 now new did.3 none)
+next rate rate' old now new same did (inr task) =
+    (task.0 ∷ did.0, new, (did.1, did.2, task_later rate task.0 did.1 now new did.3 (subst (λ r. DoesTask r task.0 now new) same task.1)), each_refl TakesNone new none_refl)
+
+pub ends : (rate rate' : ℕ) (old now new : List Feeder) (told : OutcomeData) → DidSoFar rate old now → DecodesOnce rate' (Some told) now new → DecodesAll rate told old new
+ends rate rate' old now new told did last = (last.0, (did.0, did.1, did.2, each_none did.1 now new did.3 last.1))

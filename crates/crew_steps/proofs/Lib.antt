@@ -1,6 +1,7 @@
 pub mod Decodings
 pub mod Eaches
 pub mod Heard
+pub mod Known
 pub mod Meant
 pub mod Places
 pub mod Pushes

@@ -1,5 +1,5 @@
 -- What the rings of the outputs take of a job's frames (this profile's).
-use Rattle.std.specs.Prelude.{ℕ, ℤ, ◌≡◌, ◌⊎◌, ◌+◌, ◌++◌, Bool, false, ◌&&◌, ◌==◌, nat_le, nat_lt, min, List, [], ◌∷◌, length, slice_get, Option, Some, None, slice_index_or, if◌then◌else◌}
+use Rattle.std.specs.Prelude.{ℕ, ℤ, ◌≡◌, ◌⊎◌, ◌+◌, ◌++◌, Bool, false, ◌&&◌, ◌==◌, nat_le, nat_lt, min, List, [], ◌∷◌, length, slice_get, Option, Some, None, Result, Ok, Err, slice_index_or, if◌then◌else◌}
 use Rattle.output_ring.specs.Frames.{with_cut}
 use Rattle.output_ring.specs.Rings.{SameFeeder, owed_of, taken_of}
 use Rattle.output_ring.specs.declared.feeder.Feeder.{Feeder}
@@ -9,7 +9,7 @@ use Rattle.player_core.specs.declared.state.FadePart.{FadePart}
 use Rattle.player_core.specs.declared.state.Job.{Job}
 use Rattle.player_events.specs.Outcomes.{OutcomeData}
 use Rattle.player_events.specs.declared.event.Event.{Event}
-use Rattle.player_events.specs.declared.event.Event.TheVariants.{Failed}
+use Rattle.player_events.specs.declared.event.Event.TheVariants as event
 use Rattle.parts.specs.Parts.{part_at}
 use Rattle.partition.specs.History.{Chronicle}
 use Rattle.partition.specs.Legal.{IsPast}
@@ -19,8 +19,11 @@ use Rattle.player_state.specs.declared.report.Feed.{Feed}
 use Rattle.player_state.specs.declared.report.Report.{Report}
 use Rattle.player_state.specs.declared.report.Report.TheVariants.{ToFeed}
 use Rattle.counted_player.specs.Seats.{SeatCount}
-use Rattle.held_player.specs.Views.{FeedsSomewhere}
+use Rattle.held_player.specs.Views.{FeedsSomewhere, TellsSomewhere}
 use Rattle.crew_steps.specs.Each.{EachAt}
+use Rattle.crew_steps.specs.declared.songs.JobFrames.{JobFrames}
+use Rattle.crew_steps.specs.declared.songs.NoFrames.{NoFrames}
+use Rattle.crew_steps.specs.declared.songs.NoFrames.TheVariants.{NoMemory, Failed}
 use Rattle.crew_steps.specs.Sounds.{AreOpenFor, IsShut, OpenSongs, ReadsJob}
 
 -- whether frames wait for room in a ring, if there is one
@@ -100,20 +103,44 @@ abbrev pub HandsOut : Option FadePart → List (List ℤ) → List (List ℤ) �
 HandsOut fade frames others told old new =
     EachAt (TakesItsOwn (handed (feed_told told.report) fade others frames)) 0 old new
 
--- It was told that so many frames of a partition's job are decoded, and these were handed out as it was told of
--- them.
-abbrev pub Feeds : SeatCount → ℕ → ℕ → ℕ → Job → List (List ℤ) → List (List ℤ) → List Feeder → List Feeder → Type 0
-Feeds seat share_before share_after place job frames others old new =
-    (told : OutcomeData) × FeedsSomewhere seat place job.number (length frames) told share_before share_after
-    × HandsOut job.fade frames others told old new
-
--- A job of a partition whose song failed gave no ring a frame, and that song is not open any more; of another
--- the frames that its songs have were read, told of, and handed out as it was told.
-abbrev pub DoesJob : OpenSongs → SeatCount → ℕ → ℕ → ℕ → Job → List Feeder → List Feeder → Type 0
-DoesJob songs seat share_before share_after place job old new =
-    ((new ≡ old) × ((partner : Bool) × IsShut songs place job partner))
-    ⊎ (AreOpenFor songs place job × ((frames : List (List ℤ)) × (others : List (List ℤ)) × ReadsJob songs job frames others × Feeds seat share_before share_after place job frames others old new))
-
 -- the event that a song of a partition's job has failed: its own, or the one that it fades into
 abbrev pub failure_of : ℕ → ℕ → Bool → Event
-failure_of place number partner = Failed place number partner
+failure_of place number partner = event.Failed place number partner
+
+-- It was told this of so many frames of a partition's job that are decoded, and these were handed out as it was
+-- told of them.
+abbrev pub Feeds : SeatCount → ℕ → ℕ → ℕ → Job → List (List ℤ) → List (List ℤ) → OutcomeData → List Feeder → List Feeder → Type 0
+Feeds seat share_before share_after place job frames others told old new =
+    FeedsSomewhere seat place job.number (length frames) told share_before share_after × HandsOut job.fade frames others told old new
+
+-- A job of a partition failed: no ring took a frame, the song that failed is not open any more, and the event that
+-- this song of this job has failed was told so.
+abbrev pub FailsJob : OpenSongs → SeatCount → ℕ → Job → OutcomeData → List Feeder → List Feeder → Type 0
+FailsJob songs seat place job told old new =
+    (new ≡ old) × ((partner : Bool) × IsShut songs place job partner × TellsSomewhere seat (failure_of place job.number partner) told)
+
+-- The songs of a partition's job are open: the frames that they have were read, told of, and handed out as it was
+-- told.
+abbrev pub FeedsJob : OpenSongs → SeatCount → ℕ → ℕ → ℕ → Job → OutcomeData → List Feeder → List Feeder → Type 0
+FeedsJob songs seat share_before share_after place job told old new =
+    AreOpenFor songs place job
+    × ((frames : List (List ℤ)) × (others : List (List ℤ)) × ReadsJob songs job frames others × Feeds seat share_before share_after place job frames others told old new)
+
+-- A job of a partition failed, or its frames were fed, and it was told this of it; where nothing was told, there
+-- was no memory, and no ring took a frame.
+abbrev pub DoesJob : OpenSongs → SeatCount → ℕ → ℕ → ℕ → Job → Option OutcomeData → List Feeder → List Feeder → Type 0
+DoesJob songs seat share_before share_after place job None old new = (share_after ≡ share_before) × (new ≡ old)
+DoesJob songs seat share_before share_after place job (Some told) old new =
+    ((share_after ≡ share_before) × FailsJob songs seat place job told old new) ⊎ FeedsJob songs seat share_before share_after place job told old new
+
+-- What was read for a job of a partition was fed, and it was told this of it; of a song that failed the very event was
+-- told so, and no ring took a frame; without memory nothing was told.
+abbrev pub FinishesJob : SeatCount → ℕ → ℕ → ℕ → Job → Result JobFrames NoFrames → Option OutcomeData → List Feeder → List Feeder → Type 0
+FinishesJob seat share_before share_after place job (Ok read) None old new = ⊥
+FinishesJob seat share_before share_after place job (Ok read) (Some told) old new =
+    Feeds seat share_before share_after place job read.frames.items read.others.items told old new
+FinishesJob seat share_before share_after place job (Err (Failed partner)) None old new = ⊥
+FinishesJob seat share_before share_after place job (Err (Failed partner)) (Some told) old new =
+    (share_after ≡ share_before) × (new ≡ old) × TellsSomewhere seat (failure_of place job.number partner) told
+FinishesJob seat share_before share_after place job (Err NoMemory) None old new = (share_after ≡ share_before) × (new ≡ old)
+FinishesJob seat share_before share_after place job (Err NoMemory) (Some told) old new = ⊥

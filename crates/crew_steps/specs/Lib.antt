@@ -1,3 +1,4 @@
+pub mod Decoding
 pub mod Each
 pub mod Feeding
 pub mod OpenSongs

@@ -1,14 +1,35 @@
 -- Why a job has no frames.
-use Rattle.std.specs.Prelude.{ℕ, ℤ, ◌≡◌, ◌<◌, ◌⊎◌, Bool, List, length, Option, Some, None}
+use Rattle.std.specs.Prelude.{ℕ, ℤ, ◌≡◌, ◌<◌, ◌⊎◌, Bool, List, length, Option, Some, None, Result, Ok, Err}
 use Rattle.player_core.specs.declared.state.Job.{Job}
 use Rattle.player_core.specs.declared.state.FadePart.{FadePart}
+use Rattle.wave.specs.declared.fault.WaveFault.{WaveFault}
+use Rattle.wave.specs.declared.fault.WaveFault.TheVariants as wave
 use Rattle.crew_steps.specs.Sounds.{AreHeard, IsShut, OpenSongs, Opened}
+use Rattle.crew_steps.specs.declared.song_source.SongFault.{SongFault}
+use Rattle.crew_steps.specs.declared.song_source.SongFault.TheVariants as song
 use Rattle.crew_steps.specs.declared.songs.NoFrames.{NoFrames}
 use Rattle.crew_steps.specs.declared.songs.NoFrames.TheVariants.{NoMemory, Failed}
 
 -- for want of memory, or since this song has failed: the job's own, or the one that it fades into
 abbrev pub IsFaultOf : Bool → NoFrames → Type 0
 IsFaultOf partner fault = (fault ≡ NoMemory) ⊎ (fault ≡ Failed partner)
+
+-- a file whose head is refused cannot be played, and only without memory it may be later
+abbrev pub head_fault : WaveFault → SongFault
+head_fault wave.NoMemory = song.NoMemory
+head_fault _ = song.Unopened
+
+-- a song whose file is not had has failed, and only without memory nothing is known of it
+abbrev pub frames_fault : SongFault → Bool → NoFrames
+frames_fault song.NoMemory partner = NoMemory
+frames_fault song.Unopened partner = Failed partner
+
+-- the song of an entry that the house looked for: one that is not in the queue any more has failed, and only without
+-- memory nothing is known of it
+abbrev pub found_song : {S E : Type 0} → Result (Option S) E → Bool → Result S NoFrames
+found_song (Ok (Some song)) partner = Ok song
+found_song (Ok None) partner = Err (Failed partner)
+found_song (Err fault) partner = Err NoMemory
 
 -- a song of the job that has failed is not open any more
 abbrev pub Fails : OpenSongs → ℕ → Job → NoFrames → Type 0

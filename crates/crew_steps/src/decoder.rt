@@ -1,6 +1,7 @@
 //! The thread that decodes.
-ghost use Rattle.std.specs.Prelude.{◌≡◌, ◌≤◌, vec_len};
+ghost use Rattle.std.specs.Prelude.{◌≡◌, IfErr, nat_le};
 ghost use Rattle.crew_steps.specs.Feeding.{HandsOut, feed_told};
+ghost use Rattle.crew_steps.specs.Songs.{IsFaultOf, found_song};
 
 use crate::feeders::{are_among, finish_all, owing, push_all, take_all};
 use crate::mixing::mix_block;
@@ -15,7 +16,8 @@ use output_ring::{Feeder, FeederEnd};
 use partition::PartitionFault;
 use player_core::{FadePart, Job};
 use player_state::{Feed, Report};
-use std::alloc::Global;
+use song_db::SharedSong;
+use std::alloc::{AllocError, Global};
 use std::sync::Wait;
 use std::sync::ledger::Share;
 use std::thread;
@@ -60,6 +62,7 @@ pub struct Decoder<'h, L: Ledgers, S: SongSource<M> + Drop, M: Media + Drop, R: 
     /// Of the first eight rings those that had no room, however often it looked.
     stalled: [bool; 8],
     ghost part: { share.parts ≡ 1 },
+    ghost own: { seat.number ≡ 4 },
 }
 
 /// What a decoder's thread hands back.
@@ -72,9 +75,11 @@ pub struct DecoderEnd<L: Ledgers> {
 
 /// What a decoder does next.
 enum Next {
-    Ends,
+    /// It was told of the end.
+    Ends(Reported),
     Again,
-    Decodes(Job),
+    /// It decodes a job, which it was given when the house had changed so often.
+    Decodes(Job, u64),
 }
 
 /// How long a block of 1,024 frames lasts, in microseconds, from 1,000 to 40,000.
@@ -93,15 +98,14 @@ impl<'h, L: Ledgers, S: SongSource<M> + Drop, M: Media + Drop, R: Wait + Clock> 
 > {
     ghost use Rattle.std.specs.Prelude.{◌≡◌, ◌<◌, ◌≤◌, [], false, true, not, IfErr, IfOk, OnErr, OnOk, vec_len, vec_capacity};
     ghost use Rattle.output_ring.specs.Rings.{EndsFeeder, SameFeeder};
-    ghost use Rattle.player_core.specs.declared.state.Job.{Job};
     ghost use Rattle.player_events.specs.declared.event.Event.TheVariants.{Want};
     ghost use Rattle.held_player.specs.Views.{FeedsShare, TellsSomewhere};
+    ghost use Rattle.crew_steps.specs.Decoding.{AsksFor, DecodesAll, DecodesOnce, RunsDecoder};
     ghost use Rattle.crew_steps.specs.Each.{Each};
-    ghost use Rattle.crew_steps.specs.Feeding.{DoesJob, Feeds, OwesNothingSomewhere, TakesNone, failure_of, owing as owing_lem};
+    ghost use Rattle.crew_steps.specs.Feeding.{DoesJob, Feeds, FinishesJob, OwesNothingSomewhere, TakesNone, failure_of, owing as owing_lem};
     ghost use Rattle.crew_steps.specs.Shown.{songs_of};
     ghost use Rattle.crew_steps.specs.Songs.{Fails, IsFaultOf};
-    ghost use Rattle.crew_steps.specs.Sounds.{AreOpenFor, IsShut, ReadsJob, is_partner, is_song, song_at};
-    ghost use Rattle.crew_steps.specs.declared.decoder.Next.TheVariants.{Decodes};
+    ghost use Rattle.crew_steps.specs.Sounds.{AreOpenFor, ReadsJob, is_partner, is_song, song_at};
 
     /// A decoder of songs of this rate.
     pub fn new(
@@ -113,6 +117,7 @@ impl<'h, L: Ledgers, S: SongSource<M> + Drop, M: Media + Drop, R: Wait + Clock> 
         share: Share<Decoded<L>>,
     ) -> Self
         requires { share.parts ≡ 1 }
+        ensures { result.songs.rate ≡ rate }
     {
         Decoder {
             rt,
@@ -132,14 +137,16 @@ impl<'h, L: Ledgers, S: SongSource<M> + Drop, M: Media + Drop, R: Wait + Clock> 
         }
     }
 
-    /// Decodes until the end, and finishes the feeders, whatever they owe. There is room for their ends.
+    /// Asks for jobs and does them until the end, and finishes the feeders, whatever they owe. There is room for
+    /// their ends.
     pub fn run(self, feeders: Vec<Feeder>, room: Vec<FeederEnd>) -> DecoderEnd<L>
         requires { (room.items ≡ []) × (vec_len feeders ≤ vec_capacity room) }
-        ensures { Each EndsFeeder feeders.items result.ends.items }
+        ensures rings { Each EndsFeeder feeders.items result.ends.items }
+        ensures decodes { RunsDecoder self.entry.songs.rate feeders.items result.ends.items }
     {
         let mut decoder = self;
         let mut feeders = feeders;
-        decoder.keep_decoding(&mut feeders);
+        let _told = decoder.keep_decoding(&mut feeders);
         let ends = finish_all(feeders, room);
         DecoderEnd {
             ends,
@@ -147,23 +154,28 @@ impl<'h, L: Ledgers, S: SongSource<M> + Drop, M: Media + Drop, R: Wait + Clock> 
         }
     }
 
-    /// Decodes until the end.
-    fn keep_decoding(&mut self, feeders: &mut Vec<Feeder>)
-        ensures { Each SameFeeder feeders.old.items feeders.new.items }
+    /// Goes on until it is told of the end, and says what it was told.
+    fn keep_decoding(&mut self, feeders: &mut Vec<Feeder>) -> Reported
+        ensures rings { Each SameFeeder feeders.old.items feeders.new.items }
+        ensures decodes { DecodesAll self.old.songs.rate result feeders.old.items feeders.new.items }
     {
         let rt = self.rt;
         for _ in rt.forever() {
-            if !self.decode_once(feeders) {
-                return;
+            if let Some(told) = self.decode_once(feeders) {
+                return told;
             }
         }
+        unreachable!()
     }
 
-    /// Moves what waits into the rings, and decodes a job of the partition that has its turn, if it has one.
-    /// False at the end.
-    #[tactic(auto, using(crate::proofs::Eaches::each_same, crate::proofs::Pushes::each_kept))]
-    fn decode_once(&mut self, feeders: &mut Vec<Feeder>) -> bool
-        ensures { Each SameFeeder feeders.old.items feeders.new.items }
+    /// Moves what waits into the rings, and decodes a job of the partition that has its turn, if it has one. One
+    /// for which there is no memory is asked for again when the others have had their turns. At the end it says
+    /// what it was told.
+    #[tactic(auto, using(crate::proofs::Pushes::each_kept))]
+    fn decode_once(&mut self, feeders: &mut Vec<Feeder>) -> Option<Reported>
+        ensures rings { Each SameFeeder feeders.old.items feeders.new.items }
+        ensures decodes { DecodesOnce self.old.songs.rate result feeders.old.items feeders.new.items }
+        ensures rate { self.new.songs.rate ≡ self.old.songs.rate }
     {
         let owes = self.push(feeders);
         let places = self.house.places(self.rt);
@@ -171,11 +183,12 @@ impl<'h, L: Ledgers, S: SongSource<M> + Drop, M: Media + Drop, R: Wait + Clock> 
         let place = next_place(places, self.place);
         self.place = place;
         match self.ask(place, owes, count_of(places)) {
-            Next::Ends => false,
-            Next::Again => true,
-            Next::Decodes(job) => {
-                self.decode(feeders, place, &job);
-                true
+            Next::Ends(told) => Some(told),
+            Next::Again => None,
+            Next::Decodes(job, changes) => {
+                let told = self.decode(feeders, place, &job);
+                self.pass_untold(told, changes, owes, count_of(places));
+                None
             }
         }
     }
@@ -184,20 +197,21 @@ impl<'h, L: Ledgers, S: SongSource<M> + Drop, M: Media + Drop, R: Wait + Clock> 
     /// one of the partition's outputs owes frames.
     #[tactic(auto, using(crate::proofs::Wanted::owes_nothing))]
     fn ask(&mut self, place: u8, owes: [bool; 8], partitions: usize) -> Next
-        ensures { (job : Job) → result ≡ Decodes job → OwesNothingSomewhere place owes }
+        ensures asks { AsksFor self.old.seat place owes result }
+        ensures rate { self.new.songs.rate ≡ self.old.songs.rate }
     {
         let Ok(told) = self.want(place, owes) else {
             self.pause();
             return Next::Again;
         };
         match told.report() {
-            Report::Ended => Next::Ends,
+            Report::Ended => Next::Ends(told),
             Report::ToDecode(Some(job)) => {
                 self.idle = 0;
-                Next::Decodes(job)
+                Next::Decodes(job, told.changes())
             }
             _ => {
-                self.pass(told.changes(), owes.iter().any(|owes| *owes), partitions);
+                self.pass(told.changes(), owes, partitions);
                 Next::Again
             }
         }
@@ -205,21 +219,38 @@ impl<'h, L: Ledgers, S: SongSource<M> + Drop, M: Media + Drop, R: Wait + Clock> 
 
     /// Asks a partition for a job, and says of which outputs frames still wait.
     fn want(&mut self, place: u8, owes: [bool; 8]) -> Result<Reported, PartitionFault>
-        ensures { IfOk result (TellsSomewhere self.old.seat (Want place owes)) }
+        ensures told { IfOk result (TellsSomewhere self.old.seat (Want place owes)) }
+        ensures rate { self.new.songs.rate ≡ self.old.songs.rate }
     {
         self.house
             .notice(self.rt, &mut self.seat, News::Wants(place, owes))
     }
 
-    /// Passes over a partition that has no job. Once all were passed over, one after the other, it rests.
-    fn pass(&mut self, changes: u64, owes: bool, partitions: usize) {
-        if self.idle == 0 {
-            self.seen = changes;
+    /// Passes over a partition whose job was given up, of which nothing was told.
+    fn pass_untold(
+        &mut self,
+        told: Option<Reported>,
+        changes: u64,
+        owes: [bool; 8],
+        partitions: usize,
+    )
+        ensures { self.new.songs.rate ≡ self.old.songs.rate }
+    {
+        if told.is_none() {
+            self.pass(changes, owes, partitions);
         }
+    }
+
+    /// Passes over a partition of which nothing can be decoded now. Once all were passed over, one after the
+    /// other, it rests.
+    fn pass(&mut self, changes: u64, owes: [bool; 8], partitions: usize)
+        ensures { self.new.songs.rate ≡ self.old.songs.rate }
+    {
+        self.seen = if self.idle == 0 { changes } else { self.seen };
         self.idle = self.idle.saturating_add(1);
-        if self.idle >= partitions {
+        if are_all(self.idle, partitions) {
             self.idle = 0;
-            self.rest(self.seen, owes);
+            self.rest(self.seen, owes.iter().any(|owes| *owes));
         }
     }
 
@@ -227,6 +258,7 @@ impl<'h, L: Ledgers, S: SongSource<M> + Drop, M: Media + Drop, R: Wait + Clock> 
     fn push(&mut self, feeders: &mut Vec<Feeder>) -> [bool; 8]
         ensures kept { Each TakesNone feeders.old.items feeders.new.items }
         ensures owes { result ≡ owing_lem feeders.new.items }
+        ensures rate { self.new.songs.rate ≡ self.old.songs.rate }
     {
         self.fill_rings(feeders);
         owing(feeders)
@@ -236,14 +268,13 @@ impl<'h, L: Ledgers, S: SongSource<M> + Drop, M: Media + Drop, R: Wait + Clock> 
     /// again; but a ring that stayed full so long is not waited for until it has room, or an output that takes
     /// nothing would hold up those of other partitions.
     fn fill_rings(&mut self, feeders: &mut Vec<Feeder>)
-        ensures { Each TakesNone feeders.old.items feeders.new.items }
+        ensures kept { Each TakesNone feeders.old.items feeders.new.items }
+        ensures rate { self.new.songs.rate ≡ self.old.songs.rate }
     {
         let looks = if self.streak > 2 { LOOKS } else { 1 };
         for _ in 0..looks {
             let pushed = push_all(feeders);
-            if pushed.moves {
-                self.vain = 0;
-            }
+            self.vain = if pushed.moves { 0 } else { self.vain };
             let owes = owing(feeders);
             if are_among(owes, self.stalled) {
                 self.stalled = owes;
@@ -256,56 +287,52 @@ impl<'h, L: Ledgers, S: SongSource<M> + Drop, M: Media + Drop, R: Wait + Clock> 
         }
     }
 
-    /// Decodes a job of a partition, and hands its frames to the outputs that they are for. No ring of one of
-    /// the partition's outputs owed frames when the job was given.
-    #[tactic(auto, using(crate::proofs::Eaches::each_unchanged, crate::proofs::Decodings::failed))]
-    fn decode(&mut self, feeders: &mut Vec<Feeder>, place: u8, job: &Job)
+    /// Decodes a job of a partition, and hands its frames to the outputs that they are for, or tells that one of
+    /// its songs has failed. `None` where there was no memory: then nothing is told, and the partition gives the
+    /// job again. No ring of one of the partition's outputs owed frames when the job was given.
+    fn decode(&mut self, feeders: &mut Vec<Feeder>, place: u8, job: &Job) -> Option<Reported>
         requires { OwesNothingSomewhere place (owing_lem feeders.old.items) }
         ensures rings { Each SameFeeder feeders.old.items feeders.new.items }
-        ensures decodes { DoesJob (songs_of self.new.songs) self.old.seat self.old.share.amount self.new.share.amount place job.now feeders.old.items feeders.new.items }
+        ensures decodes { DoesJob (songs_of self.new.songs) self.old.seat self.old.share.amount self.new.share.amount place job.now result feeders.old.items feeders.new.items }
         ensures rate { self.new.songs.rate ≡ self.old.songs.rate }
     {
-        self.streak = self.streak.saturating_add(1);
-        match self.read(place, job) {
-            Ok(read) => self.feed(feeders, place, job, read),
-            Err(partner) => {
-                let _told = self.tell_failure(place, job.number, partner);
-            }
+        let read = self.read(place, job);
+        self.finish_job(feeders, place, job, read)
+    }
+
+    /// Tells what came of reading a job. Its frames are handed out as that is told; only where there was no memory
+    /// to read them nothing is told.
+    fn finish_job(
+        &mut self,
+        feeders: &mut Vec<Feeder>,
+        place: u8,
+        job: &Job,
+        read: Result<JobFrames, NoFrames>,
+    ) -> Option<Reported>
+        ensures finishes { FinishesJob self.old.seat self.old.share.amount self.new.share.amount place job.now read result feeders.old.items feeders.new.items }
+        ensures songs { self.new.songs ≡ self.old.songs }
+    {
+        match read {
+            Ok(read) => Some(self.feed(feeders, place, job, read)),
+            Err(NoFrames::Failed(partner)) => Some(self.tell_failure(place, job.number, partner)),
+            Err(NoFrames::NoMemory) => None,
         }
     }
 
     /// Tells that the frames of a job are decoded, and hands them out as it is told.
     #[tactic(auto, using(crate::proofs::Decodings::feeds))]
-    fn feed(&mut self, feeders: &mut Vec<Feeder>, place: u8, job: &Job, read: JobFrames)
-        ensures feeds { Feeds self.old.seat self.old.share.amount self.new.share.amount place job.now read.frames.items read.others.items feeders.old.items feeders.new.items }
+    fn feed(&mut self, feeders: &mut Vec<Feeder>, place: u8, job: &Job, read: JobFrames) -> Reported
+        ensures feeds { Feeds self.old.seat self.old.share.amount self.new.share.amount place job.now read.frames.items read.others.items result feeders.old.items feeders.new.items }
         ensures songs { self.new.songs ≡ self.old.songs }
     {
+        self.streak = self.streak.saturating_add(1);
         let told = self.have(place, job.number, read.frames.len() as u64);
         hand_out(self.rt, feeders, job, read, &told);
-    }
-
-    /// Reads the frames of a job; where there is no memory, again after a while. Its failure tells whether
-    /// the partner has failed.
-    fn read(&mut self, place: u8, job: &Job) -> Result<JobFrames, bool>
-        ensures open { OnOk result (AreOpenFor (songs_of self.new.songs) place job.now) }
-        ensures read { IfOk result (λ r. ReadsJob (songs_of self.new.songs) job.now r.frames.items r.others.items) }
-        ensures failed { IfErr result (IsShut (songs_of self.new.songs) place job.now) }
-        ensures kept { (self.new.seat ≡ self.old.seat) × (self.new.share ≡ self.old.share) }
-        ensures rate { self.new.songs.rate ≡ self.old.songs.rate }
-    {
-        let rt = self.rt;
-        for _ in rt.forever() {
-            match self.try_to_read(place, job) {
-                Ok(read) => return Ok(read),
-                Err(NoFrames::Failed(partner)) => return Err(partner),
-                Err(NoFrames::NoMemory) => self.pause(),
-            }
-        }
-        unreachable!()
+        told
     }
 
     /// Reads the frames of a job, and opens its songs where they are not open yet.
-    fn try_to_read(&mut self, place: u8, job: &Job) -> Result<JobFrames, NoFrames>
+    fn read(&mut self, place: u8, job: &Job) -> Result<JobFrames, NoFrames>
         ensures open { OnOk result (AreOpenFor (songs_of self.new.songs) place job.now) }
         ensures read { IfOk result (λ r. ReadsJob (songs_of self.new.songs) job.now r.frames.items r.others.items) }
         ensures failed { IfErr result (Fails (songs_of self.new.songs) place job.now) }
@@ -361,11 +388,8 @@ impl<'h, L: Ledgers, S: SongSource<M> + Drop, M: Media + Drop, R: Wait + Clock> 
         ensures kept { (self.new.seat ≡ self.old.seat) × (self.new.share ≡ self.old.share) }
         ensures rate { self.new.songs.rate ≡ self.old.songs.rate }
     {
-        match self.house.song(self.rt, place, id) {
-            Ok(Some(song)) => self.songs.open(self.alloc, place, id, &song, partner),
-            Ok(None) => Err(NoFrames::Failed(partner)),
-            Err(_) => Err(NoFrames::NoMemory),
-        }
+        let song = song_found(self.house.song(self.rt, place, id), partner)?;
+        self.songs.open(self.alloc, place, id, &song, partner)
     }
 
     /// Tells that frames of a partition's job are decoded; where that is refused, again after a while.
@@ -389,7 +413,7 @@ impl<'h, L: Ledgers, S: SongSource<M> + Drop, M: Media + Drop, R: Wait + Clock> 
     /// Tells that a song of a partition's job cannot be read; where that is refused, again after a while.
     fn tell_failure(&mut self, place: u8, number: u64, partner: bool) -> Reported
         ensures told { TellsSomewhere self.old.seat (failure_of place number partner) result }
-        ensures songs { self.new.songs ≡ self.old.songs }
+        ensures kept { (self.new.songs ≡ self.old.songs) × (self.new.share ≡ self.old.share) }
     {
         let rt = self.rt;
         for _ in rt.forever() {
@@ -406,7 +430,9 @@ impl<'h, L: Ledgers, S: SongSource<M> + Drop, M: Media + Drop, R: Wait + Clock> 
 
     /// Rests until something changes. While frames still leave the rings it looks by time, since nothing
     /// tells of them, whether a song is played or the last one has ended.
-    fn rest(&mut self, seen: u64, owes: bool) {
+    fn rest(&mut self, seen: u64, owes: bool)
+        ensures { self.new.songs.rate ≡ self.old.songs.rate }
+    {
         // A rest of a block's time may be over late, so that two went. Where more did, it was too long.
         self.wait = if self.streak > 2 {
             SHORT_REST
@@ -425,6 +451,28 @@ impl<'h, L: Ledgers, S: SongSource<M> + Drop, M: Media + Drop, R: Wait + Clock> 
 
     fn pause(&self) {
         thread::sleep(self.rt, Duration::from_millis(PAUSE));
+    }
+}
+
+/// Whether so many partitions, passed over one after the other, are all.
+fn are_all(passed: usize, partitions: usize) -> bool
+    ensures { result ≡ nat_le partitions passed }
+{
+    passed >= partitions
+}
+
+/// The song of an entry of a queue as the house found it. One that left the queue has failed.
+fn song_found(
+    found: Result<Option<SharedSong>, AllocError>,
+    partner: bool,
+) -> Result<SharedSong, NoFrames>
+    ensures song { result ≡ found_song found partner }
+    ensures fault { IfErr result (IsFaultOf partner) }
+{
+    match found {
+        Ok(Some(song)) => Ok(song),
+        Ok(None) => Err(NoFrames::Failed(partner)),
+        Err(_) => Err(NoFrames::NoMemory),
     }
 }
 

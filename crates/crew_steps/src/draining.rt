@@ -3,8 +3,7 @@ ghost use Rattle.std.specs.Prelude.{◌≡◌, ◌+◌, ◌<◌, ◌||◌, List,
 ghost use Rattle.frame_ledger.specs.Shares.{HasOnePart};
 ghost use Rattle.output_ring.specs.Rings.{SameDrainer, hand_of, has_failed, popped_of};
 ghost use Rattle.output_ring.specs.declared.frames.CutFrame.{CutFrame};
-ghost use Rattle.held_player.specs.Views.{TellsSomewhere, turn_of};
-ghost use Rattle.crew_steps.specs.Turns.{Drains, Plays, Pops};
+ghost use Rattle.crew_steps.specs.Turns.{GivesFates, Plays, Pops};
 
 use crate::output::{Gate, OutputEnd};
 use counted_devices::Sink;
@@ -55,12 +54,11 @@ pub struct Draining<'h, L: Ledgers, O: Sink + Drop, G: Gate, R: Wait + Clock> {
 }
 
 impl<'h, L: Ledgers, O: Sink + Drop, G: Gate, R: Wait + Clock> Draining<'h, L, O, G, R> {
-    ghost use Rattle.std.specs.Prelude.{◌≡◌, ◌<◌, ◌||◌, List, None, IfSome};
+    ghost use Rattle.std.specs.Prelude.{◌≡◌, ◌<◌, ◌||◌, false, None, IfSome};
     ghost use Rattle.frame_ledger.specs.Shares.{HasOnePart};
-    ghost use Rattle.output_ring.specs.Rings.{SameDrainer, hand_of, has_failed, popped_of};
-    ghost use Rattle.output_ring.specs.declared.frames.CutFrame.{CutFrame};
-    ghost use Rattle.held_player.specs.Views.{TellsSomewhere, turn_of};
-    ghost use Rattle.crew_steps.specs.Turns.{DoesAs, Drains, Plays, Pops, goes_on};
+    ghost use Rattle.output_ring.specs.Rings.{SameDrainer, has_failed};
+    ghost use Rattle.player_state.specs.declared.report.Report.TheVariants.{Ended};
+    ghost use Rattle.crew_steps.specs.Turns.{DoesAs, Drains, HasRun, Runs, RunsToEnd, TellsOutput, goes_on};
 
     /// The output of this number.
     pub fn new(
@@ -72,6 +70,7 @@ impl<'h, L: Ledgers, O: Sink + Drop, G: Gate, R: Wait + Clock> Draining<'h, L, O
         shares: OutputShares<Written<L>, Discarded<L>>,
     ) -> Self
         requires { HasOnePart shares }
+        ensures new { (result.output ≡ output) × (result.writer ≡ writer) × (result.failed ≡ false) }
     {
         Draining {
             rt,
@@ -87,46 +86,57 @@ impl<'h, L: Ledgers, O: Sink + Drop, G: Gate, R: Wait + Clock> Draining<'h, L, O
         }
     }
 
-    /// Drains frames until the end.
+    /// Has turn after turn until one is told of the end, and obeys each. The ring's end is handed back as the last
+    /// turn left it.
     pub fn run(self, drainer: Drainer) -> OutputEnd<L>
-        ensures { SameDrainer drainer result.drainer }
+        ensures ring { SameDrainer drainer result.drainer }
+        ensures runs { self.entry.failed ≡ has_failed drainer → RunsToEnd O.contents self.entry.output drainer self.entry.writer result.drainer }
+        ensures known { self.entry.failed ≡ has_failed drainer → HasRun self.entry.output drainer result.drainer }
     {
         let mut drainer = drainer;
         let mut draining = self;
-        draining.keep_draining(&mut drainer);
+        let _told = draining.keep_draining(&mut drainer);
         draining.end(drainer)
     }
 
-    fn keep_draining(&mut self, drainer: &mut Drainer)
-        ensures { SameDrainer drainer.old drainer.new }
+    /// Goes on until a turn is told of the end, and says what that one was told.
+    fn keep_draining(&mut self, drainer: &mut Drainer) -> Reported
+        ensures ring { SameDrainer drainer.old drainer.new }
+        ensures runs { self.old.failed ≡ has_failed drainer.old → Runs O.contents self.old.output result drainer.old self.old.writer drainer.new self.new.writer }
     {
         let rt = self.rt;
         for _ in rt.forever() {
-            if !self.drain_once(drainer) {
-                return;
+            if let Some(told) = self.drain_once(drainer) {
+                return told;
             }
         }
+        unreachable!()
     }
 
-    /// Where the gate lets it, pops frames, has a turn, and writes the frames out as it was told. False at
-    /// the end.
-    #[tactic(auto, using(crate::proofs::Turns::idle, crate::proofs::Turns::obeyed))]
-    fn drain_once(&mut self, drainer: &mut Drainer) -> bool
+    /// Where the gate lets it, pops frames, has a turn, and writes the frames out as it was told. At the end it
+    /// says what it was told.
+    #[tactic(auto, using(crate::proofs::Turns::still, crate::proofs::Turns::waited))]
+    fn drain_once(&mut self, drainer: &mut Drainer) -> Option<Reported>
         ensures ring { SameDrainer drainer.old drainer.new }
-        ensures drains { Drains O.contents self.old.seat self.old.output self.old.failed drainer.old self.old.writer drainer.new self.new.writer }
+        ensures drains { Drains O.contents self.old.output self.old.failed result drainer.old self.old.writer drainer.new self.new.writer }
         ensures failed { self.old.failed ≡ has_failed drainer.old → self.new.failed ≡ has_failed drainer.new }
+        ensures output { self.new.output ≡ self.old.output }
     {
         if !self.gate.ask(self.output) {
             self.pause();
-            return true;
+            return None;
         }
         let popped = fill(drainer, if self.streak > 1 { LOOKS } else { 1 });
         let Some(told) = self.tell(drainer.fates()) else {
             self.pause();
-            return true;
+            return None;
         };
         drainer.reported();
-        self.obey(drainer, popped, &told)
+        if self.obey(drainer, popped, &told) {
+            None
+        } else {
+            Some(told)
+        }
     }
 
     /// Gives the frames of the hand the fates that its turn was told. False at the end.
@@ -134,20 +144,28 @@ impl<'h, L: Ledgers, O: Sink + Drop, G: Gate, R: Wait + Clock> Draining<'h, L, O
         ensures ring { SameDrainer drainer.old drainer.new }
         ensures does { DoesAs O.contents told.now.report drainer.old self.old.writer drainer.new self.new.writer }
         ensures failed { self.old.failed ≡ has_failed drainer.old → self.new.failed ≡ has_failed drainer.new }
+        ensures output { self.new.output ≡ self.old.output }
         ensures goes { result ≡ goes_on told.now.report }
+        ensures ends { result ≡ false → told.now.report ≡ Ended }
     {
-        let Report::ToPlay(heard) = told.report() else {
-            return false;
-        };
-        let wrote = write_hand(drainer, &mut self.writer, heard);
-        self.go_on(popped, wrote, told.changes(), heard.live.enabled);
-        true
+        match told.report() {
+            Report::ToPlay(heard) => {
+                let wrote = write_hand(drainer, &mut self.writer, heard);
+                self.go_on(popped, wrote, told.changes(), heard.live.enabled);
+                true
+            }
+            Report::Ended => false,
+            _ => {
+                self.pause();
+                true
+            }
+        }
     }
 
     /// Rests where no frame came and none got its fate. Once the writer has failed, the output is switched
     /// off at its next turn.
     fn go_on(&mut self, popped: usize, wrote: Wrote, changes: u64, enabled: bool)
-        ensures writer { self.new.writer ≡ self.old.writer }
+        ensures kept { (self.new.writer ≡ self.old.writer) × (self.new.output ≡ self.old.output) }
         ensures failed { self.new.failed ≡ (self.old.failed || wrote.failed) }
     {
         self.failed = self.failed || wrote.failed;
@@ -158,10 +176,12 @@ impl<'h, L: Ledgers, O: Sink + Drop, G: Gate, R: Wait + Clock> Draining<'h, L, O
         }
     }
 
-    /// Tells which fates frames got since the last turn. `None` where the turn was refused.
+    /// Tells which fates frames got since the last turn, and whether the writer failed. `None` where the turn was
+    /// refused.
+    #[tactic(auto, using(crate::proofs::Turns::of_output))]
     fn tell(&mut self, fates: Fates) -> Option<Reported>
-        ensures writer { (self.new.writer ≡ self.old.writer) × (self.new.failed ≡ self.old.failed) }
-        ensures told { IfSome result (TellsSomewhere self.old.seat (turn_of self.old.output fates self.old.failed)) }
+        ensures kept { (self.new.writer ≡ self.old.writer) × (self.new.failed ≡ self.old.failed) × (self.new.output ≡ self.old.output) }
+        ensures told { IfSome result (TellsOutput self.old.output fates self.old.failed) }
         ensures untold { result ≡ None → self.new.shares ≡ self.old.shares }
     {
         let turn = self.house.turn(
@@ -181,7 +201,7 @@ impl<'h, L: Ledgers, O: Sink + Drop, G: Gate, R: Wait + Clock> Draining<'h, L, O
     /// Rests until something changes. It is woken before new frames are in its ring, so after a change it
     /// looks once more soon.
     fn rest(&mut self, changes: u64, enabled: bool)
-        ensures { (self.new.writer ≡ self.old.writer) × (self.new.failed ≡ self.old.failed) }
+        ensures { (self.new.writer ≡ self.old.writer) × (self.new.failed ≡ self.old.failed) × (self.new.output ≡ self.old.output) }
     {
         self.streak = 0;
         if enabled && self.seen != changes {
@@ -243,10 +263,12 @@ struct Wrote {
 }
 
 /// Gives the frames of the hand their fates.
+#[tactic(auto, using(crate::proofs::Turns::gives))]
 fn write_hand<O: Sink>(drainer: &mut Drainer, writer: &mut O, heard: Heard) -> Wrote
     ensures plays { Plays O.contents heard (hand_of drainer.old) (has_failed drainer.old) writer.old drainer.new writer.new }
     ensures failed { has_failed drainer.new ≡ (has_failed drainer.old || result.failed) }
     ensures popped { popped_of drainer.new ≡ popped_of drainer.old }
+    ensures fates { GivesFates drainer.old drainer.new }
     ensures ring { SameDrainer drainer.old drainer.new }
 {
     let before = drainer.held();

@@ -1,6 +1,7 @@
 //! The decoder's ends of several rings.
 ghost use Rattle.std.specs.Prelude.{◌≡◌, ◌≤◌, [], All, None, false, length, slice_get, slice_index_or, vec_len, vec_capacity};
 ghost use Rattle.output_ring.specs.Rings.{EndsFeeder};
+ghost use Rattle.crew_steps.specs.Decoding.{EndsAs};
 ghost use Rattle.crew_steps.specs.Each.{Each, EachAt};
 ghost use Rattle.crew_steps.specs.Feeding.{OwesNothing, TakesItsOwn, TakesNone, fed_frames, owes, owing as owing_lem};
 
@@ -150,7 +151,8 @@ fn push_one(feeder: &mut Feeder) -> Pushed
 /// Finishes all feeders. There is room for their ends.
 pub fn finish_all(feeders: Vec<Feeder>, room: Vec<FeederEnd>) -> Vec<FeederEnd>
     requires { (room.items ≡ []) × (vec_len feeders ≤ vec_capacity room) }
-    ensures { Each EndsFeeder feeders.items result.items }
+    ensures rings { Each EndsFeeder feeders.items result.items }
+    ensures ends { Each EndsAs feeders.items result.items }
 {
     let mut ends = room;
     for feeder in feeders {

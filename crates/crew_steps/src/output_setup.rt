@@ -1,5 +1,6 @@
 //! What an output is started with.
-ghost use Rattle.output_ring.specs.Rings.{AreEnds};
+ghost use Rattle.std.specs.Prelude.{◌≡◌, false};
+ghost use Rattle.output_ring.specs.Rings.{AreEnds, has_failed};
 
 use output_ring::{Drainer, Feeder};
 
@@ -10,4 +11,5 @@ pub struct OutputSetup<O> {
     pub drainer: Drainer,
     pub writer: O,
     ghost ends: { AreEnds feeder drainer },
+    ghost unused: { has_failed drainer ≡ false },
 }

@@ -1,6 +1,7 @@
 //! The songs that are being decoded.
 ghost use Rattle.std.specs.Prelude.{◌≡◌, ◌≤◌, ◌⊎◌, All, IfOk, IfErr, vec_len};
 ghost use Rattle.crew_steps.specs.OpenSongs.{AreMeant, HasFault, opened_in};
+ghost use Rattle.crew_steps.specs.Songs.{IsFaultOf, frames_fault, head_fault};
 ghost use Rattle.crew_steps.specs.Sounds.{AreOfSome, IsMeant, is_song};
 
 use crate::open_song::{OpenSong, WIDTH};
@@ -162,8 +163,7 @@ impl<S: SongSource<M> + Drop, M: Media + Drop> Songs<S, M> {
                 }
                 Ok(())
             }
-            Err(SongFault::NoMemory) => Err(NoFrames::NoMemory),
-            Err(SongFault::Unopened) => Err(NoFrames::Failed(partner)),
+            Err(fault) => Err(no_frames(fault, partner)),
         }
     }
 
@@ -183,8 +183,7 @@ impl<S: SongSource<M> + Drop, M: Media + Drop> Songs<S, M> {
         let mut file = self.source.open(alloc, song.song().uri())?;
         match read_head(alloc, &mut file, self.rate) {
             Ok(head) => Ok(OpenSong::new(alloc, place, id, file, head)),
-            Err(WaveFault::NoMemory) => Err(SongFault::NoMemory),
-            Err(_) => Err(SongFault::Unopened),
+            Err(fault) => Err(song_fault(fault)),
         }
     }
 
@@ -269,6 +268,27 @@ impl<S: SongSource<M> + Drop, M: Media + Drop> Songs<S, M> {
             return Err(NoFrames::Failed(true));
         }
         Ok(others)
+    }
+}
+
+/// Why the file of a song whose head was refused is not had. Without memory it may be had later.
+fn song_fault(fault: WaveFault) -> SongFault
+    ensures { result ≡ head_fault fault }
+{
+    match fault {
+        WaveFault::NoMemory => SongFault::NoMemory,
+        _ => SongFault::Unopened,
+    }
+}
+
+/// Why a job has no frames whose song's file is not had.
+fn no_frames(fault: SongFault, partner: bool) -> NoFrames
+    ensures fault { result ≡ frames_fault fault partner }
+    ensures cause { IsFaultOf partner result }
+{
+    match fault {
+        SongFault::NoMemory => NoFrames::NoMemory,
+        SongFault::Unopened => NoFrames::Failed(partner),
     }
 }
 

@@ -1,7 +1,7 @@
 //! Partitions play apart, each to its own outputs, and an output that is moved writes nothing more of the
 //! partition that it left.
 use crate::door::behind_a_door;
-use crate::tunes::{Tone, Tune, listed, tune_of};
+use crate::tunes::{Tone, Tune, listed, scarce_tune, tune_of};
 use crate::wire::add_right;
 use crate::wired::told_apart;
 use std::alloc::{AllocError, Global};
@@ -63,6 +63,43 @@ files opened: 2
 decoded 6000, written 6000, discarded 0, left 0, torn 0
 decoded 5000, written 5000, discarded 0, left 0, torn 0
 right frames in the hall 6000, in the attic 5000
+";
+
+fn beside_one_without_memory<R: Threads + Wait + Clock + Copy + Drop + Send + Sync + 'static>(
+    rt: R,
+    alloc: Global,
+) -> Result<String, AllocError> {
+    let script = "newpartition k
+partition k
+moveoutput attic
+add b.wav
+play
+partition default
+add a.wav
+play
+~ hall 6000";
+    let first = tune_of(alloc, "a.wav", 6_000, 6_000, Tone::Saw)?;
+    let tunes = listed(alloc, first, Some(scarce_tune(alloc, "b.wav", 5_000)?));
+    // No output is behind the door.
+    let (day, mut rooms) = behind_a_door(rt, alloc, tunes, &[false, false], 0, script)?;
+    told_apart(day, &mut rooms.wires, Tone::Saw, Tone::Steps)
+}
+
+/// The job for which there is no memory is asked for again and again, and the other partition goes on. At the end the
+/// decoder does not wait for memory.
+const MEMORY_FOR_ONE_ALONE: &str = "OK
+OK
+OK
+OK
+OK
+OK
+OK
+OK
+hall 6000: true
+files opened: 1
+decoded 6000, written 6000, discarded 0, left 0, torn 0
+decoded 0, written 0, discarded 0, left 0, torn 0
+right frames in the hall 6000, in the attic 0
 ";
 
 fn moved<R: Threads + Wait + Clock + Copy + Drop + Send + Sync + 'static>(
@@ -237,6 +274,10 @@ in the porch 10784, in the den 20000, in the loft 10784
 #[test]
 fn partitions_and_their_outputs(rt: HostRuntime) -> Result<(), Fail> {
     wants(apart(rt, rt.alloc()), PARTITIONS_PLAY_APART)?;
+    wants(
+        beside_one_without_memory(rt, rt.alloc()),
+        MEMORY_FOR_ONE_ALONE,
+    )?;
     wants(moved(rt, rt.alloc()), A_MOVED_OUTPUT)?;
     wants(in_turn(rt, rt.alloc()), OUTPUTS_ARE_MOVED_IN_TURN)
 }

@@ -77,7 +77,8 @@ fn part_of_fade(a: i32, b: i32, k: i32) -> i32 {
     of_a.wrapping_add(b.wrapping_mul(k)) / 8_000
 }
 
-/// A song: how many frames the library has of it, and its file, which is empty where there is none.
+/// A song: how many frames the library has of it, and its file, which is empty where there is none. For one of a
+/// single byte there is no memory.
 #[derive(Drop)]
 pub(crate) struct Tune {
     uri: &'static str,
@@ -107,6 +108,17 @@ pub(crate) fn lost_tune(alloc: Global, uri: &'static str, frames: u64) -> Tune {
         frames,
         file: Vec::new(alloc),
     }
+}
+
+/// A song whose file is there, but for which there is never memory.
+pub(crate) fn scarce_tune(
+    alloc: Global,
+    uri: &'static str,
+    frames: u64,
+) -> Result<Tune, AllocError> {
+    let mut file = Vec::new(alloc);
+    file.push(0)?;
+    Ok(Tune { uri, frames, file })
 }
 
 /// One song, and a second where one is given.
@@ -159,6 +171,9 @@ impl SongSource<FailAt> for Files {
         };
         if tune.file.is_empty() {
             return Err(SongFault::Unopened);
+        }
+        if tune.file.len() == 1 {
+            return Err(SongFault::NoMemory);
         }
         let mut copy = Vec::new(alloc);
         match copy.extend_from_slice(&tune.file) {

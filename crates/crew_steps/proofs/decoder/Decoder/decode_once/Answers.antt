@@ -1,12 +1,36 @@
-use Rattle.std.proofs.Common.{subst}
+use Rattle.std.proofs.Common.{inl, inr, rules, subst}
+use Rattle.crew_steps.specs.Decoding.{IsGiven}
 use Rattle.crew_steps.specs.Feeding.{OwesNothingSomewhere}
+use Rattle.crew_steps.specs.Shown.{songs_of}
 use Rattle.crew_steps.proofs.Eaches.{each_same}
 use Rattle.crew_steps.proofs.Pushes.{each_kept}
 use Rattle.crew_steps.proofs.decoder.Decoder.decode_once.Goals as goal
 
-pub decode-requires : goal.decode-requires
-decode-requires g c = subst (OwesNothingSomewhere c.next_place-place.result) c.push-owes.ensures.owes (c.ask.ensures c.in-Decodes.job c.in-Decodes.is)
+pub decode-told-requires : goal.decode-told-requires
+decode-told-requires g c = subst (OwesNothingSomewhere c.next_place-place.result) c.push-owes.ensures.owes c.in-Decodes.ensures.asks.1
 
-pub returns-in-Decodes : goal.returns-in-Decodes
-returns-in-Decodes g c =
-    each_same c.args.feeders.now.items c.push-owes.new.feeders.items c.decode.new.feeders.items (each_kept c.args.feeders.now.items c.push-owes.new.feeders.items c.push-owes.ensures.kept) c.decode.ensures.rings
+pub returns-in-Decodes-clause-rings : goal.returns-in-Decodes-clause-rings
+returns-in-Decodes-clause-rings g c =
+    each_same c.args.feeders.now.items c.push-owes.new.feeders.items c.decode-told.new.feeders.items (each_kept c.args.feeders.now.items c.push-owes.new.feeders.items c.push-owes.ensures.kept) c.decode-told.ensures.rings
+
+pub returns-in-Decodes-clause-decodes : goal.returns-in-Decodes-clause-decodes
+returns-in-Decodes-clause-decodes g c = inr (
+  record { place = c.next_place-place.result; job = c.in-Decodes.job },
+  (
+    c.push-owes.new.feeders.items,
+    c.push-owes.new.self.seat,
+    c.ask.new.self.seat,
+    c.push-owes.ensures.kept,
+    c.push-owes.new.self.own,
+    subst (λ owing. IsGiven c.push-owes.new.self.seat c.next_place-place.result owing c.in-Decodes.job) c.push-owes.ensures.owes c.in-Decodes.ensures.asks.0,
+    c.ask.new.self.own,
+    (
+      songs_of c.decode-told.new.self.songs,
+      search rules,
+      c.ask.new.self.share.amount,
+      c.decode-told.new.self.share.amount,
+      c.decode-told.result,
+      c.decode-told.ensures.decodes,
+    ),
+  ),
+)

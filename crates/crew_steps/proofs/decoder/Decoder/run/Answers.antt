@@ -4,7 +4,10 @@ use Rattle.crew_steps.proofs.Eaches.{each_ends, each_length}
 use Rattle.crew_steps.proofs.decoder.Decoder.run.Goals as goal
 
 pub finish_all-ends-requires : goal.finish_all-ends-requires
-finish_all-ends-requires g c = let e = each_length SameFeeder _ _ c.keep_decoding.ensures in search rules
+finish_all-ends-requires g c = let e = each_length SameFeeder _ _ c.keep_decoding-told.ensures.rings in search rules
 
-pub returns : goal.returns
-returns g c = each_ends _ _ _ c.keep_decoding.ensures c.finish_all-ends.ensures
+pub returns-clause-rings : goal.returns-clause-rings
+returns-clause-rings g c = each_ends _ _ _ c.keep_decoding-told.ensures.rings c.finish_all-ends.ensures.rings
+
+pub returns-clause-decodes : goal.returns-clause-decodes
+returns-clause-decodes g c = record { last = c.keep_decoding-told.result; rings = c.keep_decoding-told.new.feeders.items; decodes = c.keep_decoding-told.ensures.decodes; left = c.finish_all-ends.ensures.ends }
