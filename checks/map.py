@@ -23,7 +23,7 @@ TESTS = re.compile(r'_tests$|^(?:worked_rows|house_rooms|wanted)$')
 
 # the rooms, the highest first
 ROOMS = [
-    ('the program', 'music_daemon shelf_file serving patience state_laws kept_state scan_report settings command_line'),
+    ('the program', 'music_daemon shelf_file serving patience opened_player own_lines state_laws kept_state scan_report settings command_line'),
     ('clients', 'mpd_server server_rounds mpd_session mpd_answers'),
     ("the house's threads", 'crew crew_steps'),
     ('the house', 'house held_player counted_player'),
@@ -153,7 +153,10 @@ THEOREMS = [
     ('pcm_mix', 'mix', '', 'pcm_mix/Blocks', 'block_of', ''),
     ('shelf_database', 'SqlShelf::over', 'opened', 'shelf_database/Opens', 'Opens', ''),
     ('settings', 'settings', 'taken', 'settings/Values', 'Says', 'settings: one_cause'),
+    ('opened_player', 'player_of', 'opened', 'opened_player/Opened', 'opened_by', ''),
+    ('kept_state', 'kept_of', '', 'kept_state/Told', 'IsTold', ''),
     ('kept_state', 'state_text', '', 'kept_state/Texts', 'state_text', 'kept_state: gives_back; state_laws: players_come_back'),
+    ('kept_state', 'tell_lines', '', 'kept_state/Telling', 'TellsSteps', ''),
     ('command_line', 'command_line', 'asks', 'command_line/Programs', 'Asks', 'command_line: readings'),
 ]
 

@@ -1,2 +1,5 @@
 pub mod Texts
 pub mod Back
+pub mod Behind
+pub mod Told
+pub mod OneLine

@@ -1,52 +1,75 @@
 //! What a player answered of itself.
+ghost use Rattle.std.specs.Prelude.{◌≡◌, [], MatchOption, None, Some, IfOk, OnOk, codes};
+ghost use Rattle.std.specs.Str.Lines.{lines};
+ghost use Rattle.kept_state.specs.Heard.{HasHeard, Hears, Keeps, at_last, options_after, outputs_after, prioritized, songs_after, switched, text_after};
+ghost use Rattle.kept_state.specs.Told.{IsTold, after_place, at_place, before_place, behind, number_or_zero, options_told, outputs_told, playback_for, shown_on};
+
 use crate::kept::{Kept, KeptEntry, KeptOptions, KeptOutput, KeptPlayback, KeptSong};
-use mpd_text::Text;
+use mpd_text::{Text, number};
 use std::alloc::{AllocError, Global};
 
-/// What was read of the answers so far.
+/// What was heard of the answers so far.
 #[derive(Drop)]
-struct Reading {
-    kept: Kept,
+struct Heard {
+    options: KeptOptions,
     /// The place of the current song in the queue, where there is one.
     place: Option<u32>,
     /// The state and the elapsed seconds that `status` told.
     state: Text,
     elapsed: Text,
-    /// How many songs of the queue were read.
-    songs: u32,
+    outputs: Vec<KeptOutput>,
+    /// The songs of the queue.
+    songs: Vec<KeptEntry>,
 }
 
-/// What is kept of a player that answered so to `status`, `outputs` and `playlistinfo`, in that order. A line
-/// that says nothing of it is passed over; what no line says is as a player has it that was just opened.
-pub fn kept_of(alloc: Global, answers: &str) -> Result<Kept, AllocError> {
-    let mut reading = nothing_read(alloc)?;
-    for line in answers.lines() {
-        if let Some((key, value)) = line.split_once(": ") {
-            take_line(alloc, &mut reading, key, value)?;
+/// What is kept of a player that answered so to `status`, `outputs` and `playlistinfo`. A line that says nothing of
+/// it is passed over; what no line says is as a player has it that was just opened.
+pub fn kept_of(alloc: Global, answers: &str) -> Result<Kept, AllocError>
+    ensures { IfOk result (IsTold (lines answers.now)) }
+{
+    let mut heard = nothing_heard(alloc)?;
+    'answers: for line in answers.lines() {
+        hear(alloc, &mut heard, line)?;
+    }
+    kept_by(alloc, heard)
+}
+
+/// Whether the output of a number is on, by the answer to `outputs`; none where it is not there.
+pub fn is_output_on(alloc: Global, answer: &str, number: usize) -> Result<Option<bool>, AllocError>
+    ensures { IfOk result (λ is_on. is_on ≡ shown_on number (outputs_told (lines answer.now))) }
+{
+    let kept = kept_of(alloc, answer)?;
+    Ok(shown(&kept.outputs, number))
+}
+
+fn shown(outputs: &[KeptOutput], number: usize) -> Option<bool>
+    ensures { result ≡ shown_on number outputs.now }
+{
+    for output in outputs {
+        if output.number as usize == number {
+            return Some(output.is_on);
         }
     }
-    Ok(reading.kept)
+    None
 }
 
-fn nothing_read(alloc: Global) -> Result<Reading, AllocError> {
-    let kept = Kept {
+fn nothing_heard(alloc: Global) -> Result<Heard, AllocError>
+    ensures { IfOk result (HasHeard []) }
+{
+    Ok(Heard {
         options: first_options(alloc)?,
-        outputs: Vec::new(alloc),
-        before: Vec::new(alloc),
-        song: None,
-        after: Vec::new(alloc),
-    };
-    Ok(Reading {
-        kept,
         place: None,
         state: Text::new(alloc, "stop")?,
         elapsed: Text::new(alloc, "0")?,
-        songs: 0,
+        outputs: Vec::new(alloc),
+        songs: Vec::new(alloc),
     })
 }
 
 /// The options of a player that was just opened.
-fn first_options(alloc: Global) -> Result<KeptOptions, AllocError> {
+fn first_options(alloc: Global) -> Result<KeptOptions, AllocError>
+    ensures { IfOk result (λ options. options ≡ options_told []) }
+{
     Ok(KeptOptions {
         volume: Text::new(alloc, "100")?,
         repeat: Text::new(alloc, "0")?,
@@ -57,88 +80,165 @@ fn first_options(alloc: Global) -> Result<KeptOptions, AllocError> {
     })
 }
 
-fn take_line(
-    alloc: Global,
-    reading: &mut Reading,
-    key: &str,
-    value: &str,
-) -> Result<(), AllocError> {
-    match key {
-        "song" => reading.place = value.parse::<u32>().ok(),
-        "state" => reading.state = Text::new(alloc, value)?,
-        "elapsed" => reading.elapsed = Text::new(alloc, value)?,
-        "outputid" => reading.kept.outputs.push(KeptOutput {
-            number: number_of(value),
+fn hear(alloc: Global, heard: &mut Heard, line: &str) -> Result<(), AllocError>
+    ensures { OnOk result (Hears line.now heard.old heard.new) }
+{
+    hear_options(alloc, &mut heard.options, line)?;
+    hear_text(alloc, &mut heard.state, "state: ", line)?;
+    hear_text(alloc, &mut heard.elapsed, "elapsed: ", line)?;
+    if let Some(value) = value_behind("song: ", line) {
+        heard.place = number(value);
+    }
+    hear_output(&mut heard.outputs, line)?;
+    hear_song(alloc, &mut heard.songs, line)
+}
+
+fn hear_options(alloc: Global, options: &mut KeptOptions, line: &str) -> Result<(), AllocError>
+    ensures { OnOk result (options.new ≡ options_after line.now options.old) }
+{
+    hear_text(alloc, &mut options.volume, "volume: ", line)?;
+    hear_text(alloc, &mut options.repeat, "repeat: ", line)?;
+    hear_text(alloc, &mut options.random, "random: ", line)?;
+    hear_text(alloc, &mut options.single, "single: ", line)?;
+    hear_text(alloc, &mut options.consume, "consume: ", line)?;
+    hear_text(alloc, &mut options.crossfade, "xfade: ", line)
+}
+
+/// A text of which a line may tell another one.
+fn hear_text(alloc: Global, text: &mut Text, key: &str, line: &str) -> Result<(), AllocError>
+    ensures { OnOk result (text.new ≡ text_after key.now line.now text.old) }
+{
+    if let Some(value) = value_behind(key, line) {
+        *text = Text::new(alloc, value)?;
+    }
+    Ok(())
+}
+
+fn hear_output(outputs: &mut Vec<KeptOutput>, line: &str) -> Result<(), AllocError>
+    ensures { OnOk result (
+        outputs.new.items ≡ outputs_after (behind (codes "outputid: ") line.now) (behind (codes "outputenabled: ") line.now) outputs.old.items) }
+{
+    if let Some(value) = value_behind("outputid: ", line) {
+        outputs.push(KeptOutput {
+            number: number_or_0(value),
             is_on: false,
-        })?,
-        "outputenabled" => {
-            if let Some(output) = reading.kept.outputs.last_mut() {
-                output.is_on = value == "1";
-            }
-        }
-        "file" => take_song(alloc, reading, value)?,
-        "Prio" => set_priority(&mut reading.kept, number_of(value)),
-        _ => take_option(alloc, &mut reading.kept.options, key, value)?,
+        })?;
+    } else if let Some(value) = value_behind("outputenabled: ", line) {
+        switch_last(outputs, value == "1");
     }
     Ok(())
 }
 
-fn take_option(
-    alloc: Global,
-    options: &mut KeptOptions,
-    key: &str,
-    value: &str,
-) -> Result<(), AllocError> {
-    match key {
-        "volume" => options.volume = Text::new(alloc, value)?,
-        "repeat" => options.repeat = Text::new(alloc, value)?,
-        "random" => options.random = Text::new(alloc, value)?,
-        "single" => options.single = Text::new(alloc, value)?,
-        "consume" => options.consume = Text::new(alloc, value)?,
-        "xfade" => options.crossfade = Text::new(alloc, value)?,
-        _ => {}
+fn switch_last(outputs: &mut Vec<KeptOutput>, is_on: bool)
+    ensures { outputs.new.items ≡ at_last (switched is_on) outputs.old.items }
+{
+    if let Some(output) = outputs.last_mut() {
+        output.is_on = is_on;
+    }
+}
+
+fn hear_song(alloc: Global, songs: &mut Vec<KeptEntry>, line: &str) -> Result<(), AllocError>
+    ensures { OnOk result (songs.new.items ≡ songs_after (behind (codes "file: ") line.now) (behind (codes "Prio: ") line.now) songs.old.items) }
+{
+    if let Some(value) = value_behind("file: ", line) {
+        songs.push(KeptEntry {
+            uri: Text::new(alloc, value)?,
+            priority: 0,
+        })?;
+    } else if let Some(value) = value_behind("Prio: ", line) {
+        prioritize_last(songs, number_or_0(value));
     }
     Ok(())
 }
 
-/// Takes the next song of the queue.
-fn take_song(alloc: Global, reading: &mut Reading, uri: &str) -> Result<(), AllocError> {
-    let entry = KeptEntry {
-        uri: Text::new(alloc, uri)?,
-        priority: 0,
+fn prioritize_last(songs: &mut Vec<KeptEntry>, priority: u32)
+    ensures { songs.new.items ≡ at_last (prioritized priority) songs.old.items }
+{
+    if let Some(entry) = songs.last_mut() {
+        entry.priority = priority;
+    }
+}
+
+/// What stands in a line behind a key.
+fn value_behind<'l>(key: &str, line: &'l str) -> Option<&'l str>
+    ensures { MatchOption result (behind key.now line.now ≡ None) (λ value. behind key.now line.now ≡ Some value.now) }
+{
+    line.strip_prefix(key)
+}
+
+fn number_or_0(text: &str) -> u32
+    ensures { result ≡ number_or_zero text.now }
+{
+    number(text).unwrap_or(0)
+}
+
+/// What is kept by all that was heard.
+fn kept_by(alloc: Global, heard: Heard) -> Result<Kept, AllocError>
+    ensures { IfOk result (Keeps heard) }
+{
+    let Heard {
+        options,
+        place,
+        state,
+        elapsed,
+        outputs,
+        songs,
+    } = heard;
+    let playback = playback_of(state.as_str(), elapsed);
+    let Around { before, at, after } = split_at_place(alloc, songs, place)?;
+    let song = match at {
+        Some(entry) => Some(KeptSong { entry, playback }),
+        None => None,
     };
-    if reading.place == Some(reading.songs) {
-        let playback = playback_of(alloc, reading.state.as_str(), reading.elapsed.as_str())?;
-        reading.kept.song = Some(KeptSong { entry, playback });
-    } else if reading.kept.song.is_some() {
-        reading.kept.after.push(entry)?;
-    } else {
-        reading.kept.before.push(entry)?;
-    }
-    reading.songs = reading.songs.saturating_add(1);
-    Ok(())
+    Ok(Kept {
+        options,
+        outputs,
+        before,
+        song,
+        after,
+    })
 }
 
-fn playback_of(alloc: Global, state: &str, elapsed: &str) -> Result<KeptPlayback, AllocError> {
-    let elapsed = Text::new(alloc, elapsed)?;
+fn playback_of(state: &str, elapsed: Text) -> KeptPlayback
+    ensures { result ≡ playback_for state.now elapsed }
+{
     match state {
-        "play" => Ok(KeptPlayback::Play(elapsed)),
-        "pause" => Ok(KeptPlayback::Pause(elapsed)),
-        _ => Ok(KeptPlayback::Stop),
+        "play" => KeptPlayback::Play(elapsed),
+        "pause" => KeptPlayback::Pause(elapsed),
+        _ => KeptPlayback::Stop,
     }
 }
 
-/// Gives the song that was read last its priority.
-fn set_priority(kept: &mut Kept, priority: u32) {
-    if let Some(entry) = kept.after.last_mut() {
-        entry.priority = priority;
-    } else if let Some(song) = &mut kept.song {
-        song.entry.priority = priority;
-    } else if let Some(entry) = kept.before.last_mut() {
-        entry.priority = priority;
-    }
+/// The songs before a place, the one at it, and those after it.
+#[derive(Drop)]
+struct Around {
+    before: Vec<KeptEntry>,
+    at: Option<KeptEntry>,
+    after: Vec<KeptEntry>,
 }
 
-fn number_of(value: &str) -> u32 {
-    value.parse::<u32>().unwrap_or(0)
+/// The songs around a place; without a place, or behind the last one, all of them are before it.
+fn split_at_place(
+    alloc: Global,
+    songs: Vec<KeptEntry>,
+    place: Option<u32>,
+) -> Result<Around, AllocError>
+    ensures before { IfOk result (λ around. around.before.items ≡ before_place place songs.items) }
+    ensures at { IfOk result (λ around. around.at ≡ at_place place songs.items) }
+    ensures after { IfOk result (λ around. around.after.items ≡ after_place place songs.items) }
+{
+    let mut before = songs;
+    if let Some(place) = place {
+        let place = place as usize;
+        if place < before.len() {
+            let after = before.split_off(place + 1)?;
+            let at = before.pop();
+            return Ok(Around { before, at, after });
+        }
+    }
+    Ok(Around {
+        before,
+        at: None,
+        after: Vec::new(alloc),
+    })
 }

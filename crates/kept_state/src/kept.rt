@@ -1,4 +1,7 @@
 //! What is kept of a player. Texts are as the player writes them.
+ghost use Rattle.std.specs.Prelude.{◌≡◌, false, map, slice_index_or};
+ghost use Rattle.kept_state.specs.Outputs.{turned_on};
+
 use mpd_text::Text;
 
 /// A song of the queue.
@@ -64,4 +67,47 @@ pub struct Kept {
     pub song: Option<KeptSong>,
     /// The songs after the current one.
     pub after: Vec<KeptEntry>,
+}
+
+impl Kept {
+    ghost use Rattle.std.specs.Prelude.{◌≡◌, map};
+    ghost use Rattle.kept_state.specs.Outputs.{turned_on, plays};
+
+    /// Whether a song is played.
+    pub fn is_played(&self) -> bool
+        ensures { result ≡ plays self.now.song }
+    {
+        match &self.song {
+            Some(song) => matches!(&song.playback, KeptPlayback::Play(_)),
+            None => false,
+        }
+    }
+
+    /// Has the outputs on that are named, by their numbers.
+    pub fn switch_on(&mut self, named: [bool; 8])
+        ensures outputs { self.new.outputs.items ≡ map (turned_on named) self.old.outputs.items }
+        ensures others { self.new ≡ record self.old { outputs = self.new.outputs } }
+    {
+        switch_all(&mut self.outputs, &named);
+    }
+}
+
+fn switch_all(outputs: &mut [KeptOutput], named: &[bool; 8])
+    ensures { outputs.new ≡ map (turned_on named.now) outputs.old }
+{
+    for output in outputs.iter_mut() {
+        turn_on(output, named);
+    }
+}
+
+fn turn_on(output: &mut KeptOutput, named: &[bool; 8])
+    ensures { output.new ≡ turned_on named.now output.old }
+{
+    output.is_on = output.is_on || is_named(named, output.number as usize);
+}
+
+fn is_named(named: &[bool; 8], number: usize) -> bool
+    ensures { result ≡ slice_index_or named.now number false }
+{
+    named.get(number).copied().unwrap_or(false)
 }

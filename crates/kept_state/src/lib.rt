@@ -5,9 +5,13 @@
 mod answers;
 mod kept;
 mod laws;
+mod storing;
+mod telling;
 mod text;
 
-pub use answers::kept_of;
+pub use answers::{is_output_on, kept_of};
 pub use kept::{Kept, KeptEntry, KeptOptions, KeptOutput, KeptPlayback, KeptSong};
 pub use laws::gives_back;
+pub use storing::{StateFile, Storing};
+pub use telling::{Hearer, is_of_state, tell_lines};
 pub use text::state_text;

@@ -1,13 +1,13 @@
 //! What lets each output go on.
 ghost use Rattle.std.specs.Prelude.{◌≡◌, IfOk, None, Some, is_some, map, slice_get, true};
 
-use crate::own_client::{Off, OwnClient};
+use crate::own_client::OwnClient;
 use crate::paths::PatientPath;
 use counted_player::Ledgers;
 use crew_steps::Gate;
 use house::House;
 use partition::PartitionFault;
-use patient_output::{Mode, Sight, Step, Watch};
+use patient_output::{Off, Switch, Watch};
 use std::alloc::{AllocError, Global};
 use std::sync::{Arc, Mutex, Wait};
 use std::time::{Clock, Duration, Instant};
@@ -123,23 +123,7 @@ impl<L: Ledgers, R: Wait + Clock + Copy> Gates<L, R> {
         let mut watch = watched.watch.lock(&self.rt);
         let now = self.now();
         let sight = watched.through.passage.sight(&self.rt);
-        match watch.look(sight, now, client.has_ended()) {
-            Step::Opens => true,
-            Step::Waits => false,
-            Step::SwitchesOff => {
-                after_switch(&mut *watch, client.switch_off(output), sight, now);
-                // Whether it is off is looked at when it asks again.
-                false
-            }
-            Step::Returns => {
-                if !is_off_for_path(&*watch) || client.switch_on(output).is_some() {
-                    watch.plays(sight, now);
-                }
-                // Where it cannot be switched on now, that is tried when it asks again.
-                true
-            }
-            Step::Looks => goes_on_after(&mut *watch, client.is_on(output), sight, now),
-        }
+        watch.ask(sight, now, &OutputSwitch { client, output })
     }
 
     /// Milliseconds since the start; 0 where the clock cannot be read, so that nothing stands still.
@@ -158,7 +142,7 @@ impl<L: Ledgers, R: Wait + Clock + Copy> Gates<L, R> {
         let mut off = [false; 8];
         for (number, watched) in self.outputs.iter().enumerate() {
             if let (Some(watched), Some(slot)) = (watched, off.get_mut(number)) {
-                *slot = is_off_for_path(&*watched.watch.lock(&self.rt));
+                *slot = watched.watch.lock(&self.rt).is_to_return();
             }
         }
         off
@@ -184,31 +168,38 @@ impl<L: Ledgers, R: Wait + Clock + Copy> Gates<L, R> {
     }
 }
 
-/// Whether an output is off for its path, and was on before.
-fn is_off_for_path(watch: &Watch) -> bool {
-    matches!(watch.mode(), Mode::IsOff(true))
+/// The client, where it is to see an output and to switch it. Each answer is that of some moment.
+#[derive(Drop)]
+struct OutputSwitch<'c, L: Ledgers, R: Wait + Copy> {
+    client: &'c OwnClient<L, R>,
+    output: usize,
 }
 
-/// The output was to be switched off. Where nothing is played its patience begins anew.
-fn after_switch(watch: &mut Watch, off: Option<Off>, sight: Sight, now: u64) {
-    match off {
-        Some(Off::IsOff(was_on)) => watch.is_off(was_on),
-        Some(Off::Rests) => watch.plays(sight, now),
-        None => {}
+impl<'c, L: Ledgers, R: Wait + Copy> Switch for OutputSwitch<'c, L, R> {
+    ghost use Rattle.std.specs.Prelude.{⊤};
+
+    ghost may_have_ended = { λ _ _. ⊤ };
+
+    ghost may_see = { λ _ _. ⊤ };
+
+    ghost may_switch_off = { λ _ _. ⊤ };
+
+    ghost may_switch_on = { λ _ _. ⊤ };
+
+    fn has_ended(&self) -> bool {
+        self.client.has_ended()
     }
-}
 
-/// Whether an output goes on that was off for its path and is seen so. Where it is on, somebody wants it to play, and
-/// its patience begins anew.
-fn goes_on_after(watch: &mut Watch, is_on: Option<bool>, sight: Sight, now: u64) -> bool {
-    match is_on {
-        Some(is_on) => {
-            if is_on {
-                watch.plays(sight, now);
-            }
-            !is_on
-        }
-        None => false,
+    fn is_on(&self) -> Option<bool> {
+        self.client.is_on(self.output)
+    }
+
+    fn switch_off(&self) -> Option<Off> {
+        self.client.switch_off(self.output)
+    }
+
+    fn switch_on(&self) -> bool {
+        self.client.switch_on(self.output).is_some()
     }
 }
 

@@ -3,28 +3,20 @@ use command_lists::ListForm;
 use counted_player::{Ledgers, Seat};
 use held_player::News;
 use house::House;
-use kept_state::kept_of;
-use mpd_command::{CommandSet, Request};
+use kept_state::is_output_on;
 use mpd_text::quote;
+use own_lines::{answers_of, requests_of};
 use partition::PartitionFault;
+use patient_output::Off;
 use shelf::MemShelf;
 use std::alloc::Global;
 use std::sync::{Arc, Mutex, Wait};
-use transitions::Next;
 
 /// Its number; that of the client that keeps the state is 65.
 const SWITCHER: u32 = 66;
 
 /// Where the client is while it says nothing: no partition is kept from being deleted by it.
 const HOME: &str = "partition default";
-
-/// What came of it that an output was to be switched off.
-pub(crate) enum Off {
-    /// Nothing is played: it stays as it is.
-    Rests,
-    /// It is off, and was on before where this is true.
-    IsOff(bool),
-}
 
 /// The seat of the client, and whether it is in another partition than the first one.
 #[derive(Drop)]
@@ -54,6 +46,8 @@ impl<L: Ledgers, R: Wait + Copy> Drop for OwnClient<L, R> {
 }
 
 impl<L: Ledgers, R: Wait + Copy> OwnClient<L, R> {
+    ghost use Rattle.std.specs.Prelude.{◌≡◌, false, true};
+
     /// Lets the client in.
     ///
     /// # Errors
@@ -120,7 +114,7 @@ impl<L: Ledgers, R: Wait + Copy> OwnClient<L, R> {
         // Both at one moment, so that what another client switches off is not taken for what this one does.
         let lines = format!(in self.host.alloc(); "outputs\ndisableoutput {output}").ok()?;
         let shown = self.say(voice, lines.as_str())?;
-        let was_on = self.is_on_in(shown.as_str(), output)?;
+        let was_on = is_output_on(self.host.alloc(), shown.as_str(), output).ok()??;
         Some(Off::IsOff(was_on))
     }
 
@@ -160,36 +154,25 @@ impl<L: Ledgers, R: Wait + Copy> OwnClient<L, R> {
     /// The same in the partition in which the client is. None where the output is not there.
     fn look_here(&self, voice: &mut Voice<L>, output: usize) -> Option<bool> {
         let shown = self.say(voice, "outputs")?;
-        self.is_on_in(shown.as_str(), output)
+        is_output_on(self.host.alloc(), shown.as_str(), output).ok()?
     }
 
-    /// Whether an output is on in what `outputs` shows. None where it is not there.
-    fn is_on_in(&self, shown: &str, output: usize) -> Option<bool> {
-        let kept = kept_of(self.host.alloc(), shown).ok()?;
-        for shown in &kept.outputs {
-            if shown.number as usize == output {
-                return Some(shown.is_on);
-            }
-        }
-        None
-    }
-
-    /// Goes back from another partition; where that cannot be done now, the next time.
-    fn go_home(&self, voice: &mut Voice<L>) {
+    /// Goes back from another partition; where that cannot be done now, the next time. At home it says nothing.
+    fn go_home(&self, voice: &mut Voice<L>)
+        ensures home { voice.old.is_away ≡ false → voice.new ≡ voice.old }
+        ensures away { voice.new.is_away ≡ true → voice.old.is_away ≡ true }
+    {
         if voice.is_away && self.say(voice, HOME).is_some() {
             voice.is_away = false;
         }
     }
 
     /// Says lines, all at one moment, and gives their answers. None where one is refused.
-    fn say(&self, voice: &mut Voice<L>, lines: &str) -> Option<String> {
+    fn say(&self, voice: &mut Voice<L>, lines: &str) -> Option<String>
+        ensures { voice.new.is_away ≡ voice.old.is_away }
+    {
         let alloc = self.host.alloc();
-        let mut requests = Vec::new(alloc);
-        for line in lines.lines() {
-            requests
-                .push(Request::of_line(alloc, line, CommandSet::base()).ok()?)
-                .ok()?;
-        }
+        let requests = requests_of(alloc, lines).ok()?;
         // None of its commands asks a shelf.
         let mut shelf = MemShelf::new(alloc);
         let answered = self
@@ -203,14 +186,6 @@ impl<L: Ledgers, R: Wait + Copy> OwnClient<L, R> {
                 requests,
             )
             .ok()?;
-        let mut text = String::new(alloc);
-        for outcome in answered.answers().outcomes() {
-            let reply = outcome.reply();
-            if reply.is_refusal() || reply.next() != Next::Goes {
-                return None;
-            }
-            text.push_str(reply.text()).ok()?;
-        }
-        Some(text)
+        answers_of(alloc, answered.answers().outcomes()).ok()?
     }
 }

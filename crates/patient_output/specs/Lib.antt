@@ -1,2 +1,4 @@
+pub mod Asking
 pub mod Carrying
 pub mod Gates
+pub mod Watches

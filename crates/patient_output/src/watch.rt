@@ -31,6 +31,15 @@ pub enum Step {
     Looks,
 }
 
+/// What came of it that an output was to be switched off.
+#[derive(Clone, Copy, PartialEq, Eq)]
+pub enum Off {
+    /// Nothing is played: it stays as it is.
+    Rests,
+    /// It is off, and was on before where this is true.
+    IsOff(bool),
+}
+
 /// What is done for an output of which this is seen, where it was held up for so many milliseconds while its path
 /// took nothing and it has patience for so many; and once the daemon has ended.
 pub fn decide(mode: Mode, sight: Sight, stood: u64, patience: u64, ended: bool) -> Step
@@ -70,8 +79,9 @@ pub struct Watch {
 
 impl Watch {
     ghost use Rattle.std.specs.Prelude.{◌≡◌, ◌*◌};
-    ghost use Rattle.patient_output.specs.Gates.{after_look, stall_at, step_of, stood};
-    ghost use Rattle.patient_output.specs.declared.watch.Mode.TheVariants.{IsOff, Plays};
+    ghost use Rattle.patient_output.specs.Gates.{stall_at, step_of, stood};
+    ghost use Rattle.patient_output.specs.Watches.{after_off, after_return, after_sight, anew, is_seen_off, is_to_return, looked};
+    ghost use Rattle.patient_output.specs.declared.watch.Mode.TheVariants.{Plays};
 
     /// An output that plays, with patience for so many seconds.
     pub fn new(seconds: u32, now: u64) -> Watch
@@ -93,26 +103,61 @@ impl Watch {
     /// What is done at a moment at which this is seen.
     pub fn look(&mut self, sight: Sight, now: u64, ended: bool) -> Step
         ensures step { result ≡ step_of self.old.mode sight (stood self.old.stall sight now) self.old.patience ended }
-        ensures stall { self.new.stall ≡ after_look self.old.stall sight now }
-        ensures kept { (self.new.mode ≡ self.old.mode) × (self.new.patience ≡ self.old.patience) }
+        ensures watch { self.new ≡ looked self.old sight now }
     {
         let stood = self.stall.look(sight, now);
         decide(self.mode, sight, stood, self.patience, ended)
     }
 
-    /// It was switched off; whether it was on before.
-    pub fn is_off(&mut self, was_on: bool)
-        ensures mode { self.new.mode ≡ IsOff was_on }
-        ensures kept { (self.new.stall ≡ self.old.stall) × (self.new.patience ≡ self.old.patience) }
+    /// Whether it is off for its path, and was on before: then it is to be switched on again.
+    pub fn is_to_return(&self) -> bool
+        ensures { result ≡ is_to_return self.now.mode }
     {
-        self.mode = Mode::IsOff(was_on);
+        matches!(self.mode, Mode::IsOff(true))
+    }
+
+    /// It was to be switched off; none where that could not be done now. Where nothing is played its patience begins
+    /// anew.
+    pub fn was_to_be_off(&mut self, off: Option<Off>, sight: Sight, now: u64)
+        ensures { self.new ≡ after_off self.old off sight now }
+    {
+        match off {
+            Some(Off::IsOff(was_on)) => self.mode = Mode::IsOff(was_on),
+            Some(Off::Rests) => self.plays(sight, now),
+            None => {}
+        }
+    }
+
+    /// It returns, and was to be switched on again where it was on before; whether that was done. Where it was not, it is
+    /// tried when the output asks again.
+    pub fn was_to_return(&mut self, is_done: bool, sight: Sight, now: u64)
+        ensures { self.new ≡ after_return self.old is_done sight now }
+    {
+        if is_done || !self.is_to_return() {
+            self.plays(sight, now);
+        }
+    }
+
+    /// It was off for its path, and is seen to be on or off; none where that could not be seen now. Whether it goes on:
+    /// where it is off. Where it is on, somebody wants it to play, and its patience begins anew.
+    pub fn was_looked_at(&mut self, is_on: Option<bool>, sight: Sight, now: u64) -> bool
+        ensures goes_on { result ≡ is_seen_off is_on }
+        ensures watch { self.new ≡ after_sight self.old is_on sight now }
+    {
+        match is_on {
+            Some(is_on) => {
+                if is_on {
+                    self.plays(sight, now);
+                }
+                !is_on
+            }
+            None => false,
+        }
     }
 
     /// It plays from a moment on, at which this was seen: its patience begins anew.
-    pub fn plays(&mut self, sight: Sight, now: u64)
-        ensures mode { self.new.mode ≡ Plays }
-        ensures stall { self.new.stall ≡ stall_at sight.taken now }
-        ensures kept { self.new.patience ≡ self.old.patience }
+    fn plays(&mut self, sight: Sight, now: u64)
+        ensures { self.new ≡ anew self.old sight now }
     {
         self.mode = Mode::Plays;
         self.stall = Stall::new(sight.taken, now);

@@ -144,7 +144,11 @@ pub(crate) struct FolderScanner<R: Files + Drop> {
 }
 
 impl<R: Files + Drop> FolderScanner<R> {
-    pub(crate) fn new(rt: R, folder: String, rate: Rate) -> FolderScanner<R> {
+    ghost use Rattle.std.specs.Prelude.{◌≡◌};
+
+    pub(crate) fn new(rt: R, folder: String, rate: Rate) -> FolderScanner<R>
+        ensures { (result.folder ≡ folder) × (result.rate ≡ rate) }
+    {
         FolderScanner { rt, folder, rate }
     }
 }

@@ -1,5 +1,5 @@
 //! What the house's threads work with.
-ghost use Rattle.std.specs.Prelude.{◌≤◌, length, vec_len};
+ghost use Rattle.std.specs.Prelude.{◌≡◌, ◌≤◌, IfOk, is_some, map, string_bytes, vec_len};
 
 use crate::folder::FolderScanner;
 use counted_devices::Counting;
@@ -36,6 +36,11 @@ pub(crate) fn gear_of<R: Threads + Wait + Clock + Copy + Send + 'static>(
     settings: &Settings,
 ) -> Result<FileGear<R>, AllocError>
     requires { vec_len settings.now.outputs ≤ 8 }
+    // Clients have the folder of the music scanned again, at its rate.
+    ensures folder { IfOk result (λ gear. string_bytes gear.scanner.folder ≡ string_bytes settings.now.music) }
+    ensures rate { IfOk result (λ gear. gear.scanner.rate ≡ settings.now.rate) }
+    ensures writers { IfOk result (λ gear. vec_len gear.writers ≡ vec_len settings.now.outputs) }
+    ensures patient { IfOk result (λ gear. map is_some gear.patient.items ≡ map (λ o. is_some o.patience) settings.now.outputs.items) }
 {
     let alloc = host.alloc();
     let scanned = String::from_str(alloc, settings.music.as_str())?;

@@ -1,13 +1,14 @@
 //! A client of the daemon's own that keeps the player's state in a file.
 use crate::folder::tell;
 use crate::restoring::KEEPER;
-use crate::state_file::write_state;
+use crate::state_file::Disk;
 use command_lists::ListForm;
 use counted_player::{Ledgers, Seat};
-use held_player::{AnsweredList, News};
+use held_player::News;
 use house::House;
-use kept_state::{Kept, KeptPlayback, kept_of, state_text};
+use kept_state::{Kept, StateFile, kept_of, state_text};
 use mpd_command::{CommandSet, Request};
+use own_lines::{answers_of, requests_of};
 use patience::Gates;
 use shelf::MemShelf;
 use std::alloc::{AllocError, Global};
@@ -81,7 +82,7 @@ fn start_keeper<
         return Err(AllocError);
     };
     let handle = thread::spawn(&rt, move || {
-        keep(&rt, &host, &*house, &*gates, seat, path.as_str())
+        keep(&rt, &host, &*house, &*gates, seat, path)
     })?;
     Ok(handle)
 }
@@ -93,8 +94,12 @@ fn keep<'h, L: Ledgers, R: Wait + Clock + Copy>(
     house: &'h House<L>,
     gates: &'h Gates<L, R>,
     seat: Seat<L>,
-    path: &'h str,
+    path: String,
 ) {
+    let Ok(file) = StateFile::new(host.alloc(), Disk { host: *host }, path) else {
+        tell(host, "the state is not kept: there is no memory for it");
+        return;
+    };
     let mut keeper = Keeper {
         rt,
         host,
@@ -102,8 +107,7 @@ fn keep<'h, L: Ledgers, R: Wait + Clock + Copy>(
         gates,
         seat,
         shelf: MemShelf::new(host.alloc()),
-        path,
-        written: String::new(host.alloc()),
+        file,
         has_failed: false,
         plays: false,
     };
@@ -121,7 +125,7 @@ fn rest<L: Ledgers, R: Wait + Clock>(rt: &R, house: &House<L>, next: &Option<Ins
     }
 }
 
-/// The client, and what it wrote last.
+/// The client, and the file that it writes.
 #[derive(Drop)]
 struct Keeper<'h, L: Ledgers, R: Wait + Clock + Copy> {
     rt: &'h R,
@@ -131,8 +135,7 @@ struct Keeper<'h, L: Ledgers, R: Wait + Clock + Copy> {
     seat: Seat<L>,
     /// None of its commands asks a shelf.
     shelf: MemShelf,
-    path: &'h str,
-    written: String,
+    file: StateFile<Disk>,
     /// Whether the last write failed, which is told once.
     has_failed: bool,
     /// Whether a song was played at the last look.
@@ -140,6 +143,8 @@ struct Keeper<'h, L: Ledgers, R: Wait + Clock + Copy> {
 }
 
 impl<'h, L: Ledgers, R: Wait + Clock + Copy> Keeper<'h, L, R> {
+    ghost use Rattle.std.specs.Prelude.{◌≡◌, string_bytes, true};
+
     /// Comes to the player, and keeps its state until the daemon has ended.
     fn keep(&mut self) {
         if self
@@ -168,32 +173,27 @@ impl<'h, L: Ledgers, R: Wait + Clock + Copy> Keeper<'h, L, R> {
         }
     }
 
-    /// Looks at the player, and writes its state where that is another than the one that was written last.
-    /// False where there was no memory for it, or it could not be written.
+    /// Looks at the player, and keeps its state. False where there was no memory for it, or it could not be written.
     fn look(&mut self) -> bool {
         match self.state() {
-            Ok(text) => {
-                if text.as_str() == self.written.as_str() {
-                    return true;
-                }
-                self.write(text)
-            }
+            Ok(text) => self.write(text),
             Err(_) => false,
         }
     }
 
-    fn write(&mut self, text: String) -> bool {
-        match write_state(self.host, self.path, text.as_str()) {
-            Ok(()) => {
-                self.written = text;
-                self.has_failed = false;
+    fn write(&mut self, text: String) -> bool
+        ensures { result ≡ true → string_bytes self.new.file.written ≡ string_bytes text }
+    {
+        match self.file.keep(text) {
+            Ok(is_written) => {
+                self.has_failed = self.has_failed && !is_written;
                 true
             }
             Err(fault) => {
                 if !self.has_failed {
                     let _told = eprintln!(*self.host;
                         "music_daemon: cannot write state {}: {fault}",
-                        self.path
+                        self.file.path()
                     );
                 }
                 self.has_failed = true;
@@ -207,22 +207,26 @@ impl<'h, L: Ledgers, R: Wait + Clock + Copy> Keeper<'h, L, R> {
     fn state(&mut self) -> Result<String, AllocError> {
         let before = self.gates.off_for_paths();
         let mut kept = self.kept()?;
-        switch_back(&mut kept, before);
-        switch_back(&mut kept, self.gates.off_for_paths());
-        self.plays = is_played(&kept);
+        kept.switch_on(before);
+        kept.switch_on(self.gates.off_for_paths());
+        self.plays = kept.is_played();
         state_text(self.host.alloc(), &kept)
     }
 
     /// What is kept by the player's answers to the questions, all given at one moment.
     fn kept(&mut self) -> Result<Kept, AllocError> {
         let alloc = self.host.alloc();
-        let requests = questions(alloc)?;
+        let requests = requests_of(alloc, QUESTIONS)?;
         let (seat, shelf) = (&mut self.seat, &mut self.shelf);
         match self
             .house
             .list(self.rt, seat, shelf, KEEPER, ListForm::Plain, requests)
         {
-            Ok(answered) => kept_of(alloc, text_of(alloc, &answered)?.as_str()),
+            // An answer that is none must not be taken for that of an empty player.
+            Ok(answered) => match answers_of(alloc, answered.answers().outcomes())? {
+                Some(text) => kept_of(alloc, text.as_str()),
+                None => Err(AllocError),
+            },
             Err(_) => Err(AllocError),
         }
     }
@@ -274,45 +278,6 @@ impl<'h, L: Ledgers, R: Wait + Clock + Copy> Keeper<'h, L, R> {
         {
             Ok(answered) => Some(answered.reply().next()),
             Err(_) => None,
-        }
-    }
-}
-
-/// What the player is asked, as requests.
-fn questions(alloc: Global) -> Result<Vec<Request>, AllocError> {
-    let mut requests = Vec::new(alloc);
-    for line in QUESTIONS.lines() {
-        requests.push(Request::of_line(alloc, line, CommandSet::base())?)?;
-    }
-    Ok(requests)
-}
-
-/// What was answered to the questions.
-fn text_of(alloc: Global, answered: &AnsweredList) -> Result<String, AllocError> {
-    let mut text = String::new(alloc);
-    for outcome in answered.answers().outcomes() {
-        // An answer that is none must not be taken for that of an empty player.
-        if outcome.reply().next() != Next::Goes || outcome.reply().is_refusal() {
-            return Err(AllocError);
-        }
-        text.push_str(outcome.reply().text())?;
-    }
-    Ok(text)
-}
-
-/// Whether a song is played, by what is kept.
-fn is_played(kept: &Kept) -> bool {
-    match &kept.song {
-        Some(song) => matches!(&song.playback, KeptPlayback::Play(_)),
-        None => false,
-    }
-}
-
-/// Has outputs on that are named.
-fn switch_back(kept: &mut Kept, named: [bool; 8]) {
-    for output in &mut kept.outputs {
-        if let Some(true) = named.get(output.number as usize).copied() {
-            output.is_on = true;
         }
     }
 }

@@ -8,7 +8,6 @@ mod folder;
 mod gear;
 mod hall;
 mod keeper;
-mod player;
 mod restoring;
 mod run;
 mod serving;

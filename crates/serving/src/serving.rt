@@ -1,7 +1,9 @@
 //! A daemon over the files of the system, with a shelf of any kind.
 ghost use Rattle.settings.specs.Values.{AreWithin};
 ghost use Rattle.held_player.specs.Blanks.{AreFor, HasPartsOfFrames, HasSeatsOfOnePart};
-ghost use Rattle.std.specs.Prelude.{◌≡◌};
+ghost use Rattle.opened_player.specs.Opened.{commands_for};
+ghost use Rattle.serving.specs.Starting.{is_state_shelf as is_state_shelf_lem, texts_of};
+ghost use Rattle.std.specs.Prelude.{◌≡◌, IfOk, OnOk, false};
 
 use crate::address::{address_of, listen_at};
 use crate::checked::print_found;
@@ -9,7 +11,6 @@ use crate::fault::DaemonFault;
 use crate::folder::{Found, songs_of, tell};
 use crate::gear::gear_of;
 use crate::hall::open_hall;
-use crate::player::player_of;
 use crate::restoring::restore;
 use crate::run::{Manner, run};
 use crate::state_file::read_state;
@@ -17,8 +18,8 @@ use counted_player::Ledgers;
 use crew::second_now;
 use frame_ledger::Blanks as FrameBlanks;
 use held_player::Blanks;
-use mpd_command::CommandSet;
 use mpd_server::Server;
+use opened_player::{commands_of, player_of};
 use settings::Settings;
 use shelf::Shelf;
 use std::alloc::{AllocError, Global};
@@ -54,6 +55,8 @@ pub fn serve<S: Shelf, R: Threads + Wait + Clock + Net + Copy + Send + Sync + 's
     purpose: Purpose,
 ) -> Result<(), DaemonFault>
     requires { AreWithin settings.now }
+    // Nothing is served, or checked well, with the state and the shelf in one file.
+    ensures { OnOk result (is_state_shelf_lem settings.now ≡ false) }
 {
     if is_state_shelf(settings) {
         return Err(DaemonFault::BadSetting(String::from_str(host.alloc(), "state")?));
@@ -66,7 +69,9 @@ pub fn serve<S: Shelf, R: Threads + Wait + Clock + Net + Copy + Send + Sync + 's
 }
 
 /// Whether the state is to be kept in the file of the shelf, which it would write over.
-fn is_state_shelf(settings: &Settings) -> bool {
+fn is_state_shelf(settings: &Settings) -> bool
+    ensures { result ≡ is_state_shelf_lem settings.now }
+{
     match (&settings.state, &settings.shelf) {
         (Some(state), Some(shelf)) => state.as_str() == shelf.as_str(),
         _ => false,
@@ -119,18 +124,11 @@ fn serve_with<
     let alloc = host.alloc();
     let Found { songs, told } = found;
     let player = player_of(alloc, settings, songs, second_now(&rt))?;
-    let mut hall = open_hall::<L, R>(&rt, alloc, blanks, player)?;
-    if let Some(path) = &settings.state {
-        let opened = &mut hall;
-        restore(
-            &rt,
-            &host,
-            &opened.house,
-            &mut opened.seat,
-            shelf,
-            path.as_str(),
-        )?;
-    }
+    let opened = open_hall::<L, R>(&rt, alloc, blanks, player)?;
+    let hall = match &settings.state {
+        Some(path) => restore(&rt, &host, opened, path.as_str())?,
+        None => opened,
+    };
     let listener = listen_at(&rt, alloc, settings.listen.as_str())?;
     let server = Server::open(&rt, alloc, listener)?;
     let gear = gear_of(rt, host, settings)?;
@@ -149,20 +147,21 @@ fn serve_with<
 }
 
 /// The file of the state, where the settings name one.
-fn state_of(alloc: Global, settings: &Settings) -> Result<Option<String>, AllocError> {
+fn state_of(alloc: Global, settings: &Settings) -> Result<Option<String>, AllocError>
+    ensures { IfOk result (λ path. texts_of path ≡ texts_of settings.now.state) }
+{
     match &settings.state {
         Some(path) => Ok(Some(String::from_str(alloc, path.as_str())?)),
         None => Ok(None),
     }
 }
 
-fn manner_of(settings: &Settings) -> Manner {
+fn manner_of(settings: &Settings) -> Manner
+    ensures { result ≡ record { rate = settings.now.rate; ring = settings.now.ring; commands = commands_for settings.now } }
+{
     Manner {
         rate: settings.rate.frames(),
         ring: settings.ring as usize,
-        commands: CommandSet {
-            kill: settings.kill,
-            everyday: settings.everyday,
-        },
+        commands: commands_of(settings),
     }
 }

@@ -1,6 +1,10 @@
 //! The file of the state.
+ghost use Rattle.serving.specs.Starting.{aside_for, texts_of};
+ghost use Rattle.std.specs.Prelude.{◌≡◌, IfOk};
+
 use crate::fault::DaemonFault;
-use std::alloc::AllocError;
+use kept_state::Storing;
+use std::alloc::{AllocError, Global};
 use std::io::{ErrorKind, Write};
 use std::{fs, io};
 
@@ -34,17 +38,33 @@ fn cannot_read(rt: &HostRuntime, path: &str, why: &str) -> Result<DaemonFault, A
     Ok(DaemonFault::CannotRead(format!(in rt.alloc(); "{path}{why}")?))
 }
 
-/// Writes the text into a file beside the one of this path, has the system store it, and renames it: after a
-/// stop at any moment the file is the earlier one or this one. Where that fails, the file beside is removed.
-pub(crate) fn write_state(rt: &HostRuntime, path: &str, text: &str) -> io::Result<()> {
-    let aside = format!(in rt.alloc(); "{path}.new")?;
-    let written = write_through(rt, aside.as_str(), text);
-    if written.is_err() {
-        let _removed = fs::remove_file(rt, aside.as_str());
-        return written;
+/// The files of the system.
+#[derive(Clone, Copy)]
+pub(crate) struct Disk {
+    pub(crate) host: HostRuntime,
+}
+
+impl Storing for Disk {
+    ghost use Rattle.std.specs.Prelude.{⊤};
+
+    type Fault = io::Error;
+
+    ghost writes = { λ _ _ _ _. ⊤ };
+
+    ghost renames = { λ _ _ _ _. ⊤ };
+
+    fn write(&mut self, path: &str, text: &str) -> io::Result<()> {
+        write_through(&self.host, path, text)
     }
-    fs::rename(rt, aside.as_str(), path)?;
-    sync_folder(rt, path)
+
+    fn rename(&mut self, from: &str, to: &str) -> io::Result<()> {
+        fs::rename(&self.host, from, to)?;
+        sync_folder(&self.host, to)
+    }
+
+    fn remove(&mut self, path: &str) {
+        let _removed = fs::remove_file(&self.host, path);
+    }
 }
 
 fn write_through(rt: &HostRuntime, path: &str, text: &str) -> io::Result<()> {
@@ -66,8 +86,20 @@ fn sync_folder(rt: &HostRuntime, path: &str) -> io::Result<()> {
     fs::open(rt, folder)?.sync_all()
 }
 
-/// Keeps a file of which lines were refused beside the one that is written anew.
-pub(crate) fn set_aside(rt: &HostRuntime, path: &str) -> io::Result<()> {
-    let aside = format!(in rt.alloc(); "{path}.refused")?;
-    fs::rename(rt, path, aside.as_str())
+/// Keeps the file of a state beside the one that is written anew, where lines of it were refused.
+pub(crate) fn set_aside(rt: &HostRuntime, path: &str, refused: u64) -> io::Result<()> {
+    match aside_of(rt.alloc(), path, refused)? {
+        Some(aside) => fs::rename(rt, path, aside.as_str()),
+        None => Ok(()),
+    }
+}
+
+/// Where a file is kept of which so many lines were refused.
+fn aside_of(alloc: Global, path: &str, refused: u64) -> Result<Option<String>, AllocError>
+    ensures { IfOk result (λ aside. texts_of aside ≡ aside_for path.now refused) }
+{
+    if refused == 0 {
+        return Ok(None);
+    }
+    Ok(Some(format!(in alloc; "{path}.refused")?))
 }

@@ -13,3 +13,4 @@ mod Times
 mod Own
 mod Limits
 mod Within
+mod Telling

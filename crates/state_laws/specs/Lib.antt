@@ -3,3 +3,4 @@ pub mod Saying
 pub mod Bytes
 pub mod Own
 pub mod Limits
+pub mod Telling

@@ -3,14 +3,16 @@ ghost use Rattle.state_laws.specs.Bytes.{BytesAreRead, LinesEnd, OpenedComesBack
 ghost use Rattle.state_laws.specs.Limits.{OpenedStaysWithin};
 ghost use Rattle.state_laws.specs.Own.{PlacesComeBack, PlayersComeBack};
 ghost use Rattle.state_laws.specs.Saying.{LineIsRead, OpensEmpty, StateComesBack, StepsHappen};
+ghost use Rattle.state_laws.specs.Telling.{StepsAreTold};
 
 /// A line of a state is to the player of one thread what it is to a reading of kept states. So a player with an
-/// empty queue that is told all lines of a state has what is kept, of the songs that there are; and what it is told
-/// are events of its history.
+/// empty queue that is told all lines of a state has what is kept, of the songs that there are; what it is told are
+/// events of its history; and it is told them where a teller goes through their bytes line by line.
 pub fn states_come_back()
     ensures line { LineIsRead }
     ensures state { StateComesBack }
     ensures events { StepsHappen }
+    ensures told { StepsAreTold }
 {}
 
 /// The bytes of a state's lines are read as the commands that these ask for. So a player that was just opened, and
