@@ -5,7 +5,7 @@
     checks/map.py --write      writes them there
 
 The crates and what they stand on are those of crates.txt. What is drawn beside them stands in the tables below, and each line of these
-is looked up: a room has each library once and stands on no room above it; a call is in its crate, and the crate of a step stands on that of
+is looked up: a layer has each library once and stands on no layer above it; a call is in its crate, and the crate of a step stands on that of
 the step which it makes; a field is one of the struct, and none is left out; a definition is in its file, a law and a clause in their crate.
 The exit status is 1 where something differs.
 """
@@ -21,8 +21,8 @@ TOP = os.path.dirname(os.path.dirname(os.path.abspath(__file__)))
 MAP = 'docs/MAP.md'
 TESTS = re.compile(r'_tests$|^(?:worked_rows|house_rooms|wanted)$')
 
-# the rooms, the highest first
-ROOMS = [
+# the layers, the highest first
+LAYERS = [
     ('the program', 'music_daemon shelf_file serving patience opened_player own_lines state_laws kept_state scan_report settings command_line'),
     ('clients', 'mpd_server server_rounds mpd_session mpd_answers'),
     ("the house's threads", 'crew crew_steps'),
@@ -192,15 +192,15 @@ def all_below(crate, deps, found=None):
 
 # ---- what the tables say that is not so
 
-def wrong_rooms(deps):
-    place = {crate: at for at, (_, crates) in enumerate(ROOMS) for crate in crates.split()}
+def wrong_layers(deps):
+    place = {crate: at for at, (_, crates) in enumerate(LAYERS) for crate in crates.split()}
     libraries = [crate for crate in deps if not TESTS.search(crate)]
-    yield from ('%s is in no room' % crate for crate in libraries if crate not in place)
-    yield from ('%s is in a room and not in crates.txt' % crate for crate in place if crate not in deps)
+    yield from ('%s is in no layer' % crate for crate in libraries if crate not in place)
+    yield from ('%s is in a layer and not in crates.txt' % crate for crate in place if crate not in deps)
     for crate in libraries:
         for it in deps[crate]:
             if it in place and crate in place and place[it] < place[crate]:
-                yield '%s stands on %s of a room above it' % (crate, it)
+                yield '%s stands on %s of a layer above it' % (crate, it)
 
 
 def clauses_of(crate, call):
@@ -261,10 +261,10 @@ def wrong_theorems():
 
 # ---- the drawings
 
-def rooms_below(deps):
-    """Of each room those that it stands on, but for those that one of these stands on."""
-    place = {crate: at for at, (_, crates) in enumerate(ROOMS) for crate in crates.split()}
-    on = {at: {place[it] for crate in crates.split() for it in deps[crate] if it in place} - {at} for at, (_, crates) in enumerate(ROOMS)}
+def layers_below(deps):
+    """Of each layer those that it stands on, without those that one of these stands on."""
+    place = {crate: at for at, (_, crates) in enumerate(LAYERS) for crate in crates.split()}
+    on = {at: {place[it] for crate in crates.split() for it in deps[crate] if it in place} - {at} for at, (_, crates) in enumerate(LAYERS)}
     return {at: sorted(on[at] - set().union(*(all_below(it, on) for it in on[at]))) for at in on}
 
 
@@ -277,14 +277,14 @@ def rows_of(crates, width):
     return rows
 
 
-def draw_rooms(deps):
-    on, width = rooms_below(deps), max(len(title) for title, _ in ROOMS)
+def draw_layers(deps):
+    on, width = layers_below(deps), max(len(title) for title, _ in LAYERS)
     edge = '-' * (width + 62)
     lines = [edge]
-    for at, (title, crates) in enumerate(ROOMS):
+    for at, (title, crates) in enumerate(LAYERS):
         for number, row in enumerate(rows_of(crates, 54)):
-            head = ('%2d  %s' % (len(ROOMS) - at, title)) if number == 0 else ''
-            foot = '   on ' + ', '.join(str(len(ROOMS) - it) for it in on[at]) if number == 0 and on[at] else ''
+            head = ('%2d  %s' % (len(LAYERS) - at, title)) if number == 0 else ''
+            foot = '   on ' + ', '.join(str(len(LAYERS) - it) for it in on[at]) if number == 0 and on[at] else ''
             lines.append(('%-*s  %-56s%s' % (width + 4, head, row, foot)).rstrip())
         lines.append(edge)
     return lines
@@ -351,7 +351,7 @@ def draw_waits(deps):
 
 
 def drawings():
-    return {'rooms': draw_rooms(below()), 'line': draw_way(LINE), 'frame': draw_way(FRAME), 'lock': draw_held(),
+    return {'layers': draw_layers(below()), 'line': draw_way(LINE), 'frame': draw_way(FRAME), 'lock': draw_held(),
             'theorems': draw_theorems(), 'waits': draw_waits(below())}
 
 
@@ -366,7 +366,7 @@ def with_drawings(text, drawn):
 
 def faults():
     deps = below()
-    wrong = list(wrong_rooms(deps))
+    wrong = list(wrong_layers(deps))
     if not wrong:
         wrong += [*wrong_way("a line's way", LINE, deps), *wrong_way("a frame's way", FRAME, deps), *wrong_fields(), *wrong_theorems()]
         text, drawn = read(MAP), drawings()

@@ -23,7 +23,7 @@ sys.dont_write_bytecode = True
 
 from daemon import Daemon, Pacer, Table, program_of, wave
 
-# What the daemon leaves out (README, "What clients can say"): a client that sends such a request is refused there.
+# What the daemon leaves out (README, "The settings that matter"): a client that sends such a request is refused there.
 LEFT_OUT = ('addtagid', 'albumart', 'binarylimit', 'clearmounts', 'cleartagid', 'config', 'decoders', 'getfingerprint', 'list album',
             'listallinfo', 'listfiles', 'listmounts', 'listneighbors', 'mixrampdb', 'outputset', 'password', 'playlistfind',
             'playlistsearch', 'rangeid', 'readcomments', 'readpicture', 'replay_gain_status', 'searchaddpl', 'stats', 'tagtypes ', 'urlhandlers', 'volume')

@@ -3,7 +3,7 @@
 
     checks/serve/examples.py [PROGRAM]
 
-Three rooms by snapserver, aplay and a file; two lists in two rooms; ratings by stickers. It needs Debian's packages mpc and
+Three rooms by snapserver, aplay and a file; two queues in two rooms; ratings by stickers. It needs Debian's packages mpc and
 alsa-utils; where snapserver is not installed a reader stands in its place. The exit status is 1 where a room did not play what it
 was to play, or an answer is another one.
 """
@@ -94,7 +94,7 @@ def check_three(table, program, folder):
 def check_two(table, program, folder):
     pacers = [Pacer(os.path.join(folder, name + '.fifo')) for name in ('kitchen', 'bedroom')]
     daemon = Example(program, folder, 'rooms.toml')
-    status, told = run_block(block_under('README.md', 'Two lists in two rooms'), folder, daemon.port)
+    status, told = run_block(block_under('README.md', 'Two rooms, two queues'), folder, daemon.port)
     client = daemon.client()
     for partition in ('default', 'upstairs'):
         client.must('partition ' + partition)
@@ -102,7 +102,7 @@ def check_two(table, program, folder):
     written, right = daemon.end()
     for pacer in pacers:
         pacer.close()
-    table.row('two lists in two rooms', 'frames %s' % written, right=status == 0 and right and written == [ALL] * 2)
+    table.row('two rooms, two queues', 'frames %s' % written, right=status == 0 and right and written == [ALL] * 2)
     if status:
         print(told)
 
