@@ -1,9 +1,9 @@
 -- Steps of relations between two lists.
-use Rattle.std.proofs.Common.{◌≡◌, ℕ, zero, suc, ◌+◌, ◌<◌, List, [], ◌∷◌, ◌++◌, length, map, take, drop, get_or, set, Option, Some, None, IfSome, sym, ap, subst, ◌∙◌, refl, arith}
+use Rattle.std.proofs.Common.{◌≡◌, ℕ, zero, suc, ◌+◌, ◌<◌, List, [], ◌∷◌, ◌++◌, length, map, take, drop, get_or, set, sym, ap, subst, refl, arith}
 use Rattle.output_ring.specs.declared.feeder.Feeder.{Feeder}
 use Rattle.output_ring.specs.declared.feeder.FeederEnd.{FeederEnd}
 use Rattle.output_ring.specs.Rings.{SameFeeder, EndsFeeder}
-use Rattle.rtrb.specs.Ends.{SameRing}
+use Rattle.output_ring.proofs.Same.{ends_later, same_feeder, same_feeder_trans}
 use Rattle.crew_steps.specs.Each.{Each, EachAt}
 
 pub each_push : {A B : Type 0} (R : A → B → Type 0) (xs : List A) (ys : List B) (x : A) (y : B) → Each R xs ys → R x y → Each R (xs ++ x ∷ []) (ys ++ y ∷ [])
@@ -63,15 +63,11 @@ each_next_at R xs ys zs n m x y rest long is e grown each r =
     let taken = next_taken xs n m x rest is e in
     subst (λ l. EachAt R 0 l zs) (sym taken.0) (subst (λ l. EachAt R 0 (take n xs ++ x ∷ []) l) (sym grown) (each_push_at R 0 n (take n xs) ys x y (omega (arith, long)) each r))
 
-some_map : {A : Type 0} (o : Option A) (P Q : A → Type 0) → ((x : A) → P x → Q x) → IfSome o P → IfSome o Q
-some_map None P Q f p = tt
-some_map (Some x) P Q f p = f x p
-
 pub same_refl : (f : Feeder) → SameFeeder f f
-same_refl f = ((refl, refl, refl, refl), refl)
+same_refl = same_feeder
 
 pub same_trans : (f g h : Feeder) → SameFeeder f g → SameFeeder g h → SameFeeder f h
-same_trans f g h p q = ((q.0.0 ∙ p.0.0, q.0.1 ∙ p.0.1, q.0.2 ∙ p.0.2, q.0.3 ∙ p.0.3), q.1 ∙ p.1)
+same_trans = same_feeder_trans
 
 pub each_same : (fs gs hs : List Feeder) → Each SameFeeder fs gs → Each SameFeeder gs hs → Each SameFeeder fs hs
 each_same fs gs hs = each_trans SameFeeder SameFeeder SameFeeder fs gs hs same_trans
@@ -94,9 +90,5 @@ pub each_rest : {A B C : Type 0} (R : C → B → Type 0) (f : A → C) (xs rest
 each_rest R f xs rest ys others x y p q e =
     subst (λ l. Each R (map f l) (y ∷ others)) p (subst (λ l. Each R (map f xs) l) q e)
 
-ends_trans : (f g : Feeder) (e : FeederEnd) → SameFeeder f g → EndsFeeder g e → EndsFeeder f e
-ends_trans f g e p q =
-    some_map e.finished (λ t. SameRing g.producer.end t.end) (λ t. SameRing f.producer.end t.end) (λ t r. (r.0 ∙ p.0.0, r.1 ∙ p.0.1, r.2 ∙ p.0.2, r.3 ∙ p.0.3)) q
-
 pub each_ends : (fs gs : List Feeder) (es : List FeederEnd) → Each SameFeeder fs gs → Each EndsFeeder gs es → Each EndsFeeder fs es
-each_ends fs gs es = each_trans SameFeeder EndsFeeder EndsFeeder fs gs es ends_trans
+each_ends fs gs es = each_trans SameFeeder EndsFeeder EndsFeeder fs gs es ends_later

@@ -5,6 +5,7 @@ use Rattle.std.proofs.lemmas.List.Elements.{All-cons, All-nil}
 use Rattle.output_ring.specs.Frames.{both, fates_in, no_fates, totals_after}
 use Rattle.output_ring.specs.Rings.{KeepsAllButReport, SameDrainer, fates_of, hand_of, has_failed, popped_of, settled_of, totals_of, unreported_of}
 use Rattle.output_ring.specs.declared.drainer.Drainer.{Drainer}
+use Rattle.output_ring.proofs.Same.{same_drainer, same_drainer_trans}
 use Rattle.output_ring.specs.declared.frames.CutFrame.{CutFrame}
 use Rattle.output_ring.specs.declared.frames.Fates.{Fates}
 use Rattle.output_ring.specs.declared.frames.Totals.{Totals}
@@ -17,18 +18,12 @@ use Rattle.counted_player.specs.Seats.{SeatCount, place}
 use Rattle.held_player.specs.Views.{TellsSomewhere, turn_of}
 use Rattle.crew_steps.specs.Turns.{AreUntold, DoesAs, Drains, GivesFates, HasTurn, HasTurns, Keeps, Obeys, Plays, Pops, Runs, TellsOutput, Waits, goes_on}
 
-pub same_refl : (d : Drainer) → SameDrainer d d
-same_refl d = ((refl, refl, refl, refl), refl)
-
-pub same_trans : (a b c : Drainer) → SameDrainer a b → SameDrainer b c → SameDrainer a c
-same_trans a b c p q = ((q.0.0 ∙ p.0.0, q.0.1 ∙ p.0.1, q.0.2 ∙ p.0.2, q.0.3 ∙ p.0.3), q.1 ∙ p.1)
-
 pub pops_none : (d : Drainer) → Pops d d []
-pops_none d = record { ring = same_refl d; popped = sym (append-nil (popped_of d)); hand = sym (append-nil (hand_of d)); fates = refl; totals = refl; unreported = refl; failed = refl }
+pops_none d = record { ring = same_drainer d; popped = sym (append-nil (popped_of d)); hand = sym (append-nil (hand_of d)); fates = refl; totals = refl; unreported = refl; failed = refl }
 
 pub pops_more : (a b c : Drainer) (came more : List CutFrame) → Pops a b came → Pops b c more → Pops a c (came ++ more)
 pops_more a b c came more p q = record {
-  ring = same_trans a b c p.ring q.ring;
+  ring = same_drainer_trans a b c p.ring q.ring;
   popped = q.popped ∙ ap (λ (l : List CutFrame). l ++ more) p.popped ∙ append_assoc (popped_of a) came more;
   hand = q.hand ∙ ap (λ (l : List CutFrame). l ++ more) p.hand ∙ append_assoc (hand_of a) came more;
   fates = q.fates ∙ p.fates;

@@ -1,6 +1,6 @@
 -- What the two ends of a ring show at a settlement.
 use Rattle.std.specs.Prelude.{IsSome, IfSome}
-use Rattle.rtrb.specs.Ring.{all_sent}
+use Rattle.output_ring.specs.Ends.{end_sent}
 use Rattle.std.proofs.Common.{Option, Some, None, ◌≡◌, ◌+◌, List, ◌++◌, length, take, sym, ap, ◌∙◌, subst, length-append, arith}
 use Rattle.output_ring.specs.declared.frames.CutFrame.{CutFrame}
 use Rattle.output_ring.specs.declared.feeder.FeederEnd.{FeederEnd}
@@ -51,4 +51,4 @@ took_at (Some f) g xs ys p q s = sym p ∙ q
 -- with the token there is one list of what the feeder took, so it is this long
 pub taken_length : (e : FeederEnd) (d : Drainer) (taken ring : List CutFrame) → IsSome e.finished → EndTook e taken → EndTook e (all_frames e d ring)
     → length taken ≡ ((length (fates_of d) + length (hand_of d)) + length ring) + length (end_owed e)
-taken_length e d taken ring some p q = ap length (took_at e.finished (λ f. all_sent f ++ end_owed e) taken (all_frames e d ring) p q some) ∙ length-all_frames e d ring
+taken_length e d taken ring some p q = ap length (took_at e.finished (λ f. end_sent f ++ end_owed e) taken (all_frames e d ring) p q some) ∙ length-all_frames e d ring

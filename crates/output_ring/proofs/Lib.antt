@@ -1,3 +1,9 @@
-pub mod Lists
-pub mod Sends
+pub mod Bounds
+mod Comings
+mod Feeds
+mod Heard
 mod Moves
+pub mod Lists
+pub mod Pairs
+pub mod Same
+pub mod Sends

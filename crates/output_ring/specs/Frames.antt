@@ -18,9 +18,13 @@ with_cut cut frames = map (λ frame. record { frame = frame; cut = cut }) frames
 abbrev pub cut_le : Cut → Cut → Bool
 cut_le a b = nat_lt a.moves b.moves || ((a.moves == b.moves) && nat_le a.number b.number)
 
--- whether a playing output writes the frame: it is enabled, and the frame's cut is at least the live one
+-- whether a playing output writes frames of this cut: it is enabled, and the cut is at least the live one
+abbrev pub is_cut_heard : Live → Cut → Bool
+is_cut_heard live cut = live.enabled && cut_le live.cut cut
+
+-- whether a playing output writes the frame
 abbrev pub is_heard : Live → CutFrame → Bool
-is_heard live item = live.enabled && cut_le live.cut item.cut
+is_heard live item = is_cut_heard live item.cut
 
 -- whether a frame's block was accepted since the output was last moved
 abbrev pub is_since_move : Live → CutFrame → Bool
@@ -30,8 +34,8 @@ is_since_move live item = nat_le live.cut.moves item.cut.moves
 abbrev pub heard : Live → List CutFrame → List (List ℤ)
 heard live items = map (λ item. item.frame) (filter (is_heard live) items)
 
--- the frames that were popped into the slots after the first `held`
-abbrev pub came_into : List CutFrame → ℕ → ℕ → List CutFrame
+-- the frames that came into the slots after the first `held`
+abbrev pub came_into : List (List ℤ) → ℕ → ℕ → List (List ℤ)
 came_into slots held count = take count (drop held slots)
 
 -- the bytes of frames, four for each

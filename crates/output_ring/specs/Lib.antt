@@ -1,4 +1,6 @@
+pub mod Ends
 pub mod Frames
 pub mod Rings
+pub mod Runs
 pub mod Sending
 pub mod Turns

@@ -1,8 +1,9 @@
 -- What a contract sees of the two ends of a ring (this profile's).
 use Rattle.std.specs.Prelude.{ℕ, ℤ, ◌≡◌, ◌+◌, ◌-◌, ◌^◌, ◌<◌, ◌≤◌, Bool, false, List, [], ◌++◌, take, drop, length, IfSome}
-use Rattle.rtrb.specs.Ring.{sent, received, known_items, known_free, IsPair, all_sent, IsFinishedOf, SameProducer, SameConsumer}
-use Rattle.rtrb.specs.Ends.{SameRing}
-use Rattle.output_ring.specs.Frames.{fates, heard, no_fates, no_totals}
+use mathlib.Core.List.{IsPrefix}
+use Rattle.output_ring.specs.Ends.{sent_in, room_in, popped_from, known_in, end_sent, ArePair, ArePairAfter, IsTokenOf, SameInlet, SameOutlet}
+use Rattle.output_ring.specs.Frames.{fates, heard, no_fates, no_totals, with_cut}
+use Rattle.output_ring.specs.Runs.{cuts_of, paired}
 use Rattle.output_ring.specs.declared.frames.CutFrame.{CutFrame}
 use Rattle.output_ring.specs.declared.frames.Fates.{Fates}
 use Rattle.output_ring.specs.declared.frames.Live.{Live}
@@ -13,11 +14,11 @@ use Rattle.output_ring.specs.declared.drainer.Drainer.{Drainer}
 
 -- every frame that the feeder moved into the ring, in order
 abbrev pub sent_of : Feeder → List CutFrame
-sent_of f = sent f.producer
+sent_of f = sent_in f.inlet
 
 -- the frames that wait for room in the ring
 abbrev pub owed_of : Feeder → List CutFrame
-owed_of f = drop f.sent f.block.items
+owed_of f = with_cut f.cut (drop f.sent f.block.items)
 
 -- every frame that the feeder took, in order
 abbrev pub taken_of : Feeder → List CutFrame
@@ -25,11 +26,11 @@ taken_of f = sent_of f ++ owed_of f
 
 -- how many frames the feeder knows to have room
 abbrev pub room_of : Feeder → ℕ
-room_of f = known_free f.producer
+room_of f = room_in f.inlet
 
 -- every frame that the drainer popped, in order
 abbrev pub popped_of : Drainer → List CutFrame
-popped_of d = received d.consumer
+popped_of d = popped_from d.outlet
 
 -- the frames that were popped since
 abbrev pub came_of : Drainer → Drainer → List CutFrame
@@ -57,7 +58,7 @@ fates_of d = take (settled_of d) (popped_of d)
 
 -- the popped frames that have no fate yet
 abbrev pub hand_of : Drainer → List CutFrame
-hand_of d = take d.held d.slots.items
+hand_of d = paired (cuts_of d.runs.items) (take d.held d.slots.items)
 
 -- how many frames the hand can hold
 abbrev pub most_of : Drainer → ℕ
@@ -65,7 +66,7 @@ most_of d = length d.slots.items
 
 -- the frames that the drainer knows to be in the ring
 abbrev pub ring_of : Drainer → List CutFrame
-ring_of d = known_items d.consumer
+ring_of d = known_in d.outlet
 
 -- the frames that a drainer accounts for, in order: those with a fate, the hand, and those known in the ring
 abbrev pub accounted_of : Drainer → List CutFrame
@@ -108,6 +109,18 @@ abbrev pub KeepsFates : Drainer → Drainer → Type 0
 KeepsFates old new = (fates_of new ≡ fates_of old) × (totals_of new ≡ totals_of old)
     × (unreported_of new ≡ unreported_of old) × (most_of new ≡ most_of old) × (has_failed new ≡ has_failed old)
 
+-- a drainer's end stays that of its ring
+abbrev pub SameDrainer : Drainer → Drainer → Type 0
+SameDrainer a b = SameOutlet a.outlet b.outlet
+
+-- frames came from the ring into the hand, and none got its fate
+pub record Comes (old new : Drainer) : Type 0 where
+  pub popped : popped_of new ≡ popped_of old ++ came_of old new
+  pub hand : hand_of new ≡ hand_of old ++ came_of old new
+  pub known : IsPrefix (ring_of old) (came_of old new ++ ring_of new)
+  pub kept : KeepsFates old new
+  pub ring : SameDrainer old new
+
 -- no frame was popped: the popped frames, those known to be in the ring and the hand's size stay
 abbrev pub KeepsPopped : Drainer → Drainer → Type 0
 KeepsPopped old new = (popped_of new ≡ popped_of old) × (ring_of new ≡ ring_of old) × (most_of new ≡ most_of old)
@@ -126,27 +139,23 @@ KeepsAllButRing old new = (totals_of new ≡ totals_of old) × (unreported_of ne
 
 -- the two ends of one ring
 abbrev pub AreEnds : Feeder → Drainer → Type 0
-AreEnds f d = IsPair f.producer d.consumer
+AreEnds f d = ArePair f.inlet d.outlet
 
 -- a feeder's end stays that of its ring
 abbrev pub SameFeeder : Feeder → Feeder → Type 0
-SameFeeder a b = SameProducer a.producer b.producer
+SameFeeder a b = SameInlet a.inlet b.inlet
 
 -- what a feeder took and owes stays, and its end that of its ring
 abbrev pub KeepsFeeder : Feeder → Feeder → Type 0
 KeepsFeeder old new = (taken_of new ≡ taken_of old) × (owed_of new ≡ owed_of old) × SameFeeder old new
 
--- a drainer's end stays that of its ring
-abbrev pub SameDrainer : Drainer → Drainer → Type 0
-SameDrainer a b = SameConsumer a.consumer b.consumer
-
 -- the frames that waited for room when the feeder finished
 abbrev pub end_owed : FeederEnd → List CutFrame
-end_owed e = drop e.sent e.block.items
+end_owed e = with_cut e.cut (drop e.sent e.block.items)
 
 -- with its token, what the feeder took in all
 abbrev pub EndTook : FeederEnd → List CutFrame → Type 0
-EndTook e taken = IfSome e.finished (λ f. all_sent f ++ end_owed e ≡ taken)
+EndTook e taken = IfSome e.finished (λ f. end_sent f ++ end_owed e ≡ taken)
 
 -- so many frames are in the ring, and the drainer and the feeder's end account for all that was taken
 abbrev pub AccountsForAll : FeederEnd → Drainer → ℕ → Type 0
@@ -154,8 +163,8 @@ AccountsForAll e d n = (n ≡ length (ring_of d)) × EndTook e (accounted_of d +
 
 -- with its token, the two ends of one ring
 abbrev pub AreEndsAfter : FeederEnd → Drainer → Type 0
-AreEndsAfter e d = IfSome e.finished (λ f. IsFinishedOf f d.consumer)
+AreEndsAfter e d = IfSome e.finished (λ f. ArePairAfter f d.outlet)
 
 -- with its token, what the feeder left
 abbrev pub EndsFeeder : Feeder → FeederEnd → Type 0
-EndsFeeder f e = IfSome e.finished (λ t. SameRing f.producer.end t.end)
+EndsFeeder f e = IfSome e.finished (λ t. IsTokenOf f.inlet t)

@@ -1,15 +1,18 @@
 //! The end of a ring that an output drains.
-ghost use Rattle.std.specs.Prelude.{◌≡◌, ◌+◌, ◌^◌, ◌<◌, ◌≤◌, [], ◌++◌, length, take, drop, vec_len};
 ghost use mathlib.Core.List.{IsPrefix};
-ghost use Rattle.rtrb.specs.Ring.{received, known_items, SameConsumer};
+ghost use Rattle.std.specs.Prelude.{◌≡◌, ◌+◌, ◌^◌, ◌<◌, ◌≤◌, [], ◌++◌, length, take, drop, vec_len, vec_capacity};
+ghost use Rattle.output_ring.specs.Ends.{known_in, popped_from, SameOutlet};
+ghost use Rattle.output_ring.specs.Frames.{came_into, with_cut};
+ghost use Rattle.output_ring.specs.Runs.{cuts_of, paired};
 ghost use Rattle.output_ring.specs.Sending.{HasRoom};
-ghost use Rattle.output_ring.specs.Frames.{came_into};
 
 use crate::feeder::{Feeder, FeederEnd};
-use crate::frames::{Cut, CutFrame, Fates, Live, Totals, WriteFault};
-use crate::outgoing::{Outgoing, write_bytes};
+use crate::frames::{Fates, Live, Totals, WriteFault};
+use crate::outgoing::Outgoing;
+use crate::outlet::Outlet;
+use crate::runs::Run;
 use counted_devices::Sink;
-use rtrb::Consumer;
+use pcm_mix::Frame;
 use std::alloc::{AllocError, Global};
 
 const NO_FATES: Fates = Fates {
@@ -19,29 +22,34 @@ const NO_FATES: Fates = Fates {
 
 /// Pops frames into its hand, and gives each its fate. No call waits, and only its making takes memory.
 pub struct Drainer {
-    pub(crate) consumer: Consumer<CutFrame>,
-    // The hand is the first `held` of these.
-    pub(crate) slots: Vec<CutFrame>,
+    pub(crate) outlet: Outlet,
+    // The hand is the first `held` of these, in these runs.
+    pub(crate) slots: Vec<Frame>,
     pub(crate) held: usize,
+    pub(crate) runs: Vec<Run>,
     pub(crate) totals: Totals,
     pub(crate) unreported: Fates,
     pub(crate) failed: bool,
     outgoing: Outgoing,
     ghost room: { HasRoom (vec_len slots) outgoing },
     ghost within: { held ≤ vec_len slots },
-    ghost counted: { (totals.written + totals.discarded) + held ≡ length (received consumer) },
+    ghost runs_room: { (vec_len runs ≤ held) × (vec_len slots ≤ vec_capacity runs) },
+    ghost runs_are: { length (cuts_of runs.items) ≡ held },
+    ghost hand_long: { length (paired (cuts_of runs.items) (take held slots.items)) ≡ held },
+    ghost counted: { (totals.written + totals.discarded) + held ≡ length (popped_from outlet) },
     ghost bounded: { (totals.written + totals.discarded) + held < 2 ^ 64 },
     ghost unreported_within: { (unreported.written ≤ totals.written) × (unreported.discarded ≤ totals.discarded) },
     ghost torn: { totals.torn < 4 },
-    ghost hand_is: { take held slots.items ≡ drop (totals.written + totals.discarded) (received consumer) },
+    ghost hand_is: { paired (cuts_of runs.items) (take held slots.items) ≡ drop (totals.written + totals.discarded) (popped_from outlet) },
 }
 
 impl Drop for Drainer {
     fn drop(self) {
         let Drainer {
-            consumer: _,
+            outlet: _,
             slots: _,
             held: _,
+            runs: _,
             totals: _,
             unreported: _,
             failed: _,
@@ -52,34 +60,27 @@ impl Drop for Drainer {
 
 impl Drainer {
     ghost use mathlib.Core.List.{IsPrefix};
+    ghost use Rattle.output_ring.specs.Ends.{popped_from};
     ghost use Rattle.std.specs.Prelude.{◌≡◌, ◌+◌, ◌^◌, ◌<◌, ◌≤◌, [], ◌++◌, filter, IfOk, IfSome, IsSome, MatchResult, ◌||◌, ◌↔◌, is_err, OnErr, length, true};
     ghost use Rattle.counted_devices.specs.CallCounts.{HasFailed};
     ghost use Rattle.output_ring.specs.Frames.{heard, is_since_move, no_fates, both, counted, totals_after, fates_in};
-    ghost use Rattle.output_ring.specs.Rings.{taken_of, owed_of, fates_of, popped_of, came_of, hand_of, most_of, ring_of, totals_of, unreported_of, has_failed, accounted_of, hand_fates, HasNoFates, HandHasRoom, HandHasRoomForRing, CanPop, CanPopRing, KeepsFates, KeepsPopped, KeepsAllButReport, KeepsAllButRing, KeepsFeeder, AreEnds, AreEndsAfter, AccountsForAll, end_owed, SameDrainer};
+    ghost use Rattle.output_ring.specs.Rings.{taken_of, owed_of, fates_of, popped_of, came_of, hand_of, most_of, ring_of, totals_of, unreported_of, has_failed, accounted_of, hand_fates, HasNoFates, HandHasRoom, HandHasRoomForRing, CanPop, CanPopRing, KeepsFates, KeepsPopped, KeepsAllButReport, KeepsAllButRing, KeepsFeeder, AreEnds, AreEndsAfter, AccountsForAll, end_owed, SameDrainer, Comes};
     ghost use Rattle.output_ring.specs.Turns.{OnHold, OnPlay, DiscardsHand, KeepsHand, WritesHand, FailsInHand};
 
-    pub(crate) fn new(
-        alloc: Global,
-        consumer: Consumer<CutFrame>,
-        most: usize,
-    ) -> Result<Drainer, AllocError>
-        requires { received consumer ≡ [] }
-        ensures { IfOk result (λ d. (d.consumer ≡ consumer) × (hand_of d ≡ []) × (most_of d ≡ most) × HasNoFates d) }
+    pub(crate) fn new(alloc: Global, outlet: Outlet, most: usize) -> Result<Drainer, AllocError>
+        requires { popped_from outlet ≡ [] }
+        ensures { IfOk result (λ d. (d.outlet ≡ outlet) × (hand_of d ≡ []) × (most_of d ≡ most) × HasNoFates d) }
     {
-        let silence = CutFrame {
-            frame: [0, 0],
-            cut: Cut {
-                moves: 0,
-                number: 0,
-            },
-        };
-        let mut slots = Vec::new(alloc);
-        slots.resize(most, silence)?;
+        let mut slots: Vec<Frame> = Vec::new(alloc);
+        slots.resize(most, [0, 0])?;
+        let mut runs = Vec::new(alloc);
+        runs.reserve(most)?;
         let outgoing = Outgoing::new(alloc, most)?;
         Ok(Drainer {
-            consumer,
+            outlet,
             slots,
             held: 0,
+            runs,
             totals: Totals {
                 written: 0,
                 discarded: 0,
@@ -107,11 +108,34 @@ impl Drainer {
         ensures kept { KeepsFates self.old self.new }
         ensures ring { SameDrainer self.old self.new }
     {
+        let mut count = 0;
+        loop {
+            let more = self.pop_run();
+            if more == 0 {
+                return count;
+            }
+            count += more;
+        }
+    }
+
+    // Takes into the hand frames of one run, and says how many.
+    fn pop_run(&mut self) -> usize
+        ensures comes { Comes self.old self.new }
+        ensures count { result ≡ length (came_of self.old self.new) }
+        ensures stops { result ≡ 0 → HandHasRoom self.new → CanPop self.new → ring_of self.new ≡ [] }
+        ensures order { popped_of self.new ≡ fates_of self.new ++ hand_of self.new }
+    {
         let popped = self.totals.written + self.totals.discarded + self.held as u64;
         let room = (self.slots.len() - self.held) as u64;
         let most = room.min(u64::MAX - popped) as usize;
-        let count = pop_after(&mut self.consumer, &mut self.slots, self.held, most);
-        self.held += count;
+        let count = pop_after(&mut self.outlet, &mut self.slots, self.held, most);
+        if count > 0 {
+            self.runs.push_reserved(Run {
+                count,
+                cut: self.outlet.cut,
+            });
+            self.held += count;
+        }
         count
     }
 
@@ -145,7 +169,7 @@ impl Drainer {
         if live.paused || live.ended {
             return Ok(NO_FATES);
         }
-        match self.outgoing.send(writer, &self.slots[..self.held], live) {
+        match self.outgoing.send(writer, &self.slots[..self.held], self.runs.as_slice(), live) {
             Ok(written) => Ok(self.settle_hand(written)),
             Err(torn) => {
                 self.failed = true;
@@ -170,6 +194,7 @@ impl Drainer {
     {
         let discarded = self.held as u64 - written;
         self.held = 0;
+        self.runs.clear();
         self.totals.written += written;
         self.totals.discarded += discarded;
         self.unreported.written += written;
@@ -221,7 +246,7 @@ impl Drainer {
         ensures kept { KeepsAllButRing self.old self.new }
         ensures ring { SameDrainer self.old self.new }
     {
-        self.consumer.slots_beside(&mut feeder.producer)
+        self.outlet.beside(&mut feeder.inlet)
     }
 
     /// With the end of this ring's feeder, the ring's length. What was taken is the fates, then the hand, the
@@ -235,27 +260,22 @@ impl Drainer {
         ensures ring { SameDrainer self.old self.new }
     {
         match &mut end.finished {
-            Some(finished) => Some(self.consumer.slots_after(finished)),
+            Some(finished) => Some(self.outlet.after(finished)),
             None => None,
         }
     }
 }
 
-// Pops up to `most` frames into the slots after the first `held`, and says how many.
-fn pop_after(
-    consumer: &mut Consumer<CutFrame>,
-    slots: &mut [CutFrame],
-    held: usize,
-    most: usize,
-) -> usize
+// Takes frames of one run into the slots after the first `held`, up to `most`, and says how many.
+fn pop_after(outlet: &mut Outlet, slots: &mut [Frame], held: usize, most: usize) -> usize
     requires { held + most ≤ length slots.old }
-    ensures popped { received consumer.new ≡ received consumer.old ++ came_into slots.new held result }
+    ensures popped { popped_from outlet.new ≡ popped_from outlet.old ++ with_cut outlet.new.cut (came_into slots.new held result) }
     ensures hand { take (held + result) slots.new ≡ take held slots.old ++ came_into slots.new held result }
     ensures length { length slots.new ≡ length slots.old }
     ensures count { (result ≤ most) × (length (came_into slots.new held result) ≡ result) }
-    ensures known { IsPrefix (known_items consumer.old) (came_into slots.new held result ++ known_items consumer.new) }
-    ensures stops { result < most → known_items consumer.new ≡ [] }
-    ensures ring { SameConsumer consumer.old consumer.new }
+    ensures known { IsPrefix (known_in outlet.old) (with_cut outlet.new.cut (came_into slots.new held result) ++ known_in outlet.new) }
+    ensures stops { result ≡ 0 → 0 < most → known_in outlet.new ≡ [] }
+    ensures ring { SameOutlet outlet.old outlet.new }
 {
-    consumer.pop_partial_slice(&mut slots[held..held + most])
+    outlet.pop(&mut slots[held..held + most])
 }

@@ -1,10 +1,9 @@
 //! The end of a ring that a decoder feeds.
 ghost use Rattle.std.specs.Prelude.{◌≡◌, ◌+◌, ◌≤◌, ◌++◌, length, vec_len, vec_capacity};
-ghost use Rattle.output_ring.specs.Frames.{with_cut};
 
-use crate::frames::{Cut, CutFrame};
+use crate::frames::Cut;
+use crate::inlet::{Inlet, InletEnd};
 use pcm_mix::Frame;
-use rtrb::{Finished, Producer};
 use std::alloc::{AllocError, Global};
 
 /// The most frames of a block.
@@ -13,19 +12,22 @@ pub const MOST_FRAMES: usize = 1024;
 /// Takes blocks of frames, and moves them into the ring as it has room. No call waits, and only its making
 /// takes memory.
 pub struct Feeder {
-    pub(crate) producer: Producer<CutFrame>,
-    block: Vec<CutFrame>,
+    pub(crate) inlet: Inlet,
+    block: Vec<Frame>,
+    // The cut of the block.
+    cut: Cut,
     // How many frames of the block went into the ring.
     sent: usize,
-    ghost within: { sent ≤ vec_len block },
+    ghost within: { (sent ≤ vec_len block) × (vec_len block ≤ 1024) },
     ghost room: { 1024 ≤ vec_capacity block },
 }
 
 impl Drop for Feeder {
     fn drop(self) {
         let Feeder {
-            producer: _,
+            inlet: _,
             block: _,
+            cut: _,
             sent: _,
         } = self;
     }
@@ -33,10 +35,11 @@ impl Drop for Feeder {
 
 /// What is left of a feeder, with a token of all that it sent.
 pub struct FeederEnd {
-    pub(crate) finished: Option<Finished<CutFrame>>,
-    block: Vec<CutFrame>,
+    pub(crate) finished: Option<InletEnd>,
+    block: Vec<Frame>,
+    cut: Cut,
     sent: usize,
-    ghost within: { sent ≤ vec_len block },
+    ghost within: { (sent ≤ vec_len block) × (vec_len block ≤ 1024) },
 }
 
 impl Drop for FeederEnd {
@@ -44,6 +47,7 @@ impl Drop for FeederEnd {
         let FeederEnd {
             finished: _,
             block: _,
+            cut: _,
             sent: _,
         } = self;
     }
@@ -54,14 +58,18 @@ impl Feeder {
     ghost use Rattle.output_ring.specs.Frames.{with_cut};
     ghost use Rattle.output_ring.specs.Rings.{taken_of, sent_of, owed_of, room_of, SameFeeder, EndTook, EndsFeeder, end_owed};
 
-    pub(crate) fn new(alloc: Global, producer: Producer<CutFrame>) -> Result<Feeder, AllocError>
-        ensures { IfOk result (λ f. (f.producer ≡ producer) × (owed_of f ≡ [])) }
+    pub(crate) fn new(alloc: Global, inlet: Inlet) -> Result<Feeder, AllocError>
+        ensures { IfOk result (λ f. (f.inlet ≡ inlet) × (owed_of f ≡ [])) }
     {
         let mut block = Vec::new(alloc);
         block.reserve(MOST_FRAMES)?;
         Ok(Feeder {
-            producer,
+            inlet,
             block,
+            cut: Cut {
+                moves: 0,
+                number: 0,
+            },
             sent: 0,
         })
     }
@@ -76,8 +84,9 @@ impl Feeder {
         ensures ring { SameFeeder self.old self.new }
     {
         self.sent = 0;
+        self.cut = cut;
         self.block.clear();
-        fill(&mut self.block, frames, cut);
+        fill(&mut self.block, frames);
     }
 
     /// Moves owed frames into the ring while it has room, and says how many.
@@ -92,8 +101,7 @@ impl Feeder {
         ensures count { result ≤ length (owed_of self.old) }
         ensures ring { SameFeeder self.old self.new }
     {
-        let (sent, _) = self.producer.push_partial_slice(&self.block[self.sent..]);
-        let moved = sent.len();
+        let moved = self.inlet.push(&self.block[self.sent..], self.cut);
         self.sent += moved;
         moved
     }
@@ -112,25 +120,28 @@ impl Feeder {
         ensures ring { EndsFeeder self result }
     {
         let Feeder {
-            producer,
+            inlet,
             block,
+            cut,
             sent,
         } = self;
         FeederEnd {
-            finished: producer.finish(),
+            finished: inlet.finish(),
             block,
+            cut,
             sent,
         }
     }
 }
 
-fn fill(block: &mut Vec<CutFrame>, frames: &[Frame], cut: Cut)
+fn fill(block: &mut Vec<Frame>, frames: &[Frame])
     requires room { vec_len block.old + length frames.now ≤ vec_capacity block.old }
-    ensures items { block.new.items ≡ block.old.items ++ with_cut cut frames.now }
-    ensures room { vec_capacity block.new ≡ vec_capacity block.old }
+    ensures items { block.new.items ≡ block.old.items ++ frames.now }
+    ensures room { vec_capacity block.old ≤ vec_capacity block.new }
 {
-    for frame in frames {
-        block.push_reserved(CutFrame { frame: *frame, cut });
+    let filled = block.extend_from_slice(frames);
+    if filled.is_err() {
+        unreachable!()
     }
 }
 

@@ -10,7 +10,8 @@ pub struct Cut {
     pub number: u64,
 }
 
-/// A frame with the cut of its block.
+/// A frame with the cut of its block, as contracts see the frames of a ring. A ring holds them in runs of one
+/// cut.
 #[derive(Clone, Copy, PartialEq, Eq)]
 pub struct CutFrame {
     pub frame: Frame,

@@ -8,11 +8,16 @@ ghost use Rattle.output_ring.specs.Rings.{AreEnds, HasNoFates, HasNoFrames, take
 pub mod drainer;
 pub mod feeder;
 pub mod frames;
+mod inlet;
 mod outgoing;
+mod outlet;
+mod runs;
 
 pub use drainer::Drainer;
 pub use feeder::{Feeder, FeederEnd, MOST_FRAMES};
 pub use frames::{Cut, CutFrame, Fates, Live, Totals, WriteFault};
+use inlet::Inlet;
+use outlet::Outlet;
 use rtrb::RingBuffer;
 use std::alloc::{AllocError, Global};
 
@@ -23,8 +28,9 @@ pub fn ring(alloc: Global, capacity: usize, hand: usize) -> Result<(Feeder, Drai
     ensures frames { IfOk result (λ r. HasNoFrames r.1 hand) }
     ensures counts { IfOk result (λ r. HasNoFates r.1) }
 {
-    let (producer, consumer) = RingBuffer::new(alloc, capacity)?;
-    let feeder = Feeder::new(alloc, producer)?;
-    let drainer = Drainer::new(alloc, consumer, hand)?;
+    let (frames_in, frames_out) = RingBuffer::new(alloc, capacity)?;
+    let (runs_in, runs_out) = RingBuffer::new(alloc, capacity.max(1))?;
+    let feeder = Feeder::new(alloc, Inlet::new(frames_in, runs_in))?;
+    let drainer = Drainer::new(alloc, Outlet::new(frames_out, runs_out), hand)?;
     Ok((feeder, drainer))
 }

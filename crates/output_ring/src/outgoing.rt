@@ -1,10 +1,12 @@
 //! The bytes of a hand on their way to a writer.
-ghost use Rattle.std.specs.Prelude.{◌≡◌, ◌+◌, ◌*◌, ◌<◌, ◌≤◌, ◌++◌, length, take, vec_len, vec_capacity};
+ghost use Rattle.std.specs.Prelude.{◌≡◌, ◌+◌, ◌*◌, ◌<◌, ◌≤◌, ◌++◌, length, take, drop};
 ghost use Rattle.std.specs.Io.KnownBytes.{Appends};
 ghost use Rattle.counted_devices.specs.CallCounts.{HasFailed, NoFewer};
-ghost use Rattle.output_ring.specs.Frames.{heard, is_heard, bytes_of};
+ghost use Rattle.output_ring.specs.Frames.{heard, is_cut_heard, bytes_of, with_cut};
+ghost use Rattle.output_ring.specs.Runs.{cuts_of, paired};
 
-use crate::frames::{CutFrame, Live};
+use crate::frames::{Cut, Live};
+use crate::runs::Run;
 use counted_devices::Sink;
 use pcm_mix::{Frame, to_bytes};
 use std::alloc::{AllocError, Global};
@@ -16,107 +18,114 @@ pub(crate) struct Torn {
     pub(crate) bytes: u8,
 }
 
-// Room for the frames of a hand that are heard, and for their bytes.
+// Room for the bytes of the frames of a hand.
+#[derive(Drop)]
 pub(crate) struct Outgoing {
-    frames: Vec<Frame>,
     bytes: Vec<u8>,
-}
-
-impl Drop for Outgoing {
-    fn drop(self) {
-        let Outgoing {
-            frames: _,
-            bytes: _,
-        } = self;
-    }
 }
 
 impl Outgoing {
     ghost use Rattle.std.specs.Prelude.{◌≡◌, ◌*◌, ◌≤◌, IfOk, OnErr, MatchResult, length, take};
     ghost use Rattle.counted_devices.specs.CallCounts.{HasFailed};
     ghost use Rattle.output_ring.specs.Frames.{bytes_of, heard, StopsInside, WritesHeard};
+    ghost use Rattle.output_ring.specs.Runs.{cuts_of, paired};
     ghost use Rattle.output_ring.specs.Sending.{HasRoom, KeepsRoom};
 
     pub(crate) fn new(alloc: Global, most: usize) -> Result<Outgoing, AllocError>
         ensures { IfOk result (λ o. HasRoom most o) }
     {
-        let mut frames = Vec::new(alloc);
-        frames.reserve(most)?;
         let Some(count) = most.checked_mul(4) else {
             return Err(AllocError);
         };
         let mut bytes = Vec::new(alloc);
         bytes.resize(count, 0)?;
-        Ok(Outgoing { frames, bytes })
+        Ok(Outgoing { bytes })
     }
 
-    // Lays out the frames of a hand that are heard, and says how many.
-    fn lay_out(&mut self, hand: &[CutFrame], live: Live) -> usize
-        requires { HasRoom (length hand.now) self.old }
-        ensures count { (result ≡ length (heard live hand.now)) × (result ≤ length hand.now) }
-        ensures bytes { take (4 * result) self.new.bytes.items ≡ bytes_of (heard live hand.now) }
-        ensures room { KeepsRoom self.old self.new }
-    {
-        self.frames.clear();
-        keep_heard(&mut self.frames, hand, live);
-        to_start(&self.frames, &mut self.bytes);
-        self.frames.len()
-    }
-
-    // Writes the frames of a hand that are heard, and says how many.
+    // Writes the frames of a hand that are heard, and says how many. Its runs tell their cuts.
     pub(crate) fn send<W: Sink>(
         &mut self,
         writer: &mut W,
-        hand: &[CutFrame],
+        frames: &[Frame],
+        runs: &[Run],
         live: Live,
     ) -> Result<u64, Torn>
-        requires { HasRoom (length hand.now) self.old }
+        requires whole { length (cuts_of runs.now) ≡ length frames.now }
+        requires room { HasRoom (length frames.now) self.old }
         ensures bytes { MatchResult result
-            (λ n. WritesHeard (W.contents writer.old) (W.contents writer.new) live hand.now n)
-            (λ t. StopsInside (W.contents writer.old) (W.contents writer.new) live hand.now t.written t.bytes) }
-        ensures most { MatchResult result (λ n. n ≤ length hand.now) (λ t. t.written ≤ length hand.now) }
+            (λ n. WritesHeard (W.contents writer.old) (W.contents writer.new) live (paired (cuts_of runs.now) frames.now) n)
+            (λ t. StopsInside (W.contents writer.old) (W.contents writer.new) live (paired (cuts_of runs.now) frames.now) t.written t.bytes) }
+        ensures most { MatchResult result (λ n. n ≤ length frames.now) (λ t. t.written ≤ length frames.now) }
         ensures fault { OnErr result (HasFailed (W.call_counts writer.old) (W.call_counts writer.new)) }
         ensures room { KeepsRoom self.old self.new }
     {
-        let frames = self.lay_out(hand, live);
-        let done = write_bytes(writer, &self.bytes[..4 * frames]);
-        if done < 4 * frames {
+        let count = lay_out(&mut self.bytes, frames, runs, live);
+        let done = write_bytes(writer, &self.bytes[..4 * count]);
+        if done < 4 * count {
             return Err(Torn {
                 written: (done / 4) as u64,
                 bytes: (done % 4) as u8,
             });
         }
-        Ok(frames as u64)
+        Ok(count as u64)
     }
 }
 
-fn keep_heard(frames: &mut Vec<Frame>, hand: &[CutFrame], live: Live)
-    requires { vec_len frames.old + length hand.now ≤ vec_capacity frames.old }
-    ensures items { frames.new.items ≡ frames.old.items ++ heard live hand.now }
-    ensures count { vec_len frames.new ≡ vec_len frames.old + length (heard live hand.now) }
-    ensures few { length (heard live hand.now) ≤ length hand.now }
-    ensures room { vec_capacity frames.new ≡ vec_capacity frames.old }
-{
-    for item in hand {
-        if is_heard(*item, live) {
-            frames.push_reserved(item.frame);
-        }
-    }
-}
-
-// Lays out the frames at the start of the bytes.
-fn to_start(frames: &[Frame], bytes: &mut [u8])
-    requires { 4 * length frames.now ≤ length bytes.old }
-    ensures bytes { take (4 * length frames.now) bytes.new ≡ bytes_of frames.now }
+// Lays out the bytes of the frames of a hand that are heard, and says how many these are.
+fn lay_out(bytes: &mut [u8], frames: &[Frame], runs: &[Run], live: Live) -> usize
+    requires whole { length (cuts_of runs.now) ≡ length frames.now }
+    requires room { 4 * length frames.now ≤ length bytes.old }
+    ensures count { (result ≡ length (heard live (paired (cuts_of runs.now) frames.now))) × (result ≤ length frames.now) }
+    ensures bytes { take (4 * result) bytes.new ≡ bytes_of (heard live (paired (cuts_of runs.now) frames.now)) }
     ensures length { length bytes.new ≡ length bytes.old }
 {
-    to_bytes(frames, &mut bytes[..4 * frames.len()]);
+    let mut passed = 0;
+    let mut count = 0;
+    for run in runs {
+        let own = part(frames, passed, run.count);
+        count = lay_run(bytes, count, own, run.cut, live);
+        passed += run.count;
+    }
+    count
 }
 
-fn is_heard(item: CutFrame, live: Live) -> bool
-    ensures { result ≡ is_heard live item }
+// So many frames from a place on.
+fn part(frames: &[Frame], from: usize, count: usize) -> &[Frame]
+    requires { from + count ≤ length frames.now }
+    ensures value { result.now ≡ take count (drop from frames.now) }
+    ensures count { (length result.now ≡ count) × (from + count ≤ length frames.now) }
 {
-    live.enabled && item.cut >= live.cut
+    &frames[from..from + count]
+}
+
+// Lays out the bytes of frames of one cut behind so many other frames, if they are heard, and says how many
+// frames there are then.
+fn lay_run(bytes: &mut [u8], before: usize, frames: &[Frame], cut: Cut, live: Live) -> usize
+    requires { 4 * (before + length frames.now) ≤ length bytes.old }
+    ensures count { (result ≡ before + length (heard live (with_cut cut frames.now))) × (result ≤ before + length frames.now) }
+    ensures bytes { take (4 * result) bytes.new ≡ take (4 * before) bytes.old ++ bytes_of (heard live (with_cut cut frames.now)) }
+    ensures length { length bytes.new ≡ length bytes.old }
+{
+    if !is_heard(cut, live) {
+        return before;
+    }
+    put_after(bytes, 4 * before, frames);
+    before + frames.len()
+}
+
+// Lays out the bytes of frames behind so many other bytes.
+fn put_after(bytes: &mut [u8], before: usize, frames: &[Frame])
+    requires { before + 4 * length frames.now ≤ length bytes.old }
+    ensures bytes { take (before + 4 * length frames.now) bytes.new ≡ take before bytes.old ++ bytes_of frames.now }
+    ensures length { length bytes.new ≡ length bytes.old }
+{
+    to_bytes(frames, &mut bytes[before..before + 4 * frames.len()]);
+}
+
+fn is_heard(cut: Cut, live: Live) -> bool
+    ensures { result ≡ is_cut_heard live cut }
+{
+    live.enabled && cut >= live.cut
 }
 
 // Writes bytes until all are out or the writer fails, and says how many it took. An interrupted write is a

@@ -3,6 +3,7 @@ use Rattle.std.proofs.lemmas.Grind.{common_steps}
 use Rattle.output_ring.specs.Rings.{ring_of}
 use Rattle.output_ring.specs.declared.frames.Totals.{Totals}
 use Rattle.frame_ledger.specs.declared.settlement.Settled.{Settled}
+use Rattle.output_ring.proofs.Bounds.{left_fits}
 use Rattle.frame_ledger.proofs.Settles.{settles, taken_length}
 use Rattle.frame_ledger.proofs.settlement.settle.Goals as goal
 
@@ -24,3 +25,8 @@ returns-in-Some-compare-clause-balances g c =
     (ap (λ (s : Settled). s.written + s.discarded) is ∙ totals.count)
     (ap (λ (s : Settled). s.left) is ∙ grind (arith, common_steps, c.left_of-left.ensures, c.in-Some.ensures.all.0, c.after.ensures.end.0))
     (ap (λ (s : Settled). s.decoded) is ∙ sym (ap (λ (s : Settled). (s.written + s.discarded) + s.left) is))
+
+pub left_of-left-requires : goal.left_of-left-requires
+left_of-left-requires g c =
+    let fits = left_fits c.after.new.self c.after.new.end in
+    omega (arith, fits, c.in-Some.ensures.all.0)

@@ -4,4 +4,4 @@ use Rattle.output_ring.proofs.drainer.pop_after.Goals as goal
 
 pub returns-clause-hand : goal.returns-clause-hand
 returns-clause-hand c =
-    part_stays c.args.held (c.args.held + c.args.most - c.args.held) c.pop_partial_slice.result c.args.slots.now c.pop_partial_slice.new.slice (omega (arith, c.requires))
+    part_stays c.args.held (c.args.held + c.args.most - c.args.held) c.pop.result c.args.slots.now c.pop.new.slots (omega (arith, c.requires))
