@@ -1,5 +1,5 @@
 -- The ranks that were drawn, of which those are left whose ids are known.
-use Rattle.std.proofs.Common.{◌≡◌, ℕ, ◌<◌, ◌≤◌, Bool, true, false, not, ◌==◌, List, [], ◌∷◌, ◌++◌, filter, Option, Some, None, is_some, refl, ap, sym, ◌∙◌, arith, cond}
+use Rattle.std.proofs.Common.{◌≡◌, ℕ, ◌<◌, ◌≤◌, ◌+◌, ◌*◌, ◌⊎◌, inl, inr, length, Bool, true, false, not, ◌==◌, List, [], ◌∷◌, ◌++◌, filter, Option, Some, None, is_some, refl, ap, sym, ◌∙◌, arith, cond}
 use Rattle.std.specs.Prelude.{All}
 use Rattle.std.specs.List.{list_any}
 use Rattle.std.specs.Option.{option_or}
@@ -125,3 +125,9 @@ left-alike known after drawn same = filter_agree (λ (r : Rank). is_some (after 
 pub finds-left : (known after : ℕ → Option ℕ) (old new : List Rank) → ((q : ℕ) → after q ≡ known q) → left_of after new ≡ left_of known old → ((q : ℕ) → known q ≡ rank_at (left_of known old) q)
     → (q : ℕ) → after q ≡ rank_at (left_of after new) q
 finds-left known after old new same left finds q = same q ∙ finds q ∙ ap (λ (r : List Rank). rank_at r q) (sym left)
+
+-- a list of ranks is tidy by another map too, where that knows the same and has as many entries
+pub tidy-alike : (known after : ℕ → Option ℕ) (old new : List Rank) (count same_count : ℕ) → ((q : ℕ) → after q ≡ known q) → same_count ≡ count → new ≡ old
+    → (left_of known old ≡ old) ⊎ (length old ≤ 2 * count + 1) → (left_of after new ≡ new) ⊎ (length new ≤ 2 * same_count + 1)
+tidy-alike known after old new count same_count same counted items (inl none_gone) = inl (left-alike known after new same ∙ ap (left_of known) items ∙ none_gone ∙ sym items)
+tidy-alike known after old new count same_count same counted items (inr few) = let long : length new ≡ length old = ap length items in inr (omega arith)

@@ -1,9 +1,9 @@
 -- What is kept beside the lists of a round, so that an id is found in them at once, and how a queue is gone
 -- through.
-use Rattle.std.specs.Prelude.{ℕ, ◌≡◌, ◌≤◌, Bool, true, false, ◌==◌, not, nat_eq, if◌then◌else◌, All, List, [], ◌∷◌, ◌++◌, filter, find, fold, is_some, Option, Some, None}
+use Rattle.std.specs.Prelude.{ℕ, ◌≡◌, ◌≤◌, ◌+◌, ◌*◌, ◌⊎◌, Bool, true, false, ◌==◌, not, nat_eq, if◌then◌else◌, All, List, [], ◌∷◌, ◌++◌, filter, find, fold, length, is_some, Option, Some, None}
 use Rattle.std.specs.List.{list_any, slice_range}
 use Rattle.std.specs.Option.{option_map, option_or}
-use Rattle.std.specs.HashMap.{HashMap, get}
+use Rattle.std.specs.HashMap.{HashMap, get, hash_map_len}
 use Rattle.std.specs.BTreeMap.{BTreeMap, IsOrdered}
 use Rattle.std.specs.Ordering.{nat_cmp}
 use Rattle.song_queue.specs.declared.entry.Entry.{Entry}
@@ -29,6 +29,10 @@ abbrev pub KeepsLeft : {S : Type 0} → HashMap ℕ ℕ S → List Rank → List
 KeepsLeft by_id old new =
     (ranks_left by_id new ≡ ranks_left by_id old)
     × ((greatest : ℕ) → All (λ r. r.id ≤ greatest) old → All (λ r. r.id ≤ greatest) new)
+
+-- a list of ranks has none of an id that the map lacks, or at most two for each id that the map has, and one
+abbrev pub IsTidy : {S : Type 0} → HashMap ℕ ℕ S → List Rank → Type 0
+IsTidy by_id drawn = (ranks_left by_id drawn ≡ drawn) ⊎ (length drawn ≤ 2 * hash_map_len by_id + 1)
 
 -- beside the ranks that were left, more are
 abbrev pub LeavesMore : {S : Type 0} → HashMap ℕ ℕ S → List Rank → HashMap ℕ ℕ S → List Rank → List Rank → Type 0

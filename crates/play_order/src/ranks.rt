@@ -6,7 +6,7 @@ ghost use Rattle.song_queue.specs.Laws.{Takes};
 ghost use Rattle.song_queue.specs.State.{inserted};
 ghost use Rattle.play_order.specs.Order.{new_ids};
 ghost use Rattle.play_order.specs.Draws.{generator_after, is_among, rank_of, ranks_drawn};
-ghost use Rattle.play_order.specs.Scans.{FindsRanks, GivesRank, KeepsLeft, KeepsNoGone, KeepsRanks, LeavesMore, LosesRanks, ranks_left};
+ghost use Rattle.play_order.specs.Scans.{FindsRanks, GivesRank, IsTidy, KeepsLeft, KeepsNoGone, KeepsRanks, LeavesMore, LosesRanks, ranks_left};
 
 use crate::modes::Rank;
 use crate::scan::put_in;
@@ -147,6 +147,7 @@ fn make_room(
     ensures kept { (n : ℕ) → KeepsRanks by_id.old drawn.old.items n → KeepsRanks by_id.new drawn.new.items n }
     ensures room { OnOk result (vec_len drawn.new + count ≤ vec_capacity drawn.new) }
     ensures spare { OnOk result (count ≤ spare by_id.new) }
+    ensures tidy { vec_capacity drawn.old < vec_len drawn.old + count → IsTidy by_id.new drawn.new.items }
 {
     tidy(drawn, by_id, count);
     drawn.reserve(count)?;
@@ -156,7 +157,8 @@ fn make_room(
 /// Where the list is full, and has more ranks of ids that have left than others, it loses those: so many left
 /// since it last grew or lost some that a removal costs the same on the whole.
 fn tidy(drawn: &mut Vec<Rank>, by_id: &HashMap<u32, u32>, count: usize)
-    ensures { KeepsLeft by_id.now drawn.old.items drawn.new.items }
+    ensures left { KeepsLeft by_id.now drawn.old.items drawn.new.items }
+    ensures tidy { vec_capacity drawn.old < vec_len drawn.old + count → IsTidy by_id.now drawn.new.items }
 {
     let full = drawn.capacity().saturating_sub(drawn.len()) < count;
     if full && by_id.len() < drawn.len() / 2 {
