@@ -40,22 +40,6 @@ pub is_next : (seat : ℕ) (i after : Image) (e : Event) → after ≡ counted s
 unfolding next_image
 is_next seat i after e is = is
 
--- An event that is no line, where the state was found equal to the one before.
-pub told_before : (found before : Image) (e : Event) (outcome : OutcomeData) → found ≡ before → outcome ≡ told_by found e (transition found e) → outcome ≡ told before e
-told_before found before e outcome same is = is_told found e outcome is ∙ ap (λ (i : Image). told i e) same
-
-pub next_before : (seat : ℕ) (found before after : Image) (e : Event) → found ≡ before → after ≡ counted seat (after_transition found e (transition found e)) → after ≡ next_image seat before e
-next_before seat found before after e same is = is_next seat found after e is ∙ ap (λ (i : Image). next_image seat i e) same
-
-pub within_before : (seat : ℕ) (found before : Image) (e : Event) → found ≡ before → IsFree seat found
-    → counts_frames found e (transition found e) ≡ true → keeps_limits found e (transition found e) ≡ true → limit_of seat before e ≡ None
-within_before seat found before e same free counts keeps = ap (λ (i : Image). limit_of seat i e) (sym same) ∙ is_within seat found e free counts keeps
-
-pub may_refuse_before : (seat : ℕ) (found before : Image) (e : Event) (fault : PartitionFault) → found ≡ before → IsFree seat found
-    → RefusesTransition found e (transition found e) fault → MayRefuse (limit_of seat before e) fault
-may_refuse_before seat found before e fault same free refused =
-    subst (λ (i : Image). MayRefuse (limit_of seat i e) fault) same (may_refuse seat found e fault free refused)
-
 module _ {S : Type 0} (standing : S → Standing) (failed : S → S → Call → Type 0) where
   -- an event joined the history as the one that heard what it heard
   pub records : (before after : Image) (history later : List LogEntry) (old new : S) (seat : ℕ) (event heard : Event) (outcome : OutcomeData)

@@ -13,7 +13,7 @@ use Rattle.transitions.specs.Transitions.{acts}
 use Rattle.parts.specs.Parts.{part_at}
 use Rattle.partition.specs.Image.{Image, Overview, overview}
 use Rattle.partition.specs.Step.{absent, failure, have, output_turn, place_at, speaker_in, transition, transition_of, want}
-use Rattle.player_events.specs.Events.{store_reply_at, with_store_reply}
+use Rattle.player_events.specs.Events.{with_store_reply}
 use Rattle.player_events.specs.Events.{is_line}
 
 -- a step hears nothing
@@ -28,19 +28,6 @@ hears_nothing (Have place number frames) heard step = refl
 hears_nothing (Failed place number partner) heard step = refl
 hears_nothing (OutputTurn output written discarded failed) heard step = refl
 hears_nothing End heard step = refl
-
--- nothing was refused to it
-pub is_unrefused : (event : Event) → is_line event ≡ false → (store_reply_at event).refused ≡ None
-is_unrefused (Line number stand request before) step = cc
-is_unrefused (Connect number) step = refl
-is_unrefused (Disconnect number) step = refl
-is_unrefused ScanQuestion step = refl
-is_unrefused (ScanResult songs second) step = refl
-is_unrefused (Want place owes) step = refl
-is_unrefused (Have place number frames) step = refl
-is_unrefused (Failed place number partner) step = refl
-is_unrefused (OutputTurn output written discarded failed) step = refl
-is_unrefused End step = refl
 
 turn_writes : (part : Option Part) (output written discarded : ℕ) (failed : Bool) → is_written (output_turn part output (Settles output written discarded failed)).written ≡ false
 turn_writes None output written discarded failed = refl

@@ -104,35 +104,6 @@ pub(crate) fn record_event<S: Shelf>(
     }
 }
 
-/// Runs an event that is no line, and keeps it. It asks no shelf. Where it is refused, nothing changes.
-pub(crate) fn record_step(
-    alloc: Global,
-    state: &mut State,
-    history: &mut Vec<Logged>,
-    seat: u8,
-    event: Event,
-) -> Result<Outcome, PartitionFault>
-    requires seat { seat < 16 }
-    requires count { nat_le 9223372036854775807 (slice_index_or state.old.made seat 0) ≡ false }
-    requires settled { AllSettled state.old.clients.items }
-    requires step { is_line event ≡ false }
-    ensures told { IfOk result (λ outcome. outcome ≡ told_of (image_of_state state.old) event) }
-    ensures next { OnOk result (image_of_state state.new ≡ next_image seat (image_of_state state.old) event) }
-    ensures kept { IfOk result (λ outcome. history.new.items ≡ history.old.items ++ entry seat event outcome ∷ []) }
-    ensures within { OnOk result (limit_of seat (image_of_state state.old) event ≡ None) }
-    ensures refused { IfErr result (λ fault. MayRefuse (limit_of seat (image_of_state state.old) event) fault) }
-    ensures unchanged { OnErr result (image_of_state state.new ≡ image_of_state state.old) }
-    ensures unkept { OnErr result (history.new.items ≡ history.old.items) }
-{
-    if reserve(history, &mut state.clients).is_err() {
-        return Err(PartitionFault::NoMemory);
-    }
-    match apply_step(alloc, state, &event) {
-        Ok(applied) => Ok(keep(state, history, seat, event, applied)),
-        Err(fault) => Err(fault),
-    }
-}
-
 /// Counts an event of a seat that was applied, and keeps it with what it made clients hear.
 fn keep(
     state: &mut State,
@@ -201,24 +172,6 @@ fn apply_event<S: Shelf>(
     if transition.written.is_written() {
         return write_transition(alloc, state, shelf, event, transition);
     }
-    apply_transition(alloc, state, event, transition)
-}
-
-/// Applies an event that is no line, all but the count of its seat. Where it is refused, nothing changes.
-#[tactic(auto, using(crate::proofs::Stepping::is_unrefused, crate::proofs::Stepping::writes_nothing))]
-fn apply_step(alloc: Global, state: &mut State, event: &Event) -> Result<Applied, PartitionFault>
-    requires space { vec_len state.old.clients < vec_capacity state.old.clients }
-    requires settled { AllSettled state.old.clients.items }
-    requires step { is_line event.now ≡ false }
-    ensures image { OnOk result (image_of_state state.new ≡ image_after state.old event.now) }
-    ensures answer { IfOk result (λ applied. applied.telling.response.answer ≡ answer_to state.old event.now) }
-    ensures report { IfOk result (λ applied. applied.telling.report ≡ (telling_of state.old event.now).report) }
-    ensures notices { IfOk result (λ applied. listed applied.notices ≡ (telling_of state.old event.now).notices) }
-    ensures within { OnOk result (IsWithinLimits state.old event.now) }
-    ensures refused { IfErr result (RefusesEvent state.old event.now) }
-    ensures err { OnErr result (image_of_state state.new ≡ image_of_state state.old) }
-{
-    let transition = transition_of_event(alloc, state, event)?;
     apply_transition(alloc, state, event, transition)
 }
 

@@ -26,8 +26,7 @@ ghost use Rattle.idle_clients.specs.Clients.{client_of};
 ghost use Rattle.partition.specs.Lent.{IsAtLimitOrFull, IsRefused, LacksMemory, RecordsNext, RecordsOnce, Refuses};
 ghost use Rattle.partition.specs.Lists.{RunsList, StopsList};
 ghost use Rattle.partition.specs.Legal.{HasDistinctIds, IsPast};
-ghost use Rattle.partition.specs.Refusals.{MayRefuse};
-ghost use Rattle.partition.specs.Step.{limit_of, next_image, told as told_of};
+ghost use Rattle.partition.specs.Step.{limit_of, told as told_of};
 ghost use Rattle.partition.specs.Steps.{RefusesStep, entry};
 ghost use Rattle.player_events.specs.Events.{is_line};
 ghost use Rattle.idle_clients.specs.Settled.{AllSettled};
@@ -35,7 +34,7 @@ ghost use Rattle.partition.specs.Since.{HasPendingSince, books_of_all, world_tra
 ghost use Rattle.partition.specs.Applying.{AreBytesOfLast};
 ghost use Rattle.player_events.specs.Sizes.{window_bytes as window_bytes_lem};
 
-use crate::happen::{record_event, record_step};
+use crate::happen::record_event;
 use crate::laws::replays_worlds;
 use crate::lists::{ListFault, ListOutcome};
 use crate::state::{MAX_OWN, Setup, State};
@@ -45,7 +44,7 @@ use mpd_command::Request;
 use player_core::PlayerFault;
 use player_events::{Event, Logged, Outcome};
 use player_state::{Client, FrameCounts, Library, Part};
-use shelf::Shelf;
+use shelf::{MemShelf, Shelf};
 use std::alloc::{AllocError, Global};
 use std::marker::Model;
 use std::snapshot::Snapshot;
@@ -203,9 +202,6 @@ impl Partition {
         ensures own { IsSpent self.old seat → IsAtLimitOrFull result }
         ensures legal { IsPast self.old }
     {
-        if !event.is_line() {
-            return self.step(seat, event);
-        }
         self.legal();
         self.make_room()?;
         self.apply_in_room(seat, shelf, event)
@@ -237,8 +233,8 @@ impl Partition {
         Ok(outcome)
     }
 
-    /// Applies an event of a seat that is no line, and keeps it with what it made clients hear. It asks no
-    /// shelf. A window that is full is folded first.
+    /// Applies an event of a seat that is no line, and keeps it with what it made clients hear. A window that is
+    /// full is folded first. Such an event asks no shelf: the one that is lent to it here is empty.
     ///
     /// # Errors
     ///
@@ -257,35 +253,8 @@ impl Partition {
         ensures own { IsSpent self.old seat → IsAtLimitOrFull result }
         ensures legal { IsPast self.old }
     {
-        self.legal();
-        self.make_room()?;
-        self.step_in_room(seat, event)
-    }
-
-    /// Applies an event that is no line where the window has room for it.
-    fn step_in_room(&mut self, seat: u8, event: Event) -> Result<Outcome, PartitionFault>
-        requires seat { seat < 16 }
-        requires step { is_line event ≡ false }
-        requires room { length self.old.window < self.old.limit }
-        ensures base { self.new.base ≡ self.old.base }
-        ensures limit { self.new.limit ≡ self.old.limit }
-        ensures told { IfOk result (λ outcome. outcome ≡ told_of self.old.present event) }
-        ensures window { IfOk result (λ outcome. self.new.window ≡ self.old.window ++ entry seat event outcome ∷ []) }
-        ensures present { OnOk result (self.new.present ≡ next_image seat self.old.present event) }
-        ensures within { OnOk result (limit_of seat self.old.present event ≡ None) }
-        ensures err { OnErr result (self.new ≡ self.old) }
-        ensures refused { IfErr result (λ fault. MayRefuse (limit_of seat self.old.present event) fault) }
-        ensures own { IsSpent self.old seat → IsErrOf result PartitionFault.AtLimit }
-    {
-        self.legal();
-        if self.is_at_limit(seat) {
-            return Err(PartitionFault::AtLimit);
-        }
-        let history = &mut self.history;
-        let outcome = record_step(self.alloc, &mut self.state, history, seat, event)?;
-        let bytes = last_bytes(&self.history);
-        self.bytes = self.bytes.saturating_add(bytes);
-        Ok(outcome)
+        let mut unasked = MemShelf::new(self.alloc);
+        self.apply(seat, &mut unasked, event)
     }
 
     /// Folds the window if it is full.
