@@ -20,6 +20,7 @@ use Rattle.mpd_text.specs.Songs.Song.{SongData}
 use Rattle.mpd_text.specs.declared.answers.answer.ErrorNumber.{ErrorNumber}
 use Rattle.mpd_text.specs.declared.answers.answer.ErrorNumber.TheVariants.{Argument, NoExist, PlaylistMax}
 use Rattle.mpd_text.specs.declared.answers.ranges.Range.{Range}
+use Rattle.play_order.specs.Draws.{generator_after_words, words_drawn}
 use Rattle.player_core.specs.Steps.{shuffle_words}
 use Rattle.player_state.specs.Effects.{part_after, player_edited}
 use Rattle.player_state.specs.declared.effect.CommandEffect.TheVariants.{Shuffles as ShufflesPlaces}
@@ -41,12 +42,12 @@ use Rattle.transitions.specs.Answers.{succeeds}
 use Rattle.transitions.specs.CommandResults.{bad_index, does, edits, no_such_song, refusal, shows}
 use Rattle.transitions.specs.Transitions.{CommandResult}
 use Rattle.transitions.specs.declared.asked.Asked.{Asked}
-use Rattle.queue_laws.specs.Edits.{AddIdTellsTheId, EditsKeepTheOthers, IsAskedFor, Leaves, are_named, names_or_all, takes_out}
+use Rattle.queue_laws.specs.Edits.{AddIdTellsTheId, EditsKeepTheOthers, IsAskedFor, Leaves, ShufflesTakeNumbers, are_named, count_named, names_or_all, takes_out}
 use Rattle.queue_laws.specs.Places.{names}
-use Rattle.queue_laws.specs.Queues.{Adds, DeletesId, HasAt, Moves, MovesId, Prioritizes, PrioritizesIds, Swaps}
+use Rattle.queue_laws.specs.Queues.{Adds, DeletesId, HasAt, Moves, MovesId, Prioritizes, PrioritizesIds, Shuffles, Swaps}
 use Rattle.queue_laws.proofs.Lists.{slice_get-at}
 use Rattle.queue_laws.proofs.Named.{has-at, ids-named, ids-there, is-song, named-ids, no-song, put-where, ranges-named}
-use Rattle.queue_laws.proofs.Queues.{IsRange, adds, all-places, deletes, deletes-id, moves, moves-id, prioritizes, prioritizes-ids, queue_of-edited, range-order, shuffles, swaps, within-names}
+use Rattle.queue_laws.proofs.Queues.{IsRange, named-count, adds, all-places, deletes, deletes-id, moves, moves-id, prioritizes, prioritizes-ids, queue_of-edited, range-order, shuffles, swaps, within-names}
 
 -- what is to be shown of a result: it leaves such a queue unless it is refused, and else all as it was; no more
 -- than the queue and the player changes, and unless entries are taken out of the player the round alone
@@ -72,6 +73,11 @@ module _ (rate : ℕ) (part : Part) (asked : Asked) (takes : Bool) where
   shuffled-good : (L : List Entry → Type 0) (r : Places ℕ) → L (shuffled (queue_of part.queue) r.start r.end (shuffle_words part.player r.start r.end)) → Good rate part takes L (does asked (ShufflesPlaces r.start r.end))
   shuffled-good L r after =
       (λ e. subst L (sym (queue_of-edited part.queue (shuffled (queue_of part.queue) r.start r.end (shuffle_words part.player r.start r.end)))) after, λ (e : false ≡ true). cc, refl, λ e. refl)
+
+-- the places of a range that may be left out
+chosen : (part : Part) (range : Option Range) (r : Places ℕ) → commands.range_or_all range (count part) ≡ Some r → IsRange (names_or_all range) (count part) r
+chosen part None r h = let whole : places 0 (count part) ≡ r = cc in subst (IsRange (λ _. true) (count part)) whole (all-places (count part))
+chosen part (Some one) r h = within-names one (count part) r h
 
 module _ (asked : Asked) (part : Part) (library : Library) (is : IsQueue part.queue) where
   abbrev es : List Entry
@@ -206,12 +212,11 @@ module _ (asked : Asked) (part : Part) (library : Library) (is : IsQueue part.qu
   shuffle-good : (range : Option Range) (o : Option (Places ℕ)) → commands.range_or_all range (count part) ≡ o → G (L (queue.Shuffle range)) (commands.shuffle_places asked o)
   shuffle-good range None h = bad false (L (queue.Shuffle range))
   shuffle-good range (Some r) h =
+      let counted = named-count (names_or_all range) es r (chosen part range r h) in
       shuffled-good library.rate part asked false (L (queue.Shuffle range)) r
-      (shuffles (names_or_all range) es r (shuffle_words part.player r.start r.end) (chosen range h))
-    where
-      chosen : (range : Option Range) → commands.range_or_all range (count part) ≡ Some r → IsRange (names_or_all range) (count part) r
-      chosen None h = let whole : places 0 (count part) ≡ r = cc in subst (IsRange (λ _. true) (count part)) whole (all-places (count part))
-      chosen (Some one) h = within-names one (count part) r h
+      (subst (λ (numbers : List ℕ). Shuffles numbers (names_or_all range) es (shuffled es r.start r.end (shuffle_words part.player r.start r.end)))
+      (ap (λ (n : ℕ). words_drawn part.player.round.generator (n - 1)) (sym counted))
+      (shuffles (names_or_all range) es r (shuffle_words part.player r.start r.end) (chosen part range r h)))
 
   -- entries get a priority
   prio-good : (priority : ℕ) (ranges : List Range) (o : Option (List (Places ℕ))) → all_within (count part) ranges ≡ o
@@ -315,3 +320,21 @@ module _ (asked : Asked) (part : Part) (library : Library) (place : Option Place
 pub add_id_tells_the_id : AddIdTellsTheId
 unfolding result_of
 add_id_tells_the_id asked part library uri place = tells-song asked part library place (song_of library.songs uri.0)
+
+-- the numbers that a shuffle takes
+module _ (asked : Asked) (part : Part) (library : Library) (range : Option Range) where
+  abbrev Takes : CommandResult → Type 0
+  Takes result =
+      result.answer.refused ≡ false
+      → (part_after library.rate part (ByCommand result.effect)).player.round
+      ≡ record part.player.round { generator = generator_after_words part.player.round.generator (count_named range (queue_of part.queue) - 1) }
+
+  takes-numbers : (o : Option (Places ℕ)) → commands.range_or_all range (count part) ≡ o → Takes (commands.shuffle_places asked o)
+  takes-numbers None h = λ (e : true ≡ false). cc
+  takes-numbers (Some r) h = λ e.
+      ap (λ (n : ℕ). record part.player.round { generator = generator_after_words part.player.round.generator (n - 1) })
+      (sym (named-count (names_or_all range) (queue_of part.queue) r (chosen part range r h)))
+
+pub shuffles_take_numbers : ShufflesTakeNumbers
+unfolding result_of
+shuffles_take_numbers asked part library range = takes-numbers asked part library range (commands.range_or_all range (count part)) refl

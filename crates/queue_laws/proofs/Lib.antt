@@ -1,6 +1,7 @@
 pub mod Lists
 pub mod Ids
 pub mod Turns
+pub mod Picks
 pub mod Queues
 pub mod Named
 pub mod Edits

@@ -21,10 +21,11 @@ use Rattle.song_queue.proofs.Edits.{edited_cases, entries_of-restamped, get_or-e
 use Rattle.song_queue.proofs.Moves.{IsPermutation-moved_to}
 use Rattle.song_queue.proofs.Shuffles.{shuffled-keeps}
 use Rattle.song_queue.proofs.Priorities.{given, length-named, named}
-use Rattle.queue_laws.specs.Places.{at_places, is_between, names}
+use Rattle.queue_laws.specs.Places.{at_places, is_between, names, picked_in_turn}
 use Rattle.queue_laws.specs.Queues.{Adds, Deletes, DeletesId, HasAt, Moves, MovesId, Prioritizes, PrioritizesIds, Shuffles, Swaps, but_for_priority, is_other}
 use Rattle.queue_laws.proofs.Lists.{between-are, others-are, picked-same, put-around, put-there, one-at, slice_get-at, split-at, contains-at}
 use Rattle.queue_laws.proofs.Ids.{filter-all, filter-none, taken-out, without-one}
+use Rattle.queue_laws.proofs.Picks.{shuffled-picks}
 use Rattle.queue_laws.proofs.Turns.{swap-first, swap-second, swap-other, swap-part}
 
 -- the queue of an edited state
@@ -92,6 +93,10 @@ module _ (which : ℕ → Bool) (es : List Entry) (r : Places ℕ) (is : IsRange
   named-are : at_places which es ≡ slice_range es r.start r.end
   unfolding IsRange
   named-are = picked-same which (is_between r.start r.end) 0 es (λ k l. is.2 (0 + k) (omega arith)) ∙ between-are es r.start r.end is.0 is.1
+
+  pub named-count : length (at_places which es) ≡ r.end - r.start
+  unfolding IsRange
+  named-count = ap length named-are ∙ length-between es r.start r.end is.1
 
   unnamed-are : at_places (λ place. not (which place)) es ≡ take r.start es ++ drop r.end es
   unfolding IsRange
@@ -209,14 +214,16 @@ is-outside start end place h = elim (cases_lt place start) [
   ]
 ]
 
-pub shuffles : (which : ℕ → Bool) (es : List Entry) (r : Places ℕ) (words : List ℕ) → IsRange which (length es) r → Shuffles which es (shuffled es r.start r.end words)
+pub shuffles : (which : ℕ → Bool) (es : List Entry) (r : Places ℕ) (words : List ℕ) → IsRange which (length es) r → Shuffles words which es (shuffled es r.start r.end words)
 unfolding IsRange
 shuffles which es r words is =
     let after : List Entry = shuffled es r.start r.end words in
     let long : length after ≡ length es = shuffled-length es r.start r.end words is.0 is.1 in
+    let named : at_places which after ≡ slice_range after r.start r.end = named-are which after r (is.0, omega (arith, is.1), λ k l. is.2 k (omega arith)) in
     record {
       permuted = subst (λ (xs : List Entry). IsPermutation xs (at_places which after)) (sym (named-are which es r is))
-          (subst (IsPermutation (slice_range es r.start r.end)) (sym (named-are which after r (is.0, omega (arith, is.1), λ k l. is.2 k (omega arith)))) (shuffled-part es r.start r.end words is.0 is.1));
+          (subst (IsPermutation (slice_range es r.start r.end)) (sym named) (shuffled-part es r.start r.end words is.0 is.1));
+      picked = named ∙ shuffled-picks es r.start r.end words is.0 is.1 ∙ ap (picked_in_turn words) (sym (named-are which es r is));
       others = λ place out. elim (cases_lt place (length es)) [
         | inl l ↦ shuffled-others es r.start r.end words is.0 is.1 place (is-outside r.start r.end place (sym (is.2 place l) ∙ out))
         | inr past ↦ slice_get_past after place (omega arith) ∙ sym (slice_get_past es place past)

@@ -1,5 +1,5 @@
 -- What each command of the queue leaves of it (MPD protocol reference, The Queue).
-use Rattle.std.specs.Prelude.{◌≡◌, ◌⊎◌, ℕ, ◌+◌, Bool, true, false, List, [], ◌∷◌, length, Contains, Option, Some, None, codes, decimal}
+use Rattle.std.specs.Prelude.{◌≡◌, ◌⊎◌, ℕ, ◌+◌, ◌-◌, Bool, true, false, List, [], ◌∷◌, length, Contains, Option, Some, None, codes, decimal}
 use Rattle.std.specs.List.{list_any}
 use Rattle.command_arguments.specs.declared.forms.Place.{Place}
 use Rattle.command_arguments.specs.declared.forms.Place.TheVariants.{At, After, Before}
@@ -9,6 +9,7 @@ use Rattle.mpd_command.specs.declared.queue.QueueCommand.TheVariants as queue
 use Rattle.mpd_text.specs.Answers.Answer.{pair_line}
 use Rattle.mpd_text.specs.Songs.Song.{SongData}
 use Rattle.mpd_text.specs.declared.answers.ranges.Range.{Range}
+use Rattle.play_order.specs.Draws.{generator_after_words, words_drawn}
 use Rattle.player_state.specs.Effects.{part_after}
 use Rattle.player_state.specs.declared.effect.Effect.TheVariants.{ByCommand}
 use Rattle.player_state.specs.declared.state.Library.{Library}
@@ -19,7 +20,7 @@ use Rattle.song_queue.specs.State.{IsQueue, queue_of}
 use Rattle.song_search.specs.Folders.{under}
 use Rattle.transitions.specs.Answers.{succeeds}
 use Rattle.transitions.specs.declared.asked.Asked.{Asked}
-use Rattle.queue_laws.specs.Places.{names}
+use Rattle.queue_laws.specs.Places.{at_places, names}
 use Rattle.queue_laws.specs.Queues.{Adds, Deletes, DeletesId, HasAt, Moves, MovesId, Prioritizes, PrioritizesIds, Shuffles, Swaps, SwapsIds}
 
 -- a song of the library has this URI
@@ -52,7 +53,12 @@ abbrev pub names_or_all : Option Range → ℕ → Bool
 names_or_all None place = true
 names_or_all (Some range) place = names range place
 
--- The queue before a command and after it.
+-- how many entries a range names, where none names all
+abbrev pub count_named : Option Range → List Entry → ℕ
+count_named range queue = length (at_places (names_or_all range) queue)
+
+-- The queue before a command and after it. A shuffle is by the next numbers of the generator, one for each entry
+-- but the first of those that are named.
 abbrev pub Leaves : Part → Library → QueueCommand → List Entry → List Entry → Type 0
 Leaves part library (queue.Add uri place) before after =
     (songs : List SongData) × (at : ℕ) × AreNamed library uri.0 songs × IsAskedFor part place at
@@ -67,7 +73,8 @@ Leaves part library (queue.Move range to) before after = Moves (names range) to 
 Leaves part library (queue.MoveId id to) before after = MovesId id to before after
 Leaves part library (queue.Prio priority ranges) before after = Prioritizes (are_named ranges) priority before after
 Leaves part library (queue.PrioId priority ids) before after = PrioritizesIds ids priority before after
-Leaves part library (queue.Shuffle range) before after = Shuffles (names_or_all range) before after
+Leaves part library (queue.Shuffle range) before after =
+    Shuffles (words_drawn part.player.round.generator (count_named range before - 1)) (names_or_all range) before after
 Leaves part library (queue.Swap first second) before after = Swaps first second before after
 Leaves part library (queue.SwapId first second) before after = SwapsIds first second before after
 Leaves part library _ before after = after ≡ before
@@ -120,3 +127,13 @@ AddIdTellsTheId =
     × HasAt (queue_of (part_left asked part library (queue.AddId uri place)).queue) at id
     × ((result_of asked part library (queue.AddId uri place)).answer
     ≡ succeeds asked.stand (pair_line (codes "Id") (decimal id)))
+
+-- a shuffle takes so many numbers, and the generator goes on behind them; nothing else of the round changes
+abbrev pub ShufflesTakeNumbers : Type 0
+ShufflesTakeNumbers =
+    (asked : Asked) (part : Part) (library : Library) (range : Option Range)
+    → is_refused asked part library (queue.Shuffle range) ≡ false
+    → (part_left asked part library (queue.Shuffle range)).player.round
+    ≡ record part.player.round {
+      generator = generator_after_words part.player.round.generator (count_named range (queue_of part.queue) - 1);
+    }

@@ -1,6 +1,6 @@
 -- The elements of a list at some of its places, and the places that a range names (MPD protocol reference,
--- Requests: Ranges).
-use Rattle.std.specs.Prelude.{ℕ, Bool, ◌==◌, ◌&&◌, nat_le, nat_lt, List, map}
+-- Requests: Ranges); a list that is shuffled by numbers (how numbers shuffle is this profile's).
+use Rattle.std.specs.Prelude.{ℕ, ◌%◌, Bool, ◌==◌, ◌&&◌, nat_le, nat_lt, List, [], ◌∷◌, ◌++◌, length, map, slice_index_or, swap_remove}
 use Rattle.std.specs.List.{enumerate_from, filter}
 use Rattle.mpd_text.specs.declared.answers.ranges.Range.{Range}
 use Rattle.mpd_text.specs.declared.answers.ranges.Range.TheVariants.{Lone, Between, From}
@@ -19,3 +19,12 @@ abbrev pub names : Range → ℕ → Bool
 names (Lone lone) place = place == lone
 names (Between start end) place = is_between start end place
 names (From start) place = nat_le start place
+
+-- A list that is shuffled by numbers. The first number picks which element comes last, the next one which of
+-- those that are left comes before it, and so on; where one was picked, the last of those left takes its place.
+abbrev pub picked_in_turn : {X : Type 0} → List ℕ → List X → List X
+picked_in_turn [] xs = xs
+picked_in_turn (number ∷ numbers) [] = []
+picked_in_turn (number ∷ numbers) (x ∷ xs) =
+    let place = number % length (x ∷ xs) in
+    picked_in_turn numbers (swap_remove (x ∷ xs) place x) ++ slice_index_or (x ∷ xs) place x ∷ []

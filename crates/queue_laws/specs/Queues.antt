@@ -4,7 +4,7 @@ use Rattle.std.specs.Prelude.{◌≡◌, ◌≢◌, ℕ, ◌+◌, ◌<◌, Bool,
 use Rattle.std.specs.List.{range_with_len}
 use Rattle.mpd_text.specs.Songs.Song.{SongData}
 use Rattle.queue_slots.specs.declared.entry.Entry.{Entry}
-use Rattle.queue_laws.specs.Places.{at_places, is_between}
+use Rattle.queue_laws.specs.Places.{at_places, is_between, picked_in_turn}
 
 -- the entry at a place has this id
 abbrev pub HasAt : List Entry → ℕ → ℕ → Type 0
@@ -50,9 +50,11 @@ abbrev pub SwapsIds : ℕ → ℕ → List Entry → List Entry → Type 0
 SwapsIds first second before after =
     (a b : ℕ) × HasAt before a first × HasAt before b second × Swaps a b before after
 
--- the entries at some places are there in some order, and every other place has what it had
-pub record Shuffles (which : ℕ → Bool) (before after : List Entry) : Type 0 where
+-- the entries at some places are there in the order in which numbers pick them, each of them once, and every
+-- other place has what it had
+pub record Shuffles (numbers : List ℕ) (which : ℕ → Bool) (before after : List Entry) : Type 0 where
   pub permuted : IsPermutation (at_places which before) (at_places which after)
+  pub picked : at_places which after ≡ picked_in_turn numbers (at_places which before)
   pub others : (place : ℕ) → which place ≡ false → slice_get after place ≡ slice_get before place
 
 -- an entry but for its priority

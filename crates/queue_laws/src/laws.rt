@@ -1,5 +1,5 @@
 //! Laws of commands that change something. A caller that calls one may use it; each does nothing.
-ghost use Rattle.queue_laws.specs.Edits.{AddIdTellsTheId, EditsKeepTheOthers};
+ghost use Rattle.queue_laws.specs.Edits.{AddIdTellsTheId, EditsKeepTheOthers, ShufflesTakeNumbers};
 ghost use Rattle.queue_laws.specs.Options.{WhatIsSetIsShown};
 ghost use Rattle.queue_laws.specs.Outputs.{OutputsAreShown};
 
@@ -8,6 +8,7 @@ ghost use Rattle.queue_laws.specs.Outputs.{OutputsAreShown};
 pub fn edits_keep_the_others()
     ensures edits { EditsKeepTheOthers }
     ensures told { AddIdTellsTheId }
+    ensures drawn { ShufflesTakeNumbers }
 {}
 
 /// What is set is what `status` and `getvol` show, and all else is shown as before, but for the next song where
