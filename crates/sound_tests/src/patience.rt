@@ -1,0 +1,94 @@
+//! An output with patience: what is seen of a path that takes nothing, and that the thread which writes to the
+//! path goes on whenever bytes come.
+use patient_output::{Passage, Reopening, carry, patient_output};
+use std::alloc::{AllocError, Global};
+use std::io::Write;
+use std::sync::{Arc, Wait};
+use std::test::Fail;
+use std::thread::Threads;
+use std::time::{Clock, Duration};
+use std::{io, thread};
+use wanted::{Told, wants};
+
+/// A path that takes all that it is given.
+#[derive(Drop)]
+struct Open;
+
+impl Write for Open {
+    fn write(&mut self, buf: &[u8]) -> io::Result<usize> {
+        Ok(buf.len())
+    }
+
+    fn flush(&mut self) -> io::Result<()> {
+        Ok(())
+    }
+}
+
+impl Reopening for Open {
+    fn let_go(&mut self) {}
+}
+
+fn passage_of(alloc: Global) -> Result<Arc<Passage, Global>, AllocError> {
+    match Arc::new(alloc, Passage::new()) {
+        Ok(passage) => Ok(passage),
+        Err(_) => Err(AllocError),
+    }
+}
+
+/// Waits ten seconds at most until the path has taken so many bytes. Whether it has.
+fn has_taken<R: Wait + Clock>(rt: &R, passage: &Passage, count: u64) -> bool {
+    for _ in 0..10_000 {
+        if passage.sight(rt).taken == count {
+            return true;
+        }
+        thread::sleep(rt, Duration::from_millis(1));
+    }
+    false
+}
+
+/// Adds how many bytes wait, and whether these are too many for an output to go on.
+fn add_sight(rt: &impl Wait, passage: &Passage, told: &mut Told) {
+    let sight = passage.sight(rt);
+    let (waiting, held_up) = (sight.waiting, sight.is_held_up());
+    told.add(format_args!("{waiting} wait, held up: {held_up}\n"));
+}
+
+fn told<R: Threads + Wait + Clock + Copy + Drop + Send + 'static>(
+    rt: R,
+    alloc: Global,
+) -> Result<String, AllocError> {
+    let passage = passage_of(alloc)?;
+    let (mut writer, load) = patient_output(rt, alloc, &passage)?;
+    let mut told = Told::new(alloc);
+    // Nobody writes to the path yet.
+    let _written = writer.write(&[0; 8_192]);
+    add_sight(&rt, &passage, &mut told);
+    let _written = writer.write(&[0; 4]);
+    add_sight(&rt, &passage, &mut told);
+    let Ok(carrier) = thread::spawn(&rt, move || carry(&rt, load, Open)) else {
+        return Err(AllocError);
+    };
+    let at_once = has_taken(&rt, &passage, 8_196);
+    told.add(format_args!("taken: {at_once}\n"));
+    // The thread waits for bytes by now.
+    thread::sleep(&rt, Duration::from_millis(200));
+    let _written = writer.write(&[0; 100]);
+    let later = has_taken(&rt, &passage, 8_296);
+    told.add(format_args!("taken later: {later}\n"));
+    let left = passage.finish(&rt, Duration::from_millis(10_000));
+    told.add(format_args!("left: {left}\n"));
+    let _carried = carrier.join(&rt);
+    told.into_text()
+}
+
+const TELLS: &str = "8192 wait, held up: false
+8196 wait, held up: true
+taken: true
+taken later: true
+left: 0
+";
+
+#[test]
+fn paths_are_carried_to(rt: HostRuntime) -> Result<(), Fail> {
+    wants(told(rt, rt.alloc()), TELLS)
+}
