@@ -4,13 +4,12 @@ use Rattle.mpd_text.specs.Answers.Answer.{ack_line}
 use Rattle.partition.specs.Lists.{fault_text, next_after, stop_text, text_with}
 use Rattle.mpd_answers.specs.declared.owed.Owed.{Owed}
 use Rattle.mpd_answers.specs.declared.owed.Owed.TheVariants as owed
-use Rattle.mpd_answers.specs.Answers.{Answers, caller, list_end}
+use Rattle.mpd_answers.specs.Answers.{Answers, Caller, list_end}
 use Rattle.mpd_answers.specs.Output.{IsOwed}
 use Rattle.mpd_answers.specs.Requests.{Asking}
 use Rattle.mpd_answers.specs.declared.asker.Asker.{Asker}
 use Rattle.transitions.specs.declared.reply.Next.{Next}
 use Rattle.transitions.specs.declared.reply.Next.TheVariants.{Goes, Waits}
-use Rattle.counted_player.specs.Seats.{SeatCount}
 use Rattle.held_player.specs.Lists.{HandedList}
 use Rattle.held_player.specs.Views.{Handed}
 use Rattle.shelf.specs.Calls.{Call}
@@ -60,6 +59,6 @@ Grows old new = (more : List ℕ) × (new ≡ old ++ more)
 
 -- what is owed for what was asked, and what becomes of the client: an answer that the player of one thread
 -- may give to it
-abbrev pub IsOwedFor : {S : Type 0} → (S → Standing) → (S → S → Call → Type 0) → Asker → SeatCount → S → Asking → Owed → SeatCount → S → Type 0
-IsOwedFor standing failed asker seat shelf one owed seat' shelf' =
-    IsOwed (Answers standing failed asker) (caller seat shelf) one (owed_bytes owed) (next_by owed) (caller seat' shelf')
+abbrev pub IsOwedFor : {S : Type 0} → (S → Standing) → (S → S → Call → Type 0) → Asker → Caller S → Asking → Owed → Caller S → Type 0
+IsOwedFor standing failed asker before one owed after =
+    IsOwed (Answers standing failed asker) before one (owed_bytes owed) (next_by owed) after

@@ -1,7 +1,7 @@
 //! What a session asks the house.
 ghost use Rattle.std.specs.Prelude.{◌≡◌, ◌++◌, ◌∷◌, [], IfOk, OnErr, OnOk};
 ghost use Rattle.std.specs.Option.{option_copied};
-ghost use Rattle.mpd_answers.specs.Answers.{IsRead, read_line as read_line_of, read_list_line};
+ghost use Rattle.mpd_answers.specs.Answers.{IsRead, caller, read_line as read_line_of, read_list_line};
 ghost use Rattle.mpd_answers.specs.Owing.{IsOwedFor};
 ghost use Rattle.mpd_answers.specs.Requests.{Single, Whole, asking_of};
 
@@ -28,7 +28,8 @@ pub fn ask<L: Ledgers, S: Shelf, R: Wait>(
     asker: Asker,
     asked: &ClientRequest,
 ) -> Owed
-    ensures { IsOwedFor S.standing S.failed asker seat.old shelf.old (asking_of asked.now) result seat.new shelf.new }
+    ensures { IsOwedFor S.standing S.failed asker (caller seat.old shelf.old)
+        (asking_of asked.now) result (caller seat.new shelf.new) }
 {
     match asked {
         ClientRequest::Single(line) => ask_line(
@@ -55,7 +56,8 @@ fn ask_line<L: Ledgers, S: Shelf, R: Wait>(
     asker: Asker,
     line: Option<&str>,
 ) -> Owed
-    ensures { IsOwedFor S.standing S.failed asker seat.old shelf.old (Single (option_copied line.entry)) result seat.new shelf.new }
+    ensures { IsOwedFor S.standing S.failed asker (caller seat.old shelf.old)
+        (Single (option_copied line.entry)) result (caller seat.new shelf.new) }
 {
     let Ok(request) = read_line(alloc, asker.commands, line) else {
         return Owed::LineFault("", PartitionFault::NoMemory);
@@ -77,7 +79,8 @@ fn ask_list<L: Ledgers, S: Shelf, R: Wait>(
     asker: Asker,
     list: &CommandList,
 ) -> Owed
-    ensures { IsOwedFor S.standing S.failed asker seat.old shelf.old (Whole list.now) result seat.new shelf.new }
+    ensures { IsOwedFor S.standing S.failed asker (caller seat.old shelf.old)
+        (Whole list.now) result (caller seat.new shelf.new) }
 {
     let lines = list.lines.items();
     if lines.is_empty() {

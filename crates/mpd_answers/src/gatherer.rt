@@ -64,8 +64,10 @@ impl Gatherer {
         alloc: Global,
         lines: &mut VecDeque<Line>,
     ) -> Result<Option<ClientRequest>, AllocError>
-        ensures ok { IfOk result (TakesFirst self.old (views lines.old.items) self.new (views lines.new.items)) }
-        ensures shorter { OnOk result (length lines.new.items + 1 ≡ length lines.old.items ⊎ (lines.old.items ≡ [])) }
+        ensures ok { IfOk result
+            (TakesFirst self.old (views lines.old.items) self.new (views lines.new.items)) }
+        ensures shorter { OnOk result
+            (length lines.new.items + 1 ≡ length lines.old.items ⊎ (lines.old.items ≡ [])) }
         ensures open { IfOk result (λ asked. IfSome asked (λ _. is_over_in self.new ≡ false)) }
         ensures err { OnErr result ((self.new ≡ self.old) × (lines.new.items ≡ lines.old.items)) }
     {

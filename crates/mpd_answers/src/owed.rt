@@ -4,7 +4,8 @@ ghost use Rattle.mpd_text.specs.Answers.Answer.{ack_line};
 ghost use Rattle.partition.specs.Lists.{fault_text};
 ghost use Rattle.mpd_answers.specs.Answers.{list_end};
 ghost use Rattle.mpd_answers.specs.Notices.{notice_bytes, notice_text};
-ghost use Rattle.mpd_answers.specs.Owing.{Grows, is_nothing as is_nothing_lem, line_bytes, list_bytes, next_by, owed_bytes, waits_after};
+ghost use Rattle.mpd_answers.specs.Owing.{Grows, line_bytes, list_bytes, next_by, owed_bytes, waits_after};
+ghost use Rattle.mpd_answers.specs.Owing.{is_nothing as is_nothing_lem};
 
 use held_player::{Answered, AnsweredList};
 use idle_clients::Notice;
@@ -189,7 +190,8 @@ fn push_fault(
     fault: PartitionFault,
     bytes: &mut Vec<u8>,
 ) -> Result<(), AllocError>
-    ensures ok { OnOk result (bytes.new.items ≡ bytes.old.items ++ ack_line 52 0 command.now (fault_text fault)) }
+    ensures ok { OnOk result
+        (bytes.new.items ≡ bytes.old.items ++ ack_line 52 0 command.now (fault_text fault)) }
     ensures err { OnErr result (bytes.new.items ≡ bytes.old.items) }
 {
     let mut answer = Answer::new(alloc);

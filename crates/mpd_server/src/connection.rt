@@ -29,7 +29,8 @@ impl Connection {
         Connection { stream, session }
     }
 
-    /// Gives the session its turn, and says what it came to. Where nothing came by the socket, it is not read.
+    /// Gives the session its turn, and says what it came to. Where nothing came by the socket, it is not
+    /// read.
     pub(crate) fn turn<L: Ledgers, S: Shelf, R: Wait>(
         &mut self,
         rt: &R,
@@ -40,12 +41,12 @@ impl Connection {
     ) -> Turn {
         let mut reader = Counting::new(Inbox::new(&self.stream, may_read));
         let mut writer = Counting::new(&self.stream);
-        let goes = self
+        let left = self
             .session
             .turn(rt, &mut reader, &mut writer, house, seat, shelf);
         match self.session.end() {
             None => Turn::Open(OpenTurn {
-                lacks_memory: matches!(goes, Err(SessionFault::NoMemory)),
+                lacks_memory: matches!(left, Err(SessionFault::NoMemory)),
                 is_drained: reader.inner().is_drained(),
                 may_wait: self.session.may_wait(),
             }),

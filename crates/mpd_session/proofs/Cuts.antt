@@ -8,7 +8,7 @@ use Rattle.mpd_text.specs.Lines.Split.{line_of}
 use Rattle.transitions.specs.declared.reply.Next.{Next}
 use Rattle.mpd_session.specs.declared.end.End.{End}
 use Rattle.mpd_answers.specs.Requests.{Asking, ListState, Gathered}
-use Rattle.mpd_session.specs.Sessions.{Pending, Held, Coming, coming, coming_from, fed, read_on, then_read, ahead, Continues, StepsTo, Turns}
+use Rattle.mpd_session.specs.Sessions.{Pending, Coming, coming, coming_from, fed, read_on, then_read, ahead, Continues, Side, StepsTo, Turns}
 use Rattle.mpd_answers.proofs.Gathers.{gather_append}
 use Rattle.mpd_session.proofs.Sending.{grows_both}
 use Rattle.mpd_session.proofs.Runs.{ahead_twice, steps_later}
@@ -65,19 +65,25 @@ consumes_both (Some x) (Some y) None bs cs p q = absurd q
 consumes_both (Some x) (Some y) (Some z) bs cs p q = p ∙ ap (λ (l : List ℕ). bs ++ l) q ∙ sym (append_assoc bs cs z)
 
 module _ {P : Type 0} (A : P → Asking → List ℕ → Next → P → Type 0) (cuts : Law) where
-  pub turns_both : (old mid new : Held) (a b c : P) (u u' u'' w w' w'' : Option (List ℕ)) → mid.ended ≡ None
-      → Turns A old a u w mid b u' w' → Turns A mid b u' w' new c u'' w'' → Turns A old a u w new c u'' w''
-  turns_both old mid new a b c u u' u'' w w' w'' e (read, consumes, (out, s, g)) (read', consumes', (out', t, h)) =
-      let before : Continues A (coming (read_on old.pending read)) a (coming mid.pending) b out = subst (λ (x : Option End). StepsTo A x (coming (read_on old.pending read)) a mid b out) e s in
+  pub turns_both : (old mid new : Side P) → mid.held.ended ≡ None → Turns A old mid → Turns A mid new → Turns A old new
+  turns_both old mid new e (read, consumes, (out, s, g)) (read', consumes', (out', t, h)) =
+      let whole_before : Coming = coming (read_on old.held.pending read) in
+      let whole_after : Coming = coming (read_on old.held.pending (read ++ read')) in
+      let more : Coming = coming (read_on mid.held.pending read') in
+      let before : Continues A whole_before old.has (coming mid.held.pending) mid.has out =
+      subst (λ (x : Option End). StepsTo A x whole_before old.has mid.held mid.has out) e s in
       let rs : List Asking = before.0 in
-      let whole : coming (read_on old.pending (read ++ read')) ≡ ahead rs (coming (read_on mid.pending read')) =
-      read_twice cuts old.pending read read' ∙ ap (λ (x : Coming). then_read x read') before.1 ∙ ahead_read (coming mid.pending) rs read' ∙ ap (λ (x : Coming). ahead rs x) (sym (read_once cuts mid.pending read')) in
-      let both : Continues A (coming (read_on old.pending (read ++ read'))) a (coming (read_on mid.pending read')) b out = (rs, whole, before.2) in (
+      let whole : whole_after ≡ ahead rs more =
+      read_twice cuts old.held.pending read read'
+      ∙ ap (λ (x : Coming). then_read x read') before.1
+      ∙ ahead_read (coming mid.held.pending) rs read'
+      ∙ ap (λ (x : Coming). ahead rs x) (sym (read_once cuts mid.held.pending read')) in
+      let both : Continues A whole_after old.has more mid.has out = (rs, whole, before.2) in (
         read ++ read',
-        consumes_both u u' u'' read read' consumes consumes',
+        consumes_both old.unread mid.unread new.unread read read' consumes consumes',
         (
           out ++ out',
-          steps_later A new.ended (coming (read_on old.pending (read ++ read'))) (coming (read_on mid.pending read')) a b c new out out' both t,
-          grows_both w w' w'' old.unsent mid.unsent new.unsent out out' g h,
+          steps_later A new.held.ended whole_after more old.has mid.has new.has new.held out out' both t,
+          grows_both old.written mid.written new.written old.held.unsent mid.held.unsent new.held.unsent out out' g h,
         ),
       )

@@ -14,7 +14,7 @@ use Rattle.mpd_answers.specs.declared.gatherer.ClientRequest.{ClientRequest}
 use Rattle.mpd_answers.specs.Notices.{AreNotices}
 use Rattle.mpd_answers.specs.Output.{IsOutput, IsOwed}
 use Rattle.mpd_answers.specs.Requests.{Asking, ListState, Within, Over, Takes, asking_of, askings_of, is_over}
-use Rattle.mpd_session.specs.Sessions.{Pending, Coming, coming, ahead, Held, Continues, StopsIn, EndsAt, EndsBy, StepsTo, Steps, Grows, Says, Runs, Sends, SentAs, read_on, with_read, ReadsOn, ReadsTo, ReadsAs, Turns, TellsOf, end_by, end_in_list}
+use Rattle.mpd_session.specs.Sessions.{Pending, Coming, coming, ahead, Held, Continues, StopsIn, EndsAt, EndsBy, StepsTo, Steps, Grows, Says, Runs, Sends, SentAs, read_on, with_read, ReadsOn, ReadsTo, ReadsAs, Side, Turns, TellsOf, end_by, end_in_list}
 use Rattle.mpd_answers.proofs.Outputs.{no_notices, notices_join, join, join_last}
 use Rattle.mpd_session.proofs.Pends.{no_more, pend, taken, none_waits}
 use Rattle.mpd_session.proofs.Sending.{only_unsent, grows_both, told_eq}
@@ -78,6 +78,11 @@ no_bytes p = ap (λ (x : List ℕ). coming (pend p.list p.lines p.next x)) (appe
 pub reads_none : (h : Held) (u : Option (List ℕ)) → h.ended ≡ None → ReadsOn h u h u
 reads_none h u e = ([], none_read u, subst (λ (x : Option End). ReadsTo x (coming (read_on h.pending [])) h) (sym e) (no_bytes h.pending), refl)
 
+-- nothing is read
+pub reads_still : (old new : Held) (u : Option (List ℕ)) → old.ended ≡ None → new.pending ≡ old.pending → new.unsent ≡ old.unsent → new.ended ≡ old.ended → ReadsOn old u new u
+reads_still old new u goes pending unsent ended =
+    subst (λ (h : Held). ReadsOn old u h u) (sym (same_held new old pending unsent ended)) (reads_none old u goes)
+
 read_to : (e : Option End) (whole : Coming) (new : Held) → whole ≡ coming new.pending → (new.pending.piece ≡ [] → whole.asked ≡ []) → (e ≡ None) ⊎ ((new.pending.piece ≡ []) × ((e ≡ Some NoPeer) ⊎ (e ≡ Some ReadFault))) → ReadsTo e whole new
 read_to e whole new is none (inl f) = subst (λ (x : Option End). ReadsTo x whole new) (sym f) is
 read_to e whole new is none (inr (piece, inl f)) = subst (λ (x : Option End). ReadsTo x whole new) (sym f) (none piece)
@@ -107,6 +112,10 @@ split_to (Some WriteFault) whole mid new is s = s
 pub reads_split : (old mid new : Held) (u u' : Option (List ℕ)) → ReadsOn old u mid u' → coming new.pending ≡ coming mid.pending → new.unsent ≡ mid.unsent → new.ended ≡ mid.ended → ReadsOn old u new u'
 reads_split old mid new u u' (read, consumes, reads, said) is unsent ended =
     (read, consumes, subst (λ (x : Option End). ReadsTo x (coming (read_on old.pending read)) new) (sym ended) (split_to mid.ended (coming (read_on old.pending read)) mid new is reads), unsent ∙ said)
+
+-- what stands before a turn, or after it
+abbrev pub as_side : {P : Type 0} → Held → P → Option (List ℕ) → Option (List ℕ) → Side P
+as_side held has unread written = record { held = held; has = has; unread = unread; written = written }
 
 module _ {P : Type 0} (A : P → Asking → List ℕ → Next → P → Type 0) where
   pub stays : (c : Coming) (p : P) (notices : List ℕ) → AreNotices notices → Continues A c p c p notices
@@ -311,7 +320,7 @@ module _ {P : Type 0} (A : P → Asking → List ℕ → Next → P → Type 0) 
   reads_steps (Some Unsent) whole new p none = absurd none
   reads_steps (Some WriteFault) whole new p none = absurd none
 
-  pub turns_read : (old mid new : Held) (a : P) (u u' w : Option (List ℕ)) → old.ended ≡ None → mid.pending ≡ old.pending → TellsOf old.unsent mid.unsent → ReadsOn mid u new u' → Turns A old a u w new a u' w
+  pub turns_read : (old mid new : Held) (a : P) (u u' w : Option (List ℕ)) → old.ended ≡ None → mid.pending ≡ old.pending → TellsOf old.unsent mid.unsent → ReadsOn mid u new u' → Turns A (as_side old a u w) (as_side new a u' w)
   turns_read old mid new a u u' w goes same (notices, are, told_is) (read, consumes, reads, said) =
       let whole : coming (read_on mid.pending read) ≡ coming (read_on old.pending read) = ap (λ (p : Pending). coming (read_on p read)) same in
       let after : StepsTo A new.ended (coming (read_on old.pending read)) a new a [] = subst (λ (c : Coming). StepsTo A new.ended c a new a []) whole (reads_steps new.ended (coming (read_on mid.pending read)) new a reads) in
@@ -326,21 +335,21 @@ module _ {P : Type 0} (A : P → Asking → List ℕ → Next → P → Type 0) 
         ),
       )
 
-  pub turns_told : (old new : Held) (a : P) (u w : Option (List ℕ)) → old.ended ≡ None → new.pending ≡ old.pending → new.ended ≡ None → TellsOf old.unsent new.unsent → Turns A old a u w new a u w
+  pub turns_told : (old new : Held) (a : P) (u w : Option (List ℕ)) → old.ended ≡ None → new.pending ≡ old.pending → new.ended ≡ None → TellsOf old.unsent new.unsent → Turns A (as_side old a u w) (as_side new a u w)
   turns_told old new a u w goes same still told_is = turns_read old new new a u u w goes same told_is (reads_none new u still)
 
-  pub turns_none : (old new : Held) (a : P) (u w : Option (List ℕ)) → old.ended ≡ None → new ≡ old → Turns A old a u w new a u w
+  pub turns_none : (old new : Held) (a : P) (u w : Option (List ℕ)) → old.ended ≡ None → new ≡ old → Turns A (as_side old a u w) (as_side new a u w)
   turns_none old new a u w goes e =
       turns_told old new a u w goes (ap (λ (h : Held). h.pending) e) (ap (λ (h : Held). h.ended) e ∙ goes) ([], no_notices, ap (λ (h : Held). h.unsent) e ∙ sym (append-nil old.unsent))
 
-  pub turns_run : (old mid new : Held) (a b c : P) (u u' w w' w'' : Option (List ℕ)) → mid.ended ≡ None → Turns A old a u w mid b u' w' → Runs A mid b w' new c w'' → Turns A old a u w new c u' w''
+  pub turns_run : (old mid new : Held) (a b c : P) (u u' w w' w'' : Option (List ℕ)) → mid.ended ≡ None → Turns A (as_side old a u w) (as_side mid b u' w') → Runs A mid b w' new c w'' → Turns A (as_side old a u w) (as_side new c u' w'')
   turns_run old mid new a b c u u' w w' w'' e (read, consumes, r) s = (read, consumes, runs_both (with_read old read) mid new a b c w w' w'' e r s)
 
-  pub turns_sent : (old mid new : Held) (a b : P) (u u' w w' w'' : Option (List ℕ)) → Turns A old a u w mid b u' w' → Sends mid w' new w'' → Turns A old a u w new b u' w''
+  pub turns_sent : (old mid new : Held) (a b : P) (u u' w w' w'' : Option (List ℕ)) → Turns A (as_side old a u w) (as_side mid b u' w') → Sends mid w' new w'' → Turns A (as_side old a u w) (as_side new b u' w'')
   turns_sent old mid new a b u u' w w' w'' (read, consumes, r) s = (read, consumes, runs_sent (with_read old read) mid new a b w w' w'' r s)
 
 -- The same where what the caller is asked for is named by an equal value.
 module _ {P Q : Type 0} (F : Q → P → Asking → List ℕ → Next → P → Type 0) (q q' : Q) (e : q' ≡ q) where
-  pub turns_run_as : (old mid new : Held) (a b c : P) (u u' w w' w'' : Option (List ℕ)) → mid.ended ≡ None → Turns (F q) old a u w mid b u' w' → Runs (F q') mid b w' new c w'' → Turns (F q) old a u w new c u' w''
+  pub turns_run_as : (old mid new : Held) (a b c : P) (u u' w w' w'' : Option (List ℕ)) → mid.ended ≡ None → Turns (F q) (as_side old a u w) (as_side mid b u' w') → Runs (F q') mid b w' new c w'' → Turns (F q) (as_side old a u w) (as_side new c u' w'')
   turns_run_as old mid new a b c u u' w w' w'' goes t r =
       turns_run (F q) old mid new a b c u u' w w' w'' goes t (subst (λ (x : Q). Runs (F x) mid b w' new c w'') e r)

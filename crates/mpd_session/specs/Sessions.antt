@@ -5,16 +5,16 @@ use Rattle.mpd_text.specs.Lines.Cut.{Split, split_from}
 use Rattle.mpd_text.specs.Lines.Split.{line_of, views}
 use Rattle.counted_devices.specs.declared.call_counts.CallCounts.{CallCounts}
 use Rattle.command_lists.specs.Lists.{LineData}
+use Rattle.counted_player.specs.Seats.{SeatCount}
+use Rattle.mpd_answers.specs.Answers.{Caller, caller}
 use Rattle.mpd_answers.specs.declared.asker.Asker.{Asker}
 use Rattle.transitions.specs.declared.reply.Next.{Next}
 use Rattle.transitions.specs.declared.reply.Next.TheVariants.{Goes, Waits, Closes, Kills}
 use Rattle.mpd_session.specs.declared.conversation.Conversation.{Conversation}
 use Rattle.mpd_session.specs.declared.end.End.{End}
 use Rattle.mpd_session.specs.declared.end.End.TheVariants.{Left, Killed, LongLine, LargeList, Unsent, NoPeer, ReadFault, WriteFault}
-use Rattle.mpd_session.specs.declared.end.Goes.{Goes as TurnAnswer}
-use Rattle.mpd_session.specs.declared.end.Goes.TheVariants.{On, Closed}
 use Rattle.mpd_session.specs.declared.end.SessionFault.{SessionFault}
-use Rattle.mpd_session.specs.declared.end.SessionFault.TheVariants as fault
+use Rattle.mpd_session.specs.declared.end.SessionFault.TheVariants.{NoMemory}
 use Rattle.mpd_session.specs.Devices.{WritesOut}
 use Rattle.mpd_answers.specs.Notices.{AreNotices}
 use Rattle.mpd_answers.specs.Output.{IsOutput, IsLastOutput}
@@ -115,6 +115,18 @@ Grows old unsent new unsent' output = (sent : List ℕ) × Appends old new sent 
 abbrev pub with_read : Held → List ℕ → Held
 with_read h bytes = record { pending = read_on h.pending bytes; unsent = h.unsent; ended = h.ended }
 
+-- What stands before a turn, or after it: what the session holds, what its caller has, which bytes are left to the
+-- reader, and which the writer has taken, as far as these two are known.
+pub record Side (P : Type 0) : Type 0 where
+  pub held : Held
+  pub has : P
+  pub unread : Option (List ℕ)
+  pub written : Option (List ℕ)
+
+-- the same, where the caller has a seat and a shelf
+abbrev pub side : {S : Type 0} → Held → SeatCount → S → Option (List ℕ) → Option (List ℕ) → Side (Caller S)
+side held seat shelf unread written = record { held = held; has = caller seat shelf; unread = unread; written = written }
+
 -- `P` is what the caller has, and changes with each answer.
 module _ {P : Type 0} (Answers : P → Asking → List ℕ → Next → P → Type 0) where
   -- The first of what was asked is answered, and the rest is left.
@@ -166,14 +178,14 @@ module _ {P : Type 0} (Answers : P → Asking → List ℕ → Next → P → Ty
 
   -- A turn: some bytes are read, and what is written or held unsent grows by an output for what is asked in
   -- all that came.
-  abbrev pub Turns : Held → P → Option (List ℕ) → Option (List ℕ) → Held → P → Option (List ℕ) → Option (List ℕ) → Type 0
-  Turns old p unread written new q unread' written' =
-      (read : List ℕ) × Consumes unread unread' read × Runs (with_read old read) p written new q written'
+  abbrev pub Turns : Side P → Side P → Type 0
+  Turns old new =
+      (read : List ℕ) × Consumes old.unread new.unread read
+      × Runs (with_read old.held read) old.has old.written new.held new.has new.written
 
   -- Two turns, one after the other, write what one turn may write that reads the bytes of both.
   abbrev pub TurnsJoin : Type 0
-  TurnsJoin = (old mid new : Held) (p q r : P) (unread unread' unread'' written written' written'' : Option (List ℕ)) → mid.ended ≡ None
-      → Turns old p unread written mid q unread' written' → Turns mid q unread' written' new r unread'' written'' → Turns old p unread written new r unread'' written''
+  TurnsJoin = (old mid new : Side P) → mid.held.ended ≡ None → Turns old mid → Turns mid new → Turns old new
 
 -- A turn of a closed session: nothing is read, run or said.
 abbrev pub StaysClosed : Held → Option (List ℕ) → Held → Option (List ℕ) → Type 0
@@ -191,6 +203,10 @@ HasRunAll held = (held.ended ≡ None) × (held.pending.lines ≡ []) × (held.p
 -- a session that greets its client so, of which nothing came
 abbrev pub opening : List ℕ → Held
 opening greeting = record { pending = record { list = Within None; lines = []; next = Some []; piece = [] }; unsent = greeting; ended = None }
+
+-- the session of a client that was greeted so: nothing came, and it waits for nothing
+abbrev pub new_session : Asker → List ℕ → SessionData
+new_session asker greeting = record { asker = asker; held = opening greeting; owes = false; waits = false }
 
 -- the unsent bytes grow by notices, or by none
 abbrev pub TellsOf : List ℕ → List ℕ → Type 0
@@ -263,29 +279,10 @@ abbrev pub end_in_list : Bool → Option End
 end_in_list true = Some LargeList
 end_in_list false = None
 
--- what a turn answers that closes a session
-abbrev pub closing_answer : End → Result TurnAnswer SessionFault
-closing_answer ReadFault = Err fault.ReadFault
-closing_answer WriteFault = Err fault.WriteFault
-closing_answer end = Ok (Closed end)
-
--- what a turn answers that leaves a session so, which has run all or has not
-abbrev pub turn_answer : Option End → Bool → Result TurnAnswer SessionFault
-turn_answer (Some end) all = closing_answer end
-turn_answer None true = Ok On
-turn_answer None false = Err fault.NoMemory
-
--- A session that was open and is closed now answers how it closed.
-abbrev pub AnswersClosing : Result TurnAnswer SessionFault → Option End → Option End → Type 0
-AnswersClosing result ended ended' = (end : End) → ended ≡ None → ended' ≡ Some end → result ≡ closing_answer end
-
 -- A session that stays open goes on, unless it is short of memory.
-abbrev pub GoesOnUnlessShort : Result TurnAnswer SessionFault → SessionData → CallCounts → CallCounts → Type 0
-GoesOnUnlessShort result new reader reader' =
-    new.held.ended ≡ None → (result ≡ Ok On) ⊎ ((result ≡ Err fault.NoMemory) × IsShort new reader reader')
-
-abbrev pub LastsUnlessShort : Result TurnAnswer SessionFault → Conversation → CallCounts → CallCounts → Type 0
-LastsUnlessShort result new reader reader' = GoesOnUnlessShort result (session_of new) reader reader'
+abbrev pub GoesOnUnlessShort : Result (Option End) SessionFault → SessionData → CallCounts → CallCounts → Type 0
+GoesOnUnlessShort answer new reader reader' =
+    new.held.ended ≡ None → (answer ≡ Ok None) ⊎ ((answer ≡ Err NoMemory) × IsShort new reader reader')
 
 -- what comes with more bytes
 abbrev pub then_read : Coming → List ℕ → Coming
@@ -318,10 +315,6 @@ EndsForLongLine old new = (new.ended ≡ old.ended)
 -- bytes are read, and perhaps split
 abbrev pub ReadsInto : Conversation → Option (List ℕ) → Conversation → Option (List ℕ) → Type 0
 ReadsInto old unread new unread' = ReadsOn (held_of old) unread (held_of new) unread'
-
--- a closed session only writes
-abbrev pub SendsOnceClosed : Conversation → Option (List ℕ) → Conversation → Option (List ℕ) → Type 0
-SendsOnceClosed old written new written' = old.ended ≢ None → StaysClosed (held_of old) written (held_of new) written'
 
 -- a session is closed for its writer's fault only where it was before, or where that failed
 abbrev pub FailsAsItsWriter : Conversation → Conversation → CallCounts → CallCounts → Type 0

@@ -10,7 +10,8 @@
 //! for the next turn: a line is run once, whatever becomes of its answer. No more is read while lines wait,
 //! and no more is run while the client takes too little, so one that asks and never reads costs a bounded
 //! piece of memory, and is closed.
-ghost use Rattle.std.specs.Prelude.{◌≡◌, ◌≢◌, ◌++◌, ◌<◌, ◌≤◌, ◌+◌, ◌⊎◌, [], length, take, drop, map, Some, None, Ok, Err, true, false, OnOk, OnErr, IfOk, is_ok};
+ghost use Rattle.std.specs.Prelude.{◌≡◌, ◌≢◌, ◌++◌, ◌<◌, ◌≤◌, ◌+◌, ◌⊎◌, [], length, take, map};
+ghost use Rattle.std.specs.Prelude.{Some, None, true, false, OnOk, OnErr, IfOk, is_ok};
 ghost use Rattle.std.specs.Io.KnownBytes.{Appends, Consumes};
 ghost use Rattle.mpd_text.specs.Lines.Split.{views, line_of};
 ghost use Rattle.mpd_text.specs.Lines.Cut.{split_from};
@@ -19,10 +20,17 @@ ghost use Rattle.mpd_answers.specs.Owing.{is_nothing, waits_after};
 ghost use Rattle.mpd_answers.specs.Requests.{is_over};
 ghost use Rattle.mpd_session.specs.declared.end.End.{End};
 ghost use Rattle.counted_devices.specs.CallCounts.{HasFailed};
-ghost use Rattle.mpd_session.specs.Devices.{EndsByReader, NeverFails, ReadEnds, WritesOut, is_given_up as is_given_up_lem};
-ghost use Rattle.mpd_session.specs.Sessions.{AnswersClosing, Blames, BlamesNone, BlamesReader, BlamesWriter, HasFailedSince, HasMore, HasPiece, IsWithinLimits, LastsUnlessShort, ReadsAs, Runs, Says, Sends, StopsShort, TellsOf, Turns, coming, end_by as end_by_lem, end_in_list as end_in_list_lem, has_unsent as has_unsent_lem, held_of, may_wait as may_wait_lem, opening, pending_of, session_of, turn_answer, EndsByWrite, EndsForLongLine, EndsWithoutBytes, FailsAsItsWriter, HasNoLongLine, HasRunAll, KeepsAllButRead, KeepsAllButSplit, KeepsAllButTold, ReadsInto, SendsOnceClosed, WritesAll};
+ghost use Rattle.mpd_session.specs.Devices.{EndsByReader, NeverFails, ReadEnds, WritesOut};
+ghost use Rattle.mpd_session.specs.Devices.{is_given_up as is_given_up_lem};
+ghost use Rattle.mpd_session.specs.Sessions.{Blames, BlamesNone, BlamesReader, BlamesWriter, HasFailedSince};
+ghost use Rattle.mpd_session.specs.Sessions.{EndsByWrite, EndsForLongLine, EndsWithoutBytes};
+ghost use Rattle.mpd_session.specs.Sessions.{FailsAsItsWriter, HasMore, HasNoLongLine, HasPiece, StopsShort};
+ghost use Rattle.mpd_session.specs.Sessions.{KeepsAllButRead, KeepsAllButSplit, KeepsAllButTold, ReadsInto};
+ghost use Rattle.mpd_session.specs.Sessions.{Runs, Says, Sends, TellsOf, Turns};
+ghost use Rattle.mpd_session.specs.Sessions.{coming, held_of, pending_of, session_of, side};
+ghost use Rattle.mpd_session.specs.Sessions.{end_by as end_by_lem, end_in_list as end_in_list_lem};
 
-use crate::end::{End, Goes, SessionFault};
+use crate::end::End;
 use crate::unsent::Unsent;
 use counted_devices::{Sink, Source};
 use counted_player::{Ledgers, Seat};
@@ -34,7 +42,7 @@ use std::alloc::{AllocError, Global};
 use std::collections::VecDeque;
 use std::io::ErrorKind;
 use std::sync::Wait;
-use transitions::{Next, Reply};
+use transitions::Next;
 
 /// The most bytes that are held unsent after a turn (this profile's).
 const MAX_UNSENT: usize = 16_777_216;
@@ -45,19 +53,19 @@ const PIECE: usize = 4_096;
 
 /// What a session has: of its client's bytes what is not answered, and of its answers what is not written.
 pub(crate) struct Conversation {
-    alloc: Global,
+    pub(crate) alloc: Global,
     pub(crate) asker: Asker,
     /// What was read and is not split, for want of memory.
-    piece: Vec<u8>,
-    splitter: Splitter,
+    pub(crate) piece: Vec<u8>,
+    pub(crate) splitter: Splitter,
     /// Lines that are not run, for want of memory.
-    lines: VecDeque<Line>,
-    gatherer: Gatherer,
-    owed: Owed,
-    unsent: Unsent,
-    ended: Option<End>,
+    pub(crate) lines: VecDeque<Line>,
+    pub(crate) gatherer: Gatherer,
+    pub(crate) owed: Owed,
+    pub(crate) unsent: Unsent,
+    pub(crate) ended: Option<End>,
     /// Whether its client may wait for a notice.
-    waits: bool,
+    pub(crate) waits: bool,
 }
 
 // Written out, so that a proof goes through one call where it lets one go (docs/DECISIONS.md).
@@ -79,95 +87,8 @@ impl Drop for Conversation {
 }
 
 impl Conversation {
-    /// That of a client that has connected. What the player greets it with is not written yet.
-    pub(crate) fn new(
-        alloc: Global,
-        asker: Asker,
-        greeting: &Reply,
-    ) -> Result<Conversation, AllocError>
-        ensures held { IfOk result (λ c. held_of c ≡ opening greeting.now.text) }
-        ensures asker { IfOk result (λ c. c.asker ≡ asker) }
-        ensures nothing { IfOk result (λ c. is_nothing c.owed ≡ true) }
-        ensures waits { IfOk result (λ c. c.waits ≡ false) }
-    {
-        Ok(Conversation {
-            alloc,
-            asker,
-            piece: Vec::new(alloc),
-            splitter: Splitter::new(alloc),
-            lines: VecDeque::new(alloc),
-            gatherer: Gatherer::new(),
-            owed: Owed::Nothing,
-            unsent: Unsent::of(alloc, greeting.text().as_bytes())?,
-            ended: None,
-            waits: false,
-        })
-    }
-
-    /// Why it is closed, if it is.
-    pub(crate) fn end(&self) -> Option<End>
-        ensures { result ≡ self.now.ended }
-    {
-        self.ended
-    }
-
-    /// Whether bytes for the client wait to be written, or to be put after those.
-    pub(crate) fn has_unsent(&self) -> bool
-        ensures { result ≡ has_unsent_lem (session_of self.now) }
-    {
-        !self.unsent.as_slice().is_empty() || !self.owed.is_nothing()
-    }
-
-    /// Whether its client may wait for a notice.
-    pub(crate) fn may_wait(&self) -> bool
-        ensures { result ≡ may_wait_lem (session_of self.now) }
-    {
-        self.waits && self.ended.is_none()
-    }
-
-    /// Reads once, runs the lines that this ends, and writes until the writer would block.
-    pub(crate) fn turn<L: Ledgers, I: Source, O: Sink, S: Shelf, R: Wait>(
-        &mut self,
-        rt: &R,
-        reader: &mut I,
-        writer: &mut O,
-        house: &House<L>,
-        seat: &mut Seat<L>,
-        shelf: &mut S,
-    ) -> Result<Goes, SessionFault>
-        requires open { self.old.ended ≡ None → is_over self.old.gatherer ≡ false }
-        ensures asker { self.new.asker ≡ self.old.asker }
-        ensures turns { self.old.ended ≡ None → Turns (Answers S.standing S.failed self.old.asker) (held_of self.old) (caller seat.old shelf.old) (I.remaining reader.old) (O.contents writer.old) (held_of self.new) (caller seat.new shelf.new) (I.remaining reader.new) (O.contents writer.new) }
-        ensures closed { SendsOnceClosed self.old (O.contents writer.old) self.new (O.contents writer.new) }
-        ensures open { self.new.ended ≡ None → is_over self.new.gatherer ≡ false }
-        ensures goes { result ≡ Ok Goes.On → HasRunAll (held_of self.new) }
-        ensures within { result ≡ Ok Goes.On → IsWithinLimits (held_of self.new) }
-        ensures settled { result ≡ Ok Goes.On → is_nothing self.new.owed ≡ true }
-        ensures lasts { LastsUnlessShort result self.new (I.call_counts reader.old) (I.call_counts reader.new) }
-        ensures closes { AnswersClosing result self.old.ended self.new.ended }
-        ensures stays { (end : End) → self.old.ended ≡ Some end → result ≡ Ok (Goes.Closed end) }
-        ensures ends { (end : End) → result ≡ Ok (Goes.Closed end) → self.new.ended ≡ Some end }
-        ensures read_fault { result ≡ Err SessionFault.ReadFault → self.new.ended ≡ Some End.ReadFault }
-        ensures write_fault { result ≡ Err SessionFault.WriteFault → self.new.ended ≡ Some End.WriteFault }
-        ensures blamed { self.old.ended ≡ None → Blames self.new.ended (I.call_counts reader.old) (I.call_counts reader.new) (O.call_counts writer.old) (O.call_counts writer.new) }
-        ensures reader { self.old.ended ≡ None → EndsByReader self.new.ended (I.call_counts reader.old) (I.call_counts reader.new) }
-        ensures unread { (end : End) → self.old.ended ≡ Some end → I.call_counts reader.new ≡ I.call_counts reader.old }
-        ensures sound { self.new.ended ≡ None → NeverFails (O.call_counts writer.old) (O.call_counts writer.new) }
-        ensures writes { (end : End) → self.old.ended ≡ Some end → WritesAll (session_of self.new) (O.call_counts writer.old) (O.call_counts writer.new) }
-    {
-        if let Some(end) = self.ended {
-            let _settled = self.settle();
-            self.send(writer);
-            return Ok(Goes::Closed(end));
-        }
-        let heard = self.hear(rt, reader, writer, house, seat, shelf);
-        self.send(writer);
-        let all = heard.is_ok() && self.piece.is_empty();
-        answer_of(self.ended, all)
-    }
-
     /// Reads once, and runs the lines that this ends.
-    fn hear<L: Ledgers, I: Source, O: Sink, S: Shelf, R: Wait>(
+    pub(crate) fn hear<L: Ledgers, I: Source, O: Sink, S: Shelf, R: Wait>(
         &mut self,
         rt: &R,
         reader: &mut I,
@@ -182,13 +103,19 @@ impl Conversation {
         ensures open { self.new.ended ≡ None → is_over self.new.gatherer ≡ false }
         ensures nothing { is_ok result ≡ true → is_nothing self.new.owed ≡ true }
         ensures long { is_ok result ≡ true → HasNoLongLine self.new }
-        ensures more { OnErr result (StopsShort self.new (I.call_counts reader.old) (I.call_counts reader.new)) }
-        ensures turns { Turns (Answers S.standing S.failed self.old.asker) (held_of self.old) (caller seat.old shelf.old) (I.remaining reader.old) (O.contents writer.old) (held_of self.new) (caller seat.new shelf.new) (I.remaining reader.new) (O.contents writer.new) }
+        ensures more { OnErr result
+            (StopsShort self.new (I.call_counts reader.old) (I.call_counts reader.new)) }
+        ensures turns { Turns (Answers S.standing S.failed self.old.asker)
+            (side (held_of self.old) seat.old shelf.old (I.remaining reader.old) (O.contents writer.old))
+            (side (held_of self.new) seat.new shelf.new (I.remaining reader.new) (O.contents writer.new)) }
         ensures all { OnOk result (self.new.ended ≡ None → self.new.lines.items ≡ []) }
         ensures calm { (O.call_counts writer.old).failures ≤ (O.call_counts writer.new).failures }
-        ensures blamed { Blames self.new.ended (I.call_counts reader.old) (I.call_counts reader.new) (O.call_counts writer.old) (O.call_counts writer.new) }
+        ensures blamed { Blames self.new.ended
+            (I.call_counts reader.old) (I.call_counts reader.new)
+            (O.call_counts writer.old) (O.call_counts writer.new) }
         ensures reader { EndsByReader self.new.ended (I.call_counts reader.old) (I.call_counts reader.new) }
-        ensures sound { self.new.ended ≡ None → NeverFails (O.call_counts writer.old) (O.call_counts writer.new) }
+        ensures sound { self.new.ended ≡ None →
+            NeverFails (O.call_counts writer.old) (O.call_counts writer.new) }
     {
         self.settle()?;
         self.tell(rt, house)?;
@@ -203,7 +130,8 @@ impl Conversation {
     fn take_in<I: Source>(&mut self, reader: &mut I) -> Result<(), AllocError>
         requires { self.old.ended ≡ None }
         ensures frame { KeepsAllButRead self.old self.new }
-        ensures more { OnErr result (HasPiece self.new ⊎ (I.call_counts reader.new ≡ I.call_counts reader.old)) }
+        ensures more { OnErr result
+            (HasPiece self.new ⊎ (I.call_counts reader.new ≡ I.call_counts reader.old)) }
         ensures reads { ReadsInto self.old (I.remaining reader.old) self.new (I.remaining reader.new) }
         ensures blamed { BlamesReader self.new.ended (I.call_counts reader.old) (I.call_counts reader.new) }
         ensures reader { EndsByReader self.new.ended (I.call_counts reader.old) (I.call_counts reader.new) }
@@ -211,12 +139,12 @@ impl Conversation {
         if !self.lines.is_empty() {
             return Ok(());
         }
-        self.read_in(reader)?;
+        self.read(reader)?;
         self.split()
     }
 
     /// Reads once, but not where a piece waits to be split.
-    fn read_in<I: Source>(&mut self, reader: &mut I) -> Result<(), AllocError>
+    fn read<I: Source>(&mut self, reader: &mut I) -> Result<(), AllocError>
         requires goes { self.old.ended ≡ None }
         requires lines { self.old.lines.items ≡ [] }
         ensures frame { self.new ≡ record self.old { piece = self.new.piece; ended = self.new.ended } }
@@ -228,11 +156,15 @@ impl Conversation {
         if !self.piece.is_empty() {
             return Ok(());
         }
-        self.read(reader)
+        self.piece.resize(PIECE, 0)?;
+        let Got { count, end } = read_some(reader, self.piece.as_mut_slice());
+        self.piece.truncate(count);
+        self.ended = end;
+        Ok(())
     }
 
     /// Puts what is owed after the unsent bytes.
-    fn settle(&mut self) -> Result<(), AllocError>
+    pub(crate) fn settle(&mut self) -> Result<(), AllocError>
         ensures frame { self.new ≡ record self.old { unsent = self.new.unsent; owed = self.new.owed } }
         ensures held { held_of self.new ≡ held_of self.old }
         ensures owes { OnErr result (is_nothing self.new.owed ≡ false) }
@@ -258,25 +190,6 @@ impl Conversation {
         self.waits = notice.is_none();
         self.owed = Owed::of_notice(notice);
         self.settle()
-    }
-
-    /// Reads once.
-    fn read<I: Source>(&mut self, reader: &mut I) -> Result<(), AllocError>
-        requires goes { self.old.ended ≡ None }
-        requires none { self.old.piece.items ≡ [] }
-        ensures frame { self.new ≡ record self.old { piece = self.new.piece; ended = self.new.ended } }
-        ensures unasked { OnErr result (I.call_counts reader.new ≡ I.call_counts reader.old) }
-        ensures was { self.old.piece.items ≡ [] }
-        ensures reads { Consumes (I.remaining reader.old) (I.remaining reader.new) self.new.piece.items }
-        ensures ends { ReadsAs self.old.ended self.new.piece.items self.new.ended }
-        ensures blamed { BlamesReader self.new.ended (I.call_counts reader.old) (I.call_counts reader.new) }
-        ensures reader { EndsByReader self.new.ended (I.call_counts reader.old) (I.call_counts reader.new) }
-    {
-        self.piece.resize(PIECE, 0)?;
-        let Got { count, end } = read_some(reader, self.piece.as_mut_slice());
-        self.piece.truncate(count);
-        self.ended = end;
-        Ok(())
     }
 
     /// Splits what was read into lines.
@@ -311,13 +224,16 @@ impl Conversation {
         ensures asker { self.new.asker ≡ self.old.asker }
         ensures open { self.new.ended ≡ None → is_over self.new.gatherer ≡ false }
         ensures nothing { OnOk result (is_nothing self.new.owed ≡ true) }
-        ensures long { OnOk result (self.new.ended ≡ None → self.new.piece.items ≡ [] → self.new.splitter ≢ None) }
+        ensures long { OnOk result (HasNoLongLine self.new) }
         ensures more { OnErr result (HasMore (session_of self.new)) }
-        ensures runs { Runs (Answers S.standing S.failed self.old.asker) (held_of self.old) (caller seat.old shelf.old) (O.contents writer.old) (held_of self.new) (caller seat.new shelf.new) (O.contents writer.new) }
+        ensures runs { Runs (Answers S.standing S.failed self.old.asker)
+            (held_of self.old) (caller seat.old shelf.old) (O.contents writer.old)
+            (held_of self.new) (caller seat.new shelf.new) (O.contents writer.new) }
         ensures all { OnOk result (self.new.ended ≡ None → self.new.lines.items ≡ []) }
         ensures calm { (O.call_counts writer.old).failures ≤ (O.call_counts writer.new).failures }
         ensures blamed { BlamesWriter self.new.ended (O.call_counts writer.old) (O.call_counts writer.new) }
-        ensures sound { self.new.ended ≡ None → NeverFails (O.call_counts writer.old) (O.call_counts writer.new) }
+        ensures sound { self.new.ended ≡ None →
+            NeverFails (O.call_counts writer.old) (O.call_counts writer.new) }
     {
         while self.has_work() {
             self.step(rt, house, seat, shelf)?;
@@ -341,7 +257,7 @@ impl Conversation {
     fn end_lines(&mut self)
         requires { self.old.ended ≡ None → self.old.lines.items ≡ [] }
         ensures frame { self.new ≡ record self.old { ended = self.new.ended } }
-        ensures long { self.new.ended ≡ None → self.new.piece.items ≡ [] → self.new.splitter ≢ None }
+        ensures long { HasNoLongLine self.new }
         ensures ends { EndsForLongLine self.old self.new }
     {
         if self.ended.is_none() && self.piece.is_empty() && self.splitter.is_closed() {
@@ -363,7 +279,9 @@ impl Conversation {
         requires some { self.old.lines.items ≢ [] }
         ensures asker { self.new.asker ≡ self.old.asker }
         ensures open { self.new.ended ≡ None → is_over self.new.gatherer ≡ false }
-        ensures says { Says (Answers S.standing S.failed self.old.asker) (held_of self.old) (caller seat.old shelf.old) (held_of self.new) (caller seat.new shelf.new) }
+        ensures says { Says (Answers S.standing S.failed self.old.asker)
+            (held_of self.old) (caller seat.old shelf.old)
+            (held_of self.new) (caller seat.new shelf.new) }
         ensures nothing { OnOk result (is_nothing self.new.owed ≡ true) }
         ensures shorter { OnOk result (length self.new.lines.items + 1 ≡ length self.old.lines.items) }
         ensures piece { self.new.piece ≡ self.old.piece }
@@ -382,15 +300,19 @@ impl Conversation {
     }
 
     /// Writes until the writer would block, but not where that was given up.
-    fn send<O: Sink>(&mut self, writer: &mut O)
+    pub(crate) fn send<O: Sink>(&mut self, writer: &mut O)
         ensures frame { self.new ≡ record self.old { unsent = self.new.unsent; ended = self.new.ended } }
         ensures stays { self.new.ended ≡ None → self.old.ended ≡ None }
         ensures few { self.new.ended ≡ None → length self.new.unsent ≤ 16777216 }
-        ensures sends { Sends (held_of self.old) (O.contents writer.old) (held_of self.new) (O.contents writer.new) }
-        ensures failed { FailsAsItsWriter self.old self.new (O.call_counts writer.old) (O.call_counts writer.new) }
+        ensures sends { Sends
+            (held_of self.old) (O.contents writer.old) (held_of self.new) (O.contents writer.new) }
+        ensures failed { FailsAsItsWriter self.old self.new
+            (O.call_counts writer.old) (O.call_counts writer.new) }
         ensures calm { (O.call_counts writer.old).failures ≤ (O.call_counts writer.new).failures }
-        ensures sound { self.new.ended ≡ None → NeverFails (O.call_counts writer.old) (O.call_counts writer.new) }
-        ensures writes { WritesOut self.new.ended self.new.unsent (O.call_counts writer.old) (O.call_counts writer.new) }
+        ensures sound { self.new.ended ≡ None →
+            NeverFails (O.call_counts writer.old) (O.call_counts writer.new) }
+        ensures writes { WritesOut self.new.ended self.new.unsent
+            (O.call_counts writer.old) (O.call_counts writer.new) }
     {
         if is_given_up(self.ended) {
             return;
@@ -431,7 +353,8 @@ fn read_some<I: Source>(reader: &mut I, buf: &mut [u8]) -> Got
 
 /// The end by a read that failed so.
 fn end_of_fault(fault: ErrorKind) -> Option<End>
-    ensures { ((result ≡ None) × (fault ≡ ErrorKind.WouldBlock)) ⊎ ((result ≡ Some End.ReadFault) × (fault ≢ ErrorKind.WouldBlock)) }
+    ensures { ((result ≡ None) × (fault ≡ ErrorKind.WouldBlock))
+        ⊎ ((result ≡ Some End.ReadFault) × (fault ≢ ErrorKind.WouldBlock)) }
 {
     if is_failure(fault) {
         Some(End::ReadFault)
@@ -450,7 +373,8 @@ fn is_failure(fault: ErrorKind) -> bool
 
 /// The lines that the piece ends, also where a longer one comes after them.
 fn split_piece(splitter: &mut Splitter, piece: &[u8]) -> Result<Vec<Line>, AllocError>
-    ensures lines { IfOk result (λ lines. views lines.items ≡ map line_of (split_from splitter.old piece.now).lines) }
+    ensures lines { IfOk result
+        (λ lines. views lines.items ≡ map line_of (split_from splitter.old piece.now).lines) }
     ensures next { OnOk result (splitter.new ≡ (split_from splitter.old piece.now).next) }
     ensures err { OnErr result (splitter.new ≡ splitter.old) }
 {
@@ -468,28 +392,6 @@ fn is_given_up(ended: Option<End>) -> bool
     ensures given_up { result ≡ is_given_up_lem ended }
 {
     matches!(ended, Some(End::Unsent | End::WriteFault))
-}
-
-/// What a turn answers that leaves a session so.
-fn answer_of(ended: Option<End>, all: bool) -> Result<Goes, SessionFault>
-    ensures answer { result ≡ turn_answer ended all }
-    ensures goes { result ≡ Ok Goes.On → (ended ≡ None) × (all ≡ true) }
-    ensures ends { (end : End) → result ≡ Ok (Goes.Closed end) → ended ≡ Some end }
-    ensures read_fault { result ≡ Err SessionFault.ReadFault → ended ≡ Some End.ReadFault }
-    ensures write_fault { result ≡ Err SessionFault.WriteFault → ended ≡ Some End.WriteFault }
-{
-    match ended {
-        Some(End::ReadFault) => Err(SessionFault::ReadFault),
-        Some(End::WriteFault) => Err(SessionFault::WriteFault),
-        Some(end) => Ok(Goes::Closed(end)),
-        None => {
-            if all {
-                Ok(Goes::On)
-            } else {
-                Err(SessionFault::NoMemory)
-            }
-        }
-    }
 }
 
 /// Whether a client waits for a notice after an answer: an empty list neither begins nor ends a wait.
@@ -550,10 +452,13 @@ struct Sent {
 fn send_some<O: Sink>(writer: &mut O, bytes: &[u8]) -> Sent
     ensures count { result.count ≤ length bytes.now }
     ensures written { Appends (O.contents writer.old) (O.contents writer.new) (take result.count bytes.now) }
-    ensures failed { result.failed ≡ true → HasFailedSince (O.call_counts writer.old) (O.call_counts writer.new) }
+    ensures failed { result.failed ≡ true →
+        HasFailedSince (O.call_counts writer.old) (O.call_counts writer.new) }
     ensures calm { (O.call_counts writer.old).failures ≤ (O.call_counts writer.new).failures }
-    ensures sound { result.failed ≡ false → NeverFails (O.call_counts writer.old) (O.call_counts writer.new) }
-    ensures all { (result.count ≡ length bytes.now) ⊎ HasFailed (O.call_counts writer.old) (O.call_counts writer.new) }
+    ensures sound { result.failed ≡ false →
+        NeverFails (O.call_counts writer.old) (O.call_counts writer.new) }
+    ensures all { (result.count ≡ length bytes.now)
+        ⊎ HasFailed (O.call_counts writer.old) (O.call_counts writer.new) }
 {
     let mut count = 0;
     while count < bytes.len() {

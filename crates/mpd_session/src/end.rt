@@ -39,14 +39,8 @@ impl End {
     }
 }
 
-/// What a turn leaves.
-#[derive(Clone, Copy, PartialEq, Eq)]
-pub enum Goes {
-    /// All lines that came are run, and more may come.
-    On,
-    /// Nothing is read or run any more.
-    Closed(End),
-}
+/// What a turn leaves: why its session is closed; `None` is a session that goes on.
+pub type Goes = Option<End>;
 
 /// Why a turn did not do all that it was to do.
 #[derive(Clone, Copy, PartialEq, Eq)]

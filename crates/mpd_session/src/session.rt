@@ -1,20 +1,24 @@
 //! One client's session.
-ghost use Rattle.std.specs.Prelude.{◌≡◌};
+ghost use Rattle.std.specs.Prelude.{◌≡◌, None, true};
+ghost use Rattle.mpd_session.specs.Ends.{turn_answer};
 
 use crate::conversation::Conversation;
 use crate::end::{End, Goes, SessionFault};
+use crate::unsent::Unsent;
 use counted_devices::{Sink, Source};
 use counted_player::{Ledgers, Seat};
 use house::House;
-use mpd_answers::Asker;
+use mpd_answers::{Asker, Gatherer, Owed};
+use mpd_text::Splitter;
 use shelf::Shelf;
 use std::alloc::{AllocError, Global};
+use std::collections::VecDeque;
 use std::marker::Model;
 use std::sync::Wait;
 use transitions::Reply;
 
 /// One client's session. A clause sees whose it is, what came that is not answered, what is not written, and
-/// why it is closed.
+/// why it is closed; the clauses of the steps that a turn is made of see all that a [`Conversation`] has.
 #[derive(Drop)]
 pub struct Session {
     conversation: Conversation,
@@ -33,40 +37,54 @@ impl Model for Session {
 }
 
 impl Session {
-    ghost use Rattle.std.specs.Prelude.{◌≡◌, ◌≢◌, None, Some, Ok, Err, false, IfOk};
-    ghost use Rattle.mpd_answers.specs.Answers.{Answers, caller};
-    ghost use Rattle.mpd_session.specs.Sessions.{AnswersClosing, Blames, GoesOnUnlessShort, HasRunAll, IsWithinLimits, StaysClosed, Turns, WritesAll, has_unsent as has_unsent_lem, may_wait as may_wait_lem, opening};
+    ghost use Rattle.std.specs.Prelude.{◌≡◌, ◌≢◌, None, Ok, false, IfOk};
+    ghost use Rattle.mpd_answers.specs.Answers.{Answers};
     ghost use Rattle.mpd_session.specs.Devices.{EndsByReader, NeverFails};
-    ghost use Rattle.mpd_session.specs.declared.end.End.{End};
+    ghost use Rattle.mpd_session.specs.Ends.{TellsEnd};
+    ghost use Rattle.mpd_session.specs.Sessions.{Blames, GoesOnUnlessShort, HasRunAll, IsWithinLimits};
+    ghost use Rattle.mpd_session.specs.Sessions.{StaysClosed, Turns, WritesAll, new_session, side};
+    ghost use Rattle.mpd_session.specs.Sessions.{has_unsent as has_unsent_lem, may_wait as may_wait_lem};
 
     /// The session of a client that the player let in, and what it was greeted with. Nothing was read, and
     /// the greeting is not written yet.
     pub fn new(alloc: Global, asker: Asker, greeting: &Reply) -> Result<Session, AllocError>
-        ensures { IfOk result (λ s. s ≡ record { asker = asker; held = opening greeting.now.text; owes = false; waits = false }) }
+        ensures { IfOk result (λ session. session ≡ new_session asker greeting.now.text) }
     {
-        let conversation = Conversation::new(alloc, asker, greeting)?;
-        Ok(Session { conversation })
+        Ok(Session {
+            conversation: Conversation {
+                alloc,
+                asker,
+                piece: Vec::new(alloc),
+                splitter: Splitter::new(alloc),
+                lines: VecDeque::new(alloc),
+                gatherer: Gatherer::new(),
+                owed: Owed::Nothing,
+                unsent: Unsent::of(alloc, greeting.text().as_bytes())?,
+                ended: None,
+                waits: false,
+            },
+        })
     }
 
     /// Why it is closed, if it is.
     pub fn end(&self) -> Option<End>
         ensures { result ≡ self.now.held.ended }
     {
-        self.conversation.end()
+        self.conversation.ended
     }
 
     /// Whether bytes for the client wait to be written, or to be put after those for want of memory.
     pub fn has_unsent(&self) -> bool
         ensures { result ≡ has_unsent_lem self.now }
     {
-        self.conversation.has_unsent()
+        !self.conversation.unsent.as_slice().is_empty() || !self.conversation.owed.is_nothing()
     }
 
     /// Whether a notice may come for its client. Where there is none to come, this may still be so.
     pub fn may_wait(&self) -> bool
         ensures { result ≡ may_wait_lem self.now }
     {
-        self.conversation.may_wait()
+        self.conversation.waits && self.conversation.ended.is_none()
     }
 
     /// Reads once, runs the lines that this ends, and writes until the writer would block.
@@ -74,8 +92,11 @@ impl Session {
     /// Some bytes are read. Of all that came so far, the first that is asked is answered, each by one answer
     /// that the player of one thread may give, with notices between; what is not answered is held, so that
     /// nothing is lost or answered twice, wherever the bytes are cut. What was written and what is held
-    /// unsent grow by just these answers. A turn of a closed session only writes: all that it holds, until the
-    /// writer would block or fails, but nothing where writing was given up.
+    /// unsent grow by just these answers. A turn of a closed session only writes: all that it holds, until
+    /// the writer would block or fails, but nothing where writing was given up.
+    ///
+    /// [`Session::end`] says what became of the client. On success the answer is the same: `None` where the
+    /// session goes on, or why it is closed.
     ///
     /// # Errors
     ///
@@ -91,24 +112,57 @@ impl Session {
         shelf: &mut S,
     ) -> Result<Goes, SessionFault>
         ensures asker { self.new.asker ≡ self.old.asker }
-        ensures turns { self.old.held.ended ≡ None → Turns (Answers S.standing S.failed self.old.asker) self.old.held (caller seat.old shelf.old) (I.remaining reader.old) (O.contents writer.old) self.new.held (caller seat.new shelf.new) (I.remaining reader.new) (O.contents writer.new) }
-        ensures closed { self.old.held.ended ≢ None → StaysClosed self.old.held (O.contents writer.old) self.new.held (O.contents writer.new) }
-        ensures goes { result ≡ Ok Goes.On → HasRunAll self.new.held }
-        ensures within { result ≡ Ok Goes.On → IsWithinLimits self.new.held }
-        ensures settled { result ≡ Ok Goes.On → self.new.owes ≡ false }
-        ensures lasts { GoesOnUnlessShort result self.new (I.call_counts reader.old) (I.call_counts reader.new) }
-        ensures closes { AnswersClosing result self.old.held.ended self.new.held.ended }
-        ensures stays { (end : End) → self.old.held.ended ≡ Some end → result ≡ Ok (Goes.Closed end) }
-        ensures ends { (end : End) → result ≡ Ok (Goes.Closed end) → self.new.held.ended ≡ Some end }
-        ensures read_fault { result ≡ Err SessionFault.ReadFault → self.new.held.ended ≡ Some End.ReadFault }
-        ensures write_fault { result ≡ Err SessionFault.WriteFault → self.new.held.ended ≡ Some End.WriteFault }
-        ensures blamed { self.old.held.ended ≡ None → Blames self.new.held.ended (I.call_counts reader.old) (I.call_counts reader.new) (O.call_counts writer.old) (O.call_counts writer.new) }
-        ensures reader { self.old.held.ended ≡ None → EndsByReader self.new.held.ended (I.call_counts reader.old) (I.call_counts reader.new) }
-        ensures unread { (end : End) → self.old.held.ended ≡ Some end → I.call_counts reader.new ≡ I.call_counts reader.old }
-        ensures sound { self.new.held.ended ≡ None → NeverFails (O.call_counts writer.old) (O.call_counts writer.new) }
-        ensures writes { (end : End) → self.old.held.ended ≡ Some end → WritesAll self.new (O.call_counts writer.old) (O.call_counts writer.new) }
+        ensures turns { self.old.held.ended ≡ None → Turns (Answers S.standing S.failed self.old.asker)
+            (side self.old.held seat.old shelf.old (I.remaining reader.old) (O.contents writer.old))
+            (side self.new.held seat.new shelf.new (I.remaining reader.new) (O.contents writer.new)) }
+        ensures closed { self.old.held.ended ≢ None →
+            StaysClosed self.old.held (O.contents writer.old) self.new.held (O.contents writer.new) }
+        ensures tells { TellsEnd self.old.held.ended self.new.held.ended result }
+        ensures goes { result ≡ Ok None → HasRunAll self.new.held }
+        ensures within { result ≡ Ok None → IsWithinLimits self.new.held }
+        ensures settled { result ≡ Ok None → self.new.owes ≡ false }
+        ensures lasts { GoesOnUnlessShort result self.new
+            (I.call_counts reader.old) (I.call_counts reader.new) }
+        ensures blamed { self.old.held.ended ≡ None → Blames self.new.held.ended
+            (I.call_counts reader.old) (I.call_counts reader.new)
+            (O.call_counts writer.old) (O.call_counts writer.new) }
+        ensures reader { self.old.held.ended ≡ None → EndsByReader self.new.held.ended
+            (I.call_counts reader.old) (I.call_counts reader.new) }
+        ensures unread { self.old.held.ended ≢ None → I.call_counts reader.new ≡ I.call_counts reader.old }
+        ensures sound { self.new.held.ended ≡ None →
+            NeverFails (O.call_counts writer.old) (O.call_counts writer.new) }
+        ensures writes { self.old.held.ended ≢ None →
+            WritesAll self.new (O.call_counts writer.old) (O.call_counts writer.new) }
     {
-        self.conversation
-            .turn(rt, reader, writer, house, seat, shelf)
+        if let Some(end) = self.conversation.ended {
+            let _settled = self.conversation.settle();
+            self.conversation.send(writer);
+            return Ok(Some(end));
+        }
+        let heard = self
+            .conversation
+            .hear(rt, reader, writer, house, seat, shelf);
+        self.conversation.send(writer);
+        let all = heard.is_ok() && self.conversation.piece.is_empty();
+        answer_of(self.conversation.ended, all)
+    }
+}
+
+/// What a turn of an open session answers that leaves it so, and did all that there was to do, or did not.
+fn answer_of(ended: Option<End>, all: bool) -> Result<Goes, SessionFault>
+    ensures answer { result ≡ turn_answer ended all }
+    ensures goes { result ≡ Ok None → (ended ≡ None) × (all ≡ true) }
+{
+    match ended {
+        Some(End::ReadFault) => Err(SessionFault::ReadFault),
+        Some(End::WriteFault) => Err(SessionFault::WriteFault),
+        Some(end) => Ok(Some(end)),
+        None => {
+            if all {
+                Ok(None)
+            } else {
+                Err(SessionFault::NoMemory)
+            }
+        }
     }
 }

@@ -10,7 +10,7 @@ use house::House;
 use house_rooms::{blanks, opened};
 use mpd_answers::Asker;
 use mpd_command::CommandSet;
-use mpd_session::{End, Goes, Session, SessionFault};
+use mpd_session::{End, Session, SessionFault};
 use shelf::MemShelf;
 use std::alloc::{AllocError, Global};
 use std::marker::Brand;
@@ -53,11 +53,11 @@ fn reads<L: Ledgers>(
 ) -> Option<SessionFault> {
     let mut feed = Counting::new(Feed::new(bytes, then));
     for _ in 0..1_000_000u32 {
-        let goes = guest
+        let left = guest
             .session
             .turn(rt, &mut feed, &mut guest.wire, house, seat, shelf);
-        match goes {
-            Ok(Goes::On) if !feed.inner().is_empty() => {}
+        match left {
+            Ok(None) if !feed.inner().is_empty() => {}
             Ok(_) => return None,
             Err(fault) => return Some(fault),
         }

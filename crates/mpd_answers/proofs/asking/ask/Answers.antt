@@ -1,4 +1,5 @@
 use Rattle.std.proofs.Common.{ap, subst, sym}
+use Rattle.mpd_answers.specs.Answers.{caller}
 use Rattle.mpd_answers.specs.Owing.{IsOwedFor}
 use Rattle.mpd_answers.specs.Requests.{Asking, asking_of}
 use Rattle.mpd_answers.proofs.asking.ask.Goals as goal
@@ -6,5 +7,5 @@ use Rattle.mpd_answers.proofs.asking.ask.Goals as goal
 pub returns-in-Whole : goal.returns-in-Whole
 returns-in-Whole g c =
     subst
-    (λ (one : Asking). IsOwedFor g.S.Shelf.standing g.S.Shelf.failed c.args.asker c.args.seat.now c.args.shelf.now one c.ask_list.result c.ask_list.new.seat c.ask_list.new.shelf)
+    (λ (one : Asking). IsOwedFor g.S.Shelf.standing g.S.Shelf.failed c.args.asker (caller c.args.seat.now c.args.shelf.now) one c.ask_list.result (caller c.ask_list.new.seat c.ask_list.new.shelf))
     (sym (ap asking_of c.in-Whole.is)) c.ask_list.ensures

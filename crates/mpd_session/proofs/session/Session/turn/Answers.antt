@@ -8,12 +8,29 @@ use Rattle.mpd_session.proofs.Runs.{turns_sent}
 use Rattle.mpd_session.proofs.Sending.{none_owed, owed_or_written}
 use Rattle.mpd_session.proofs.Blame.{turn_blames}
 use Rattle.mpd_session.proofs.Reading.{sent_ends}
-use Rattle.mpd_session.proofs.conversation.Conversation.turn.Goals as goal
-use Rattle.mpd_session.proofs.conversation.Conversation.turn.Goals.{then-is_ok, else-is_ok}
+use Rattle.mpd_session.proofs.Telling.{still_closed, tells_closed, tells_open}
+use Rattle.mpd_session.proofs.session.Session.turn.Goals as goal
+use Rattle.mpd_session.proofs.session.Session.turn.Goals.{then-is_ok, else-is_ok}
+
+pub returns-in-Some-clause-tells : goal.returns-in-Some-clause-tells
+returns-in-Some-clause-tells g c =
+    rw (← c.self.view_is)
+    (tells_closed _ _ c.in-Some.end c.in-Some.is
+    (still_closed _ _ (held_of c.settle-settled.new.self).unsent (held_of c.send.new.self).unsent c.in-Some.end (ap (λ s. s.ended) c.settle-settled.ensures.frame ∙ c.in-Some.is) c.send.ensures.sends.2))
+
+pub returns-in-Some-clause-writes : goal.returns-in-Some-clause-writes
+returns-in-Some-clause-writes g c = λ closed.
+    owed_or_written c.send.new.self.owed c.send.new.self.ended c.send.new.self.unsent (g.O.Failing.call_counts c.args.writer.now) (g.O.Failing.call_counts c.send.new.writer) c.send.ensures.writes
 
 pub returns-clause-turns : goal.returns-clause-turns
 returns-clause-turns g c =
-    λ e. turns_sent (Answers g.S.Shelf.standing g.S.Shelf.failed c.args.self.now.asker) (held_of c.args.self.now) (held_of c.hear-heard.new.self) (held_of c.send-2.new.self) _ _ _ _ _ _ _ c.hear-heard.ensures.turns c.send-2.ensures.sends
+    rw (← c.self.view_is)
+    (λ e. turns_sent (Answers g.S.Shelf.standing g.S.Shelf.failed c.self.inside.conversation.asker) (held_of c.self.inside.conversation) (held_of c.hear-heard.new.self) (held_of c.send-2.new.self) _ _ _ _ _ _ _ c.hear-heard.ensures.turns c.send-2.ensures.sends)
+
+pub returns-clause-tells : goal.returns-clause-tells
+returns-clause-tells g c =
+    let goes : c.self.inside.conversation.ended ≡ None = search rules in
+    rw (← c.self.view_is) (tells_open _ _ c.if-is_ok.all _ goes c.answer_of.ensures.answer)
 
 pub returns-clause-blamed : goal.returns-clause-blamed
 returns-clause-blamed g c = λ e.
@@ -43,7 +60,3 @@ returns-clause-reader g c = λ e.
 
 pub returns-clause-sound : goal.returns-clause-sound
 returns-clause-sound g c = λ none. c.send-2.ensures.sound none ∙ c.hear-heard.ensures.sound (c.send-2.ensures.stays none)
-
-pub returns-in-Some-clause-writes : goal.returns-in-Some-clause-writes
-returns-in-Some-clause-writes g c = λ end is.
-    owed_or_written c.send.new.self.owed c.send.new.self.ended c.send.new.self.unsent (g.O.Failing.call_counts c.args.writer.now) (g.O.Failing.call_counts c.send.new.writer) c.send.ensures.writes
