@@ -6,7 +6,9 @@ use Rattle.player_core.specs.declared.state.Job.{Job}
 use Rattle.player_events.specs.Outcomes.{OutcomeData}
 use Rattle.counted_player.specs.Seats.{SeatCount}
 use Rattle.held_player.specs.Views.{FeedsShare}
-use Rattle.crew_steps.specs.Decoding.{DecodesAll, DecodesOnce, DidTasks, DoesTask, Task}
+use Rattle.output_ring.specs.declared.feeder.FeederEnd.{FeederEnd}
+use Rattle.crew_steps.specs.Causes.{EndsFor}
+use Rattle.crew_steps.specs.Decoding.{DecodesAll, DecodesOnce, DidTasks, DoesTask, RunsDecoder, RunsFor, Task}
 use Rattle.crew_steps.specs.Each.{Each}
 use Rattle.crew_steps.specs.Feeding.{DoesJob, Feeds, FinishesJob, HandsOut, TakesNone, feed_told, handed}
 use Rattle.crew_steps.specs.Songs.{Fails}
@@ -36,43 +38,70 @@ each_finished seat before after place job (Err NoMemory) None old new done = sub
 each_finished seat before after place job (Err NoMemory) (Some told) old new done = absurd done
 
 -- a job was done by what was read for it, of the same songs
-does : (songs : OpenSongs) (seat : SeatCount) (before after place : ℕ) (job : Job) (read : Result JobFrames NoFrames) (told : Option OutcomeData) (old new : List Feeder)
-    → OnOk read (AreOpenFor songs place job) → IfOk read (λ (r : JobFrames). ReadsJob songs job r.frames.items r.others.items) → IfErr read (Fails songs place job)
-    → FinishesJob seat before after place job read told old new → DoesJob songs seat before after place job told old new
-does songs seat before after place job (Ok read) None old new opens reads fails done = absurd done
-does songs seat before after place job (Ok read) (Some told) old new opens reads fails done = inr (opens, (read.frames.items, read.others.items, reads, done))
-does songs seat before after place job (Err (Failed partner)) None old new opens reads fails done = absurd done
-does songs seat before after place job (Err (Failed partner)) (Some told) old new opens reads fails done = inl (done.0, (done.1, (partner, fails, done.2)))
-does songs seat before after place job (Err NoMemory) None old new opens reads fails done = done
-does songs seat before after place job (Err NoMemory) (Some told) old new opens reads fails done = absurd done
+does : (cause : ℕ → Job → Bool → Type 0) (songs : OpenSongs) (seat : SeatCount) (before after place : ℕ) (job : Job) (read : Result JobFrames NoFrames) (told : Option OutcomeData) (old new : List Feeder)
+    → OnOk read (AreOpenFor songs place job) → IfOk read (λ (r : JobFrames). ReadsJob songs job r.frames.items r.others.items) → IfErr read (Fails songs place job) → IfErr read (EndsFor cause place job)
+    → FinishesJob seat before after place job read told old new → DoesJob cause songs seat before after place job told old new
+does cause songs seat before after place job (Ok read) None old new opens reads fails ends done = absurd done
+does cause songs seat before after place job (Ok read) (Some told) old new opens reads fails ends done = inr (opens, (read.frames.items, read.others.items, reads, done))
+does cause songs seat before after place job (Err (Failed partner)) None old new opens reads fails ends done = absurd done
+does cause songs seat before after place job (Err (Failed partner)) (Some told) old new opens reads fails ends done = inl (done.0, (done.1, (partner, fails, ends, done.2)))
+does cause songs seat before after place job (Err NoMemory) None old new opens reads fails ends done = done
+does cause songs seat before after place job (Err NoMemory) (Some told) old new opens reads fails ends done = absurd done
 
 -- the same, of the seat and the share that were there before the reading
-pub does_later : {A B : Type 0} (songs' songs : B) (view : B → OpenSongs) (seat' seat : SeatCount) (share' share : A) (amount : A → ℕ) (after place : ℕ) (job : Job) (read : Result JobFrames NoFrames) (told : Option OutcomeData) (old new : List Feeder)
+pub does_later : {A B : Type 0} (cause : ℕ → Job → Bool → Type 0) (songs' songs : B) (view : B → OpenSongs) (seat' seat : SeatCount) (share' share : A) (amount : A → ℕ) (after place : ℕ) (job : Job) (read : Result JobFrames NoFrames) (told : Option OutcomeData) (old new : List Feeder)
     → songs' ≡ songs → seat' ≡ seat → share' ≡ share
-    → OnOk read (AreOpenFor (view songs) place job) → IfOk read (λ (r : JobFrames). ReadsJob (view songs) job r.frames.items r.others.items) → IfErr read (Fails (view songs) place job)
-    → FinishesJob seat' (amount share') after place job read told old new → DoesJob (view songs') seat (amount share) after place job told old new
-does_later songs' songs view seat' seat share' share amount after place job read told old new same seats shares opens reads fails done =
-    subst (λ s. DoesJob (view s) seat (amount share) after place job told old new) (sym same)
-    (subst (λ s. DoesJob (view songs) s (amount share) after place job told old new) seats
-    (subst (λ a. DoesJob (view songs) seat' (amount a) after place job told old new) shares
-    (does (view songs) seat' (amount share') after place job read told old new opens reads fails done)))
+    → OnOk read (AreOpenFor (view songs) place job) → IfOk read (λ (r : JobFrames). ReadsJob (view songs) job r.frames.items r.others.items) → IfErr read (Fails (view songs) place job) → IfErr read (EndsFor cause place job)
+    → FinishesJob seat' (amount share') after place job read told old new → DoesJob cause (view songs') seat (amount share) after place job told old new
+does_later cause songs' songs view seat' seat share' share amount after place job read told old new same seats shares opens reads fails ends done =
+    subst (λ s. DoesJob cause (view s) seat (amount share) after place job told old new) (sym same)
+    (subst (λ s. DoesJob cause (view songs) s (amount share) after place job told old new) seats
+    (subst (λ a. DoesJob cause (view songs) seat' (amount a) after place job told old new) shares
+    (does cause (view songs) seat' (amount share') after place job read told old new opens reads fails ends done)))
 
 -- what was done so far, and what went into the rings since
-abbrev pub DidSoFar : ℕ → List Feeder → List Feeder → Type 0
-DidSoFar rate old new = (tasks : List Task) × (mid : List Feeder) × DidTasks rate tasks old mid × Each TakesNone mid new
+abbrev pub DidSoFar : (ℕ → Job → Bool → Type 0) → ℕ → List Feeder → List Feeder → Type 0
+DidSoFar cause rate old new = (tasks : List Task) × (mid : List Feeder) × DidTasks cause rate tasks old mid × Each TakesNone mid new
 
-pub begun : (rate : ℕ) (old : List Feeder) → DidSoFar rate old old
-begun rate old = ([], old, refl, each_refl TakesNone old none_refl)
+pub begun : (cause : ℕ → Job → Bool → Type 0) (rate : ℕ) (old : List Feeder) → DidSoFar cause rate old old
+begun cause rate old = ([], old, refl, each_refl TakesNone old none_refl)
 
 -- a task whose rings were pushed before is one whose rings were pushed then
-task_later : (rate : ℕ) (task : Task) (mid now new : List Feeder) → Each TakesNone mid now → DoesTask rate task now new → DoesTask rate task mid new
-task_later rate task mid now new none does =
+task_later : (cause : ℕ → Job → Bool → Type 0) (rate : ℕ) (task : Task) (mid now new : List Feeder) → Each TakesNone mid now → DoesTask cause rate task now new → DoesTask cause rate task mid new
+task_later cause rate task mid now new none does =
     (does.0, does.1, does.2, each_none mid now does.0 none does.3, does.4, does.5, does.6, does.7)
 
-pub next : (rate rate' : ℕ) (old now new : List Feeder) → rate' ≡ rate → DidSoFar rate old now → DecodesOnce rate' None now new → DidSoFar rate old new
-next rate rate' old now new same did (inl none) = (did.0, did.1, did.2, each_none did.1 now new did.3 none)
-next rate rate' old now new same did (inr task) =
-    (task.0 ∷ did.0, new, (did.1, did.2, task_later rate task.0 did.1 now new did.3 (subst (λ r. DoesTask r task.0 now new) same task.1)), each_refl TakesNone new none_refl)
+-- one more round, with songs of the same rate
+pub next : (cause : ℕ → ℕ → Job → Bool → Type 0) (rate rate' : ℕ) (old now new : List Feeder) → rate' ≡ rate → DidSoFar (cause rate) rate old now → DecodesOnce (cause rate') rate' None now new → DidSoFar (cause rate) rate old new
+next cause rate rate' old now new same did (inl none) = (did.0, did.1, did.2, each_none did.1 now new did.3 none)
+next cause rate rate' old now new same did (inr task) =
+    (task.0 ∷ did.0, new, (did.1, did.2, task_later (cause rate) rate task.0 did.1 now new did.3 (subst (λ r. DoesTask (cause r) r task.0 now new) same task.1)), each_refl TakesNone new none_refl)
 
-pub ends : (rate rate' : ℕ) (old now new : List Feeder) (told : OutcomeData) → DidSoFar rate old now → DecodesOnce rate' (Some told) now new → DecodesAll rate told old new
-ends rate rate' old now new told did last = (last.0, (did.0, did.1, did.2, each_none did.1 now new did.3 last.1))
+pub ends : (cause cause' : ℕ → Job → Bool → Type 0) (rate rate' : ℕ) (old now new : List Feeder) (told : OutcomeData) → DidSoFar cause rate old now → DecodesOnce cause' rate' (Some told) now new → DecodesAll cause rate told old new
+ends cause cause' rate rate' old now new told did last = (last.0, (did.0, did.1, did.2, each_none did.1 now new did.3 last.1))
+
+-- the causes are forgotten
+abbrev whatever : ℕ → Job → Bool → Type 0
+whatever place job partner = Unit {0}
+
+job_anyhow : (cause : ℕ → Job → Bool → Type 0) (songs : OpenSongs) (seat : SeatCount) (before after place : ℕ) (job : Job) (told : Option OutcomeData) (old new : List Feeder)
+    → DoesJob cause songs seat before after place job told old new → DoesJob whatever songs seat before after place job told old new
+job_anyhow cause songs seat before after place job None old new does = does
+job_anyhow cause songs seat before after place job (Some told) old new (inl fails) = inl (fails.0, (fails.1.0, (fails.1.1.0, fails.1.1.1, tt, fails.1.1.3)))
+job_anyhow cause songs seat before after place job (Some told) old new (inr feeds) = inr feeds
+
+task_anyhow : (cause : ℕ → Job → Bool → Type 0) (rate : ℕ) (task : Task) (old new : List Feeder) → DoesTask cause rate task old new → DoesTask whatever rate task old new
+task_anyhow cause rate task old new does =
+    (does.0, does.1, does.2, does.3, does.4, does.5, does.6, (does.7.0, does.7.1, does.7.2, does.7.3, does.7.4, job_anyhow cause does.7.0 does.2 does.7.2 does.7.3 task.place task.job does.7.4 does.0 new does.7.5))
+
+tasks_anyhow : (cause : ℕ → Job → Bool → Type 0) (rate : ℕ) (tasks : List Task) (old new : List Feeder) → DidTasks cause rate tasks old new → DidTasks whatever rate tasks old new
+tasks_anyhow cause rate [] old new did = did
+tasks_anyhow cause rate (task ∷ earlier) old new did = (did.0, tasks_anyhow cause rate earlier old did.0 did.1, task_anyhow cause rate task did.0 new did.2)
+
+pub runs_anyhow : (cause : ℕ → Job → Bool → Type 0) (rate : ℕ) (old : List Feeder) (left : List FeederEnd) → RunsFor cause rate old left → RunsDecoder rate old left
+runs_anyhow cause rate old left r = record {
+  last = r.last;
+  rings = r.rings;
+  decodes = (r.decodes.0, (r.decodes.1.0, r.decodes.1.1, tasks_anyhow cause rate r.decodes.1.0 old r.decodes.1.1 r.decodes.1.2, r.decodes.1.3));
+  left = r.left;
+}

@@ -1,5 +1,5 @@
 -- What a run does to its writer's bytes, as far as they are known.
-use Rattle.std.proofs.Common.{◌≡◌, ℕ, Bool, List, [], ◌∷◌, ap, Option}
+use Rattle.std.proofs.Common.{ℕ, Bool, List, [], ◌∷◌, ap, Option}
 use Rattle.output_ring.specs.declared.drainer.Drainer.{Drainer}
 use Rattle.output_ring.specs.declared.frames.CutFrame.{CutFrame}
 use Rattle.output_ring.specs.Rings.{has_failed}

@@ -1,3 +1,4 @@
+pub mod Causes
 pub mod Decodings
 pub mod Eaches
 pub mod Heard

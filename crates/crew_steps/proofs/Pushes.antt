@@ -1,5 +1,5 @@
 -- Frames that go into rings.
-use Rattle.std.proofs.Common.{◌≡◌, inl, inr, ℕ, ℤ, ◌+◌, ◌++◌, ap, Option, Some, None, slice_index_or, ◌<◌, Bool, true, false, ◌||◌, List, [], ◌∷◌, All, length, get_or, set, take, refl, sym, subst, ◌∙◌}
+use Rattle.std.proofs.Common.{◌≡◌, inl, inr, ℕ, ℤ, ◌+◌, ◌++◌, ap, Some, None, slice_index_or, ◌<◌, Bool, true, false, ◌||◌, List, [], ◌∷◌, All, length, get_or, set, take, refl, sym, subst, ◌∙◌}
 use Rattle.std.proofs.lemmas.List.{append-nil, take_more_set}
 use Rattle.std.proofs.lemmas.List.Elements.{All-push}
 use Rattle.output_ring.specs.declared.feeder.Feeder.{Feeder}

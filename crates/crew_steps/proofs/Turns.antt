@@ -3,7 +3,7 @@ use Rattle.std.proofs.Common.{◌≡◌, inl, inr, ℕ, ◌+◌, ◌++◌, take,
 use Rattle.std.proofs.lemmas.List.{append-nil}
 use Rattle.std.proofs.lemmas.List.Elements.{All-cons, All-nil}
 use Rattle.output_ring.specs.Frames.{both, fates_in, no_fates, totals_after}
-use Rattle.output_ring.specs.Rings.{KeepsAllButReport, SameDrainer, fates_of, hand_of, has_failed, popped_of, settled_of, totals_of, unreported_of}
+use Rattle.output_ring.specs.Rings.{KeepsAllButReport, fates_of, hand_of, has_failed, popped_of, settled_of, totals_of, unreported_of}
 use Rattle.output_ring.specs.declared.drainer.Drainer.{Drainer}
 use Rattle.output_ring.proofs.Same.{same_drainer, same_drainer_trans}
 use Rattle.output_ring.specs.declared.frames.CutFrame.{CutFrame}
@@ -11,12 +11,11 @@ use Rattle.output_ring.specs.declared.frames.Fates.{Fates}
 use Rattle.output_ring.specs.declared.frames.Totals.{Totals}
 use Rattle.output_ring.specs.declared.frames.WriteFault.{WriteFault}
 use Rattle.player_events.specs.Outcomes.{OutcomeData}
-use Rattle.player_state.specs.declared.report.Heard.{Heard}
 use Rattle.player_state.specs.declared.report.Report.{Report}
 use Rattle.player_state.specs.declared.report.Report.TheVariants.{Nothing, ToScan, ScanEnded, ToDecode, ToFeed, ToPlay, Ended}
 use Rattle.counted_player.specs.Seats.{SeatCount, place}
 use Rattle.held_player.specs.Views.{TellsSomewhere, turn_of}
-use Rattle.crew_steps.specs.Turns.{AreUntold, DoesAs, Drains, GivesFates, HasTurn, HasTurns, Keeps, Obeys, Plays, Pops, Runs, TellsOutput, Waits, goes_on}
+use Rattle.crew_steps.specs.Turns.{AreUntold, DoesAs, Drains, GivesFates, HasTurn, HasTurns, Keeps, Obeys, Plays, Pops, Runs, TellsOutput, goes_on}
 
 pub pops_none : (d : Drainer) → Pops d d []
 pops_none d = record { ring = same_drainer d; popped = sym (append-nil (popped_of d)); hand = sym (append-nil (hand_of d)); fates = refl; totals = refl; unreported = refl; failed = refl }

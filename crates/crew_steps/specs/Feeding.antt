@@ -62,12 +62,16 @@ OwesOnly block new = (block ≡ []) ⊎ (owed_of new ≡ block)
 abbrev pub TakesItsOwn : (ℕ → List CutFrame) → ℕ → Feeder → Feeder → Type 0
 TakesItsOwn own n old new = SameFeeder old new × (taken_of new ≡ taken_of old ++ own n) × OwesOnly (own n) new
 
+-- whether a part of a fade has so many frames of both songs, and ends with the fade or before
+abbrev pub is_within : FadePart → ℕ → ℕ → Bool
+is_within part others count = (others == count) && nat_le (part.index + count) part.len && nat_lt part.len 4294967296
+
 -- a job's part of a fade, with the other song's frames; none where these are not as many as the job's, or end
 -- after the fade
 abbrev pub fading_of : Option FadePart → List (List ℤ) → ℕ → Option FadingData
 fading_of None others count = None
 fading_of (Some part) others count =
-    if (length others == count) && nat_le (part.index + count) part.len && nat_lt part.len 4294967296
+    if is_within part (length others) count
     then Some (record { others = others; place = part.index; len = part.len })
     else None
 
@@ -103,6 +107,10 @@ abbrev pub HandsOut : Option FadePart → List (List ℤ) → List (List ℤ) �
 HandsOut fade frames others told old new =
     EachAt (TakesItsOwn (handed (feed_told told.report) fade others frames)) 0 old new
 
+-- the same of what was read for a job
+abbrev pub HandsOutRead : Job → JobFrames → OutcomeData → List Feeder → List Feeder → Type 0
+HandsOutRead job read told old new = HandsOut job.fade read.frames.items read.others.items told old new
+
 -- the event that a song of a partition's job has failed: its own, or the one that it fades into
 abbrev pub failure_of : ℕ → ℕ → Bool → Event
 failure_of place number partner = event.Failed place number partner
@@ -113,11 +121,12 @@ abbrev pub Feeds : SeatCount → ℕ → ℕ → ℕ → Job → List (List ℤ)
 Feeds seat share_before share_after place job frames others told old new =
     FeedsSomewhere seat place job.number (length frames) told share_before share_after × HandsOut job.fade frames others told old new
 
--- A job of a partition failed: no ring took a frame, the song that failed is not open any more, and the event that
--- this song of this job has failed was told so.
-abbrev pub FailsJob : OpenSongs → SeatCount → ℕ → Job → OutcomeData → List Feeder → List Feeder → Type 0
-FailsJob songs seat place job told old new =
-    (new ≡ old) × ((partner : Bool) × IsShut songs place job partner × TellsSomewhere seat (failure_of place job.number partner) told)
+-- A job of a partition failed: no ring took a frame, a song of it has failed for one of these causes and is not open any
+-- more, and the event that this song of this job has failed was told so.
+abbrev pub FailsJob : (ℕ → Job → Bool → Type 0) → OpenSongs → SeatCount → ℕ → Job → OutcomeData → List Feeder → List Feeder → Type 0
+FailsJob cause songs seat place job told old new =
+    (new ≡ old)
+    × ((partner : Bool) × IsShut songs place job partner × cause place job partner × TellsSomewhere seat (failure_of place job.number partner) told)
 
 -- The songs of a partition's job are open: the frames that they have were read, told of, and handed out as it was
 -- told.
@@ -126,12 +135,12 @@ FeedsJob songs seat share_before share_after place job told old new =
     AreOpenFor songs place job
     × ((frames : List (List ℤ)) × (others : List (List ℤ)) × ReadsJob songs job frames others × Feeds seat share_before share_after place job frames others told old new)
 
--- A job of a partition failed, or its frames were fed, and it was told this of it; where nothing was told, there
--- was no memory, and no ring took a frame.
-abbrev pub DoesJob : OpenSongs → SeatCount → ℕ → ℕ → ℕ → Job → Option OutcomeData → List Feeder → List Feeder → Type 0
-DoesJob songs seat share_before share_after place job None old new = (share_after ≡ share_before) × (new ≡ old)
-DoesJob songs seat share_before share_after place job (Some told) old new =
-    ((share_after ≡ share_before) × FailsJob songs seat place job told old new) ⊎ FeedsJob songs seat share_before share_after place job told old new
+-- A job of a partition failed for one of these causes, or its frames were fed, and it was told this of it; where
+-- nothing was told, there was no memory, and no ring took a frame.
+abbrev pub DoesJob : (ℕ → Job → Bool → Type 0) → OpenSongs → SeatCount → ℕ → ℕ → ℕ → Job → Option OutcomeData → List Feeder → List Feeder → Type 0
+DoesJob cause songs seat share_before share_after place job None old new = (share_after ≡ share_before) × (new ≡ old)
+DoesJob cause songs seat share_before share_after place job (Some told) old new =
+    ((share_after ≡ share_before) × FailsJob cause songs seat place job told old new) ⊎ FeedsJob songs seat share_before share_after place job told old new
 
 -- What was read for a job of a partition was fed, and it was told this of it; of a song that failed the very event was
 -- told so, and no ring took a frame; without memory nothing was told.

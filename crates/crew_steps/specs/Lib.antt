@@ -1,6 +1,10 @@
+pub mod Causes
+pub mod Decoders
 pub mod Decoding
+pub mod Drainings
 pub mod Each
 pub mod Feeding
+pub mod Folders
 pub mod OpenSongs
 pub mod OutputSetups
 pub mod Rounds

@@ -1,14 +1,25 @@
 -- What contracts see of a song that is open.
-use Rattle.std.specs.Prelude.{ℕ, ◌⊎◌, All, List, Option, Some, None}
+use Rattle.std.specs.Prelude.{ℕ, ℤ, ◌≡◌, ◌⊎◌, ◌-◌, All, List, Option, Some, None, drop, take}
+use Rattle.std.specs.Global.{Vec}
 use Rattle.std.specs.declared.io.traits.Read as Read
 use Rattle.counted_devices.specs.CallCounts.{HasFailed}
 use Rattle.counted_devices.specs.declared.call_counts.CallCounts.{CallCounts}
 use Rattle.counted_devices.specs.declared.device.Failing as Failing
 use Rattle.counted_devices.specs.declared.device.Media as Media
 use Rattle.wave.specs.Devices.{CalledTooOften}
-use Rattle.crew_steps.specs.Sounds.{IsMeant, Opened}
+use Rattle.wave.specs.declared.fault.WaveFault.{WaveFault}
+use Rattle.wave.specs.declared.fault.WaveFault.TheVariants.{NoMemory, ReadFault}
+use Rattle.crew_steps.specs.Sounds.{AreOf, AreOfSome, Hold, IsMeant, Opened}
 use Rattle.crew_steps.specs.declared.part_songs.PartSongs.{PartSongs}
 use Rattle.crew_steps.specs.declared.open_song.OpenSong.{OpenSong}
+
+-- no file is to blame but by its calls: one failed, or there was no memory
+abbrev pub IsOfCalls : WaveFault → Type 0
+IsOfCalls fault = (fault ≡ ReadFault) ⊎ (fault ≡ NoMemory)
+
+-- of frames that were read together, of which this is the first, those from a place on, as many as are asked for
+abbrev pub AreFrom : ℕ → List (List ℤ) → ℕ → ℕ → Vec (List ℤ) → Type 0
+AreFrom first frames from count own = own.items ≡ take count (drop (from - first) frames)
 
 module _ {M : Type 0} {media : Media.Ghosts M} {read : Read.Ghosts M} {failing : Failing.Ghosts M} where
   abbrev pub opened : OpenSong M media read failing → Opened
@@ -17,6 +28,22 @@ module _ {M : Type 0} {media : Media.Ghosts M} {read : Read.Ghosts M} {failing :
   abbrev pub opened_in : Option (OpenSong M media read failing) → Option Opened
   opened_in None = None
   opened_in (Some song) = Some (opened song)
+
+  -- these are so many frames of a song from a place on, or as many as its file has there
+  abbrev pub AreFramesOf : OpenSong M media read failing → ℕ → ℕ → Vec (List ℤ) → Type 0
+  AreFramesOf song from count frames = AreOf (opened song) from count frames.items
+
+  -- the same of a song that is open
+  abbrev pub AreFramesIn : Option (OpenSong M media read failing) → ℕ → ℕ → Vec (List ℤ) → Type 0
+  AreFramesIn song from count frames = AreOfSome (opened_in song) from count frames.items
+
+  -- what was read together of a song holds so many frames from a place on, or as many as its file has there
+  abbrev pub HoldsOf : OpenSong M media read failing → OpenSong M media read failing → ℕ → ℕ → Type 0
+  HoldsOf song now from count = Hold (opened song) now.first now.frames.items from count
+
+  -- no song is open of a partition
+  abbrev pub AreNone : PartSongs M media read failing → Type 0
+  AreNone songs = (songs.current ≡ None) × (songs.partner ≡ None)
 
   -- the songs of a partition have frames and heads that are what their files mean at a rate
   abbrev pub AreMeant : ℕ → PartSongs M media read failing → Type 0

@@ -1,10 +1,11 @@
 -- Why a job has no frames.
 use Rattle.std.specs.Prelude.{ℕ, ℤ, ◌≡◌, ◌<◌, ◌⊎◌, Bool, List, length, Option, Some, None, Result, Ok, Err}
+use Rattle.std.specs.Global.{Vec}
 use Rattle.player_core.specs.declared.state.Job.{Job}
 use Rattle.player_core.specs.declared.state.FadePart.{FadePart}
 use Rattle.wave.specs.declared.fault.WaveFault.{WaveFault}
 use Rattle.wave.specs.declared.fault.WaveFault.TheVariants as wave
-use Rattle.crew_steps.specs.Sounds.{AreHeard, IsShut, OpenSongs, Opened}
+use Rattle.crew_steps.specs.Sounds.{AreHeard, IsShut, OpenSongs, Opened, OthersOf}
 use Rattle.crew_steps.specs.declared.song_source.SongFault.{SongFault}
 use Rattle.crew_steps.specs.declared.song_source.SongFault.TheVariants as song
 use Rattle.crew_steps.specs.declared.songs.NoFrames.{NoFrames}
@@ -13,6 +14,10 @@ use Rattle.crew_steps.specs.declared.songs.NoFrames.TheVariants.{NoMemory, Faile
 -- for want of memory, or since this song has failed: the job's own, or the one that it fades into
 abbrev pub IsFaultOf : Bool → NoFrames → Type 0
 IsFaultOf partner fault = (fault ≡ NoMemory) ⊎ (fault ≡ Failed partner)
+
+-- what holds where this song has failed: the job's own, or the one that it fades into
+abbrev pub IfFailed : {X : Type 0} → Bool → Result X NoFrames → Type 0 → Type 0
+IfFailed partner result P = result ≡ Err (Failed partner) → P
 
 -- a file whose head is refused cannot be played, and only without memory it may be later
 abbrev pub head_fault : WaveFault → SongFault
@@ -30,6 +35,10 @@ abbrev pub found_song : {S E : Type 0} → Result (Option S) E → Bool → Resu
 found_song (Ok (Some song)) partner = Ok song
 found_song (Ok None) partner = Err (Failed partner)
 found_song (Err fault) partner = Err NoMemory
+
+-- as many frames of the song that is faded into, if there is a fade
+abbrev pub AreOthersOf : OpenSongs → Option FadePart → ℕ → Vec (List ℤ) → Type 0
+AreOthersOf songs fade count others = OthersOf songs.rate fade songs.partner count others.items
 
 -- a song of the job that has failed is not open any more
 abbrev pub Fails : OpenSongs → ℕ → Job → NoFrames → Type 0

@@ -1,5 +1,5 @@
 -- What is heard of songs that are open (this profile's).
-use Rattle.std.specs.Prelude.{ℕ, ℤ, ◌≡◌, ◌-◌, ◌==◌, ◌&&◌, Bool, true, false, List, [], length, take, drop, min, Option, Some, None, Ok, if◌then◌else◌}
+use Rattle.std.specs.Prelude.{ℕ, ℤ, ◌≡◌, ◌+◌, ◌-◌, ◌==◌, ◌&&◌, ◌||◌, nat_le, not, Bool, true, false, List, [], length, take, drop, min, Option, Some, None, Ok, if◌then◌else◌}
 use Rattle.std.specs.Option.{ForSome}
 use Rattle.player_core.specs.declared.state.Job.{Job}
 use Rattle.player_core.specs.declared.state.FadePart.{FadePart}
@@ -30,6 +30,10 @@ abbrev pub Hold : Opened → ℕ → List (List ℤ) → ℕ → ℕ → Type 0
 Hold song first frames from count =
     ForSome song.known (λ bytes. take count (drop (from - first) frames) ≡ take count (drop from (frames_in bytes song.head)))
 
+-- whether so many frames that were read together, of which this is the first, hold as many as are asked for from a place on
+abbrev pub holds_all : ℕ → ℕ → ℕ → ℕ → Bool
+holds_all first many from count = nat_le first from && nat_le (from - first + count) many
+
 -- these are so many frames of a song from a place on, or as many as its file has there
 abbrev pub AreOf : Opened → ℕ → ℕ → List (List ℤ) → Type 0
 AreOf song from count frames = ForSome song.known (λ bytes. frames ≡ take count (drop from (frames_in bytes song.head)))
@@ -56,6 +60,10 @@ abbrev pub is_song : ℕ → ℕ → Option Opened → Bool
 is_song place id None = false
 is_song place id (Some song) = (song.place == place) && (song.id == id)
 
+-- the same of either of two songs
+abbrev pub is_either : ℕ → ℕ → OpenSongs → Bool
+is_either place id songs = is_song place id songs.current || is_song place id songs.partner
+
 -- whether the other song of a fade is open, if there is a fade
 abbrev pub is_partner : ℕ → Option FadePart → Option Opened → Bool
 is_partner place None partner = true
@@ -64,6 +72,10 @@ is_partner place (Some part) partner = is_song place part.partner partner
 -- the song in one of the two places
 abbrev pub song_at : Bool → OpenSongs → Option Opened
 song_at partner songs = if partner then songs.partner else songs.current
+
+-- the song in the other place is as it was
+abbrev pub KeepsOther : Bool → OpenSongs → OpenSongs → Type 0
+KeepsOther partner old new = song_at (not partner) new ≡ song_at (not partner) old
 
 -- the songs of a partition's job are open: its own, and the one that it fades into
 abbrev pub AreOpenFor : OpenSongs → ℕ → Job → Type 0

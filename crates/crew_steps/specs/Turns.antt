@@ -65,6 +65,10 @@ module _ {W : Type 0} (contents : W → Option (List ℕ)) where
     pub played : had_failed ≡ false → told.live.paused ≡ false → has_failed new ≡ false → (hand_of new ≡ []) × Appends (contents before) (contents after) (bytes_of (heard (live_at told) hand))
     pub failed : had_failed ≡ false → told.live.paused ≡ false → has_failed new ≡ true → (hand_of new ≡ []) × ((written : ℕ) × (torn : ℕ) × StopsInside (contents before) (contents after) (live_at told) hand written torn)
 
+  -- the same of a drainer's own hand
+  abbrev pub PlaysHand : Heard → Drainer → W → Drainer → W → Type 0
+  PlaysHand told old before new after = Plays told (hand_of old) (has_failed old) before new after
+
   -- an output does with its hand what its turn was told; at the end it leaves all as it is
   abbrev pub DoesAs : Report → Drainer → W → Drainer → W → Type 0
   DoesAs (ToPlay told) old before new after = (popped_of new ≡ popped_of old) × Plays told (hand_of old) (has_failed old) before new after × GivesFates old new

@@ -1,6 +1,6 @@
 //! The thread that decodes.
 ghost use Rattle.std.specs.Prelude.{◌≡◌, IfErr, nat_le};
-ghost use Rattle.crew_steps.specs.Feeding.{HandsOut, feed_told};
+ghost use Rattle.crew_steps.specs.Feeding.{HandsOutRead, feed_told};
 ghost use Rattle.crew_steps.specs.Songs.{IsFaultOf, found_song};
 
 use crate::feeders::{are_among, finish_all, owing, push_all, take_all};
@@ -96,18 +96,20 @@ impl<'h, L: Ledgers, S: SongSource<M> + Drop, M: Media + Drop, R: Wait + Clock> 
     M,
     R,
 > {
-    ghost use Rattle.std.specs.Prelude.{◌≡◌, ◌<◌, ◌≤◌, [], false, true, not, IfErr, IfOk, OnErr, OnOk, vec_len, vec_capacity};
+    ghost use Rattle.std.specs.Prelude.{◌≡◌, ◌<◌, ◌≤◌, [], false, true, IfErr, IfOk, OnErr, OnOk, vec_len, vec_capacity};
     ghost use Rattle.output_ring.specs.Rings.{EndsFeeder, SameFeeder};
     ghost use Rattle.player_events.specs.declared.event.Event.TheVariants.{Want};
-    ghost use Rattle.held_player.specs.Views.{FeedsShare, TellsSomewhere};
-    ghost use Rattle.crew_steps.specs.Decoding.{AsksFor, DecodesAll, DecodesOnce, RunsDecoder};
+    ghost use Rattle.held_player.specs.Views.{TellsSomewhere};
+    ghost use Rattle.crew_steps.specs.Decoders.{Decodes, DecodesAllWith, DecodesOnceWith, EndsJobOf, FeedsRead, FinishesRead, IsNotOpenedBy, KeepsSeat, PartnerIsNotOpenedBy, RunsWith, TellsFrames, open_of};
+    ghost use Rattle.crew_steps.specs.Decoding.{AsksFor, GivesJob, RunsDecoder};
     ghost use Rattle.crew_steps.specs.Each.{Each};
-    ghost use Rattle.crew_steps.specs.Feeding.{DoesJob, Feeds, FinishesJob, OwesNothingSomewhere, TakesNone, failure_of, owing as owing_lem};
-    ghost use Rattle.crew_steps.specs.Shown.{songs_of};
-    ghost use Rattle.crew_steps.specs.Songs.{Fails, IsFaultOf};
-    ghost use Rattle.crew_steps.specs.Sounds.{AreOpenFor, ReadsJob, is_partner, is_song, song_at};
+    ghost use Rattle.crew_steps.specs.Feeding.{OwesNothingSomewhere, TakesNone, failure_of, owing as owing_lem};
+    ghost use Rattle.crew_steps.specs.Rounds.{all_passed, passed_after, seen_by};
+    ghost use Rattle.crew_steps.specs.Shown.{IsReadFor};
+    ghost use Rattle.crew_steps.specs.Songs.{Fails, IfFailed, IsFaultOf};
+    ghost use Rattle.crew_steps.specs.Sounds.{AreOpenFor, KeepsOther, is_partner, is_song, song_at};
 
-    /// A decoder of songs of this rate.
+    /// A decoder of songs of this rate, which it has of this source.
     pub fn new(
         rt: &'h R,
         alloc: Global,
@@ -117,7 +119,8 @@ impl<'h, L: Ledgers, S: SongSource<M> + Drop, M: Media + Drop, R: Wait + Clock> 
         share: Share<Decoded<L>>,
     ) -> Self
         requires { share.parts ≡ 1 }
-        ensures { result.songs.rate ≡ rate }
+        ensures rate { result.songs.rate ≡ rate }
+        ensures source { result.songs.source ≡ source }
     {
         Decoder {
             rt,
@@ -142,7 +145,8 @@ impl<'h, L: Ledgers, S: SongSource<M> + Drop, M: Media + Drop, R: Wait + Clock> 
     pub fn run(self, feeders: Vec<Feeder>, room: Vec<FeederEnd>) -> DecoderEnd<L>
         requires { (room.items ≡ []) × (vec_len feeders ≤ vec_capacity room) }
         ensures rings { Each EndsFeeder feeders.items result.ends.items }
-        ensures decodes { RunsDecoder self.entry.songs.rate feeders.items result.ends.items }
+        ensures decodes { RunsWith self.entry feeders result.ends }
+        ensures known { RunsDecoder self.entry.songs.rate feeders.items result.ends.items }
     {
         let mut decoder = self;
         let mut feeders = feeders;
@@ -157,7 +161,7 @@ impl<'h, L: Ledgers, S: SongSource<M> + Drop, M: Media + Drop, R: Wait + Clock> 
     /// Goes on until it is told of the end, and says what it was told.
     fn keep_decoding(&mut self, feeders: &mut Vec<Feeder>) -> Reported
         ensures rings { Each SameFeeder feeders.old.items feeders.new.items }
-        ensures decodes { DecodesAll self.old.songs.rate result feeders.old.items feeders.new.items }
+        ensures decodes { DecodesAllWith self.old result feeders.old feeders.new }
     {
         let rt = self.rt;
         for _ in rt.forever() {
@@ -174,7 +178,7 @@ impl<'h, L: Ledgers, S: SongSource<M> + Drop, M: Media + Drop, R: Wait + Clock> 
     #[tactic(auto, using(crate::proofs::Pushes::each_kept))]
     fn decode_once(&mut self, feeders: &mut Vec<Feeder>) -> Option<Reported>
         ensures rings { Each SameFeeder feeders.old.items feeders.new.items }
-        ensures decodes { DecodesOnce self.old.songs.rate result feeders.old.items feeders.new.items }
+        ensures decodes { DecodesOnceWith self.old result feeders.old feeders.new }
         ensures rate { self.new.songs.rate ≡ self.old.songs.rate }
     {
         let owes = self.push(feeders);
@@ -198,6 +202,7 @@ impl<'h, L: Ledgers, S: SongSource<M> + Drop, M: Media + Drop, R: Wait + Clock> 
     #[tactic(auto, using(crate::proofs::Wanted::owes_nothing))]
     fn ask(&mut self, place: u8, owes: [bool; 8], partitions: usize) -> Next
         ensures asks { AsksFor self.old.seat place owes result }
+        ensures idle { GivesJob result → self.new.idle ≡ 0 }
         ensures rate { self.new.songs.rate ≡ self.old.songs.rate }
     {
         let Ok(told) = self.want(place, owes) else {
@@ -244,7 +249,12 @@ impl<'h, L: Ledgers, S: SongSource<M> + Drop, M: Media + Drop, R: Wait + Clock> 
     /// Passes over a partition of which nothing can be decoded now. Once all were passed over, one after the
     /// other, it rests.
     fn pass(&mut self, changes: u64, owes: [bool; 8], partitions: usize)
-        ensures { self.new.songs.rate ≡ self.old.songs.rate }
+        ensures passed { self.new.idle ≡ passed_after self.old.idle partitions }
+        ensures seen { self.new.seen ≡ seen_by self.old.idle self.old.seen changes }
+        // A rest ends what it decoded without one.
+        ensures rests { all_passed self.old.idle partitions ≡ true → self.new.streak ≡ 0 }
+        ensures goes_on { all_passed self.old.idle partitions ≡ false → self.new.streak ≡ self.old.streak }
+        ensures rate { self.new.songs.rate ≡ self.old.songs.rate }
     {
         self.seen = if self.idle == 0 { changes } else { self.seen };
         self.idle = self.idle.saturating_add(1);
@@ -293,7 +303,7 @@ impl<'h, L: Ledgers, S: SongSource<M> + Drop, M: Media + Drop, R: Wait + Clock> 
     fn decode(&mut self, feeders: &mut Vec<Feeder>, place: u8, job: &Job) -> Option<Reported>
         requires { OwesNothingSomewhere place (owing_lem feeders.old.items) }
         ensures rings { Each SameFeeder feeders.old.items feeders.new.items }
-        ensures decodes { DoesJob (songs_of self.new.songs) self.old.seat self.old.share.amount self.new.share.amount place job.now result feeders.old.items feeders.new.items }
+        ensures decodes { Decodes place job.now result self.old feeders.old self.new feeders.new }
         ensures rate { self.new.songs.rate ≡ self.old.songs.rate }
     {
         let read = self.read(place, job);
@@ -309,7 +319,7 @@ impl<'h, L: Ledgers, S: SongSource<M> + Drop, M: Media + Drop, R: Wait + Clock> 
         job: &Job,
         read: Result<JobFrames, NoFrames>,
     ) -> Option<Reported>
-        ensures finishes { FinishesJob self.old.seat self.old.share.amount self.new.share.amount place job.now read result feeders.old.items feeders.new.items }
+        ensures finishes { FinishesRead place job.now read result self.old feeders.old self.new feeders.new }
         ensures songs { self.new.songs ≡ self.old.songs }
     {
         match read {
@@ -322,7 +332,7 @@ impl<'h, L: Ledgers, S: SongSource<M> + Drop, M: Media + Drop, R: Wait + Clock> 
     /// Tells that the frames of a job are decoded, and hands them out as it is told.
     #[tactic(auto, using(crate::proofs::Decodings::feeds))]
     fn feed(&mut self, feeders: &mut Vec<Feeder>, place: u8, job: &Job, read: JobFrames) -> Reported
-        ensures feeds { Feeds self.old.seat self.old.share.amount self.new.share.amount place job.now read.frames.items read.others.items result feeders.old.items feeders.new.items }
+        ensures feeds { FeedsRead place job.now read result self.old feeders.old self.new feeders.new }
         ensures songs { self.new.songs ≡ self.old.songs }
     {
         self.streak = self.streak.saturating_add(1);
@@ -333,10 +343,11 @@ impl<'h, L: Ledgers, S: SongSource<M> + Drop, M: Media + Drop, R: Wait + Clock> 
 
     /// Reads the frames of a job, and opens its songs where they are not open yet.
     fn read(&mut self, place: u8, job: &Job) -> Result<JobFrames, NoFrames>
-        ensures open { OnOk result (AreOpenFor (songs_of self.new.songs) place job.now) }
-        ensures read { IfOk result (λ r. ReadsJob (songs_of self.new.songs) job.now r.frames.items r.others.items) }
-        ensures failed { IfErr result (Fails (songs_of self.new.songs) place job.now) }
-        ensures kept { (self.new.seat ≡ self.old.seat) × (self.new.share ≡ self.old.share) }
+        ensures open { OnOk result (AreOpenFor (open_of self.new) place job.now) }
+        ensures read { IfOk result (IsReadFor (open_of self.new) job.now) }
+        ensures failed { IfErr result (Fails (open_of self.new) place job.now) }
+        ensures cause { IfErr result (EndsJobOf self.old place job.now) }
+        ensures kept { KeepsSeat self.old self.new }
         ensures rate { self.new.songs.rate ≡ self.old.songs.rate }
     {
         // The first job of a partition is number 1.
@@ -348,10 +359,11 @@ impl<'h, L: Ledgers, S: SongSource<M> + Drop, M: Media + Drop, R: Wait + Clock> 
 
     /// Opens the song of this id as the current one, unless it is open.
     fn open_current(&mut self, place: u8, id: u32) -> Result<(), NoFrames>
-        ensures open { OnOk result (is_song place id (songs_of self.new.songs).current ≡ true) }
-        ensures shut { OnErr result (is_song place id (songs_of self.new.songs).current ≡ false) }
+        ensures open { OnOk result (is_song place id (open_of self.new).current ≡ true) }
+        ensures shut { OnErr result (is_song place id (open_of self.new).current ≡ false) }
         ensures fault { IfErr result (IsFaultOf false) }
-        ensures kept { (self.new.seat ≡ self.old.seat) × (self.new.share ≡ self.old.share) }
+        ensures cause { IfFailed false result (IsNotOpenedBy self.old place id) }
+        ensures kept { KeepsSeat self.old self.new }
         ensures rate { self.new.songs.rate ≡ self.old.songs.rate }
     {
         if self.songs.is_current(place, id) {
@@ -362,11 +374,12 @@ impl<'h, L: Ledgers, S: SongSource<M> + Drop, M: Media + Drop, R: Wait + Clock> 
 
     /// Opens the song that a job fades into as the partner, if it fades, unless it is open.
     fn open_partner(&mut self, place: u8, fade: Option<FadePart>) -> Result<(), NoFrames>
-        ensures open { OnOk result (is_partner place fade (songs_of self.new.songs).partner ≡ true) }
-        ensures shut { OnErr result (is_partner place fade (songs_of self.new.songs).partner ≡ false) }
+        ensures open { OnOk result (is_partner place fade (open_of self.new).partner ≡ true) }
+        ensures shut { OnErr result (is_partner place fade (open_of self.new).partner ≡ false) }
         ensures fault { IfErr result (IsFaultOf true) }
-        ensures current { (songs_of self.new.songs).current ≡ (songs_of self.old.songs).current }
-        ensures kept { (self.new.seat ≡ self.old.seat) × (self.new.share ≡ self.old.share) }
+        ensures cause { IfFailed true result (PartnerIsNotOpenedBy self.old place fade) }
+        ensures current { (open_of self.new).current ≡ (open_of self.old).current }
+        ensures kept { KeepsSeat self.old self.new }
         ensures rate { self.new.songs.rate ≡ self.old.songs.rate }
     {
         let Some(part) = fade else {
@@ -381,11 +394,12 @@ impl<'h, L: Ledgers, S: SongSource<M> + Drop, M: Media + Drop, R: Wait + Clock> 
     /// Opens the song of an entry of a partition's queue, as the current one or as its partner. One that left
     /// the queue has failed, as has one of a partition that is gone.
     fn open(&mut self, place: u8, id: u32, partner: bool) -> Result<(), NoFrames>
-        ensures open { OnOk result (is_song place id (song_at partner (songs_of self.new.songs)) ≡ true) }
-        ensures other { song_at (not partner) (songs_of self.new.songs) ≡ song_at (not partner) (songs_of self.old.songs) }
+        ensures open { OnOk result (is_song place id (song_at partner (open_of self.new)) ≡ true) }
+        ensures other { KeepsOther partner (open_of self.old) (open_of self.new) }
         ensures fault { IfErr result (IsFaultOf partner) }
-        ensures shut { OnErr result (songs_of self.new.songs ≡ songs_of self.old.songs) }
-        ensures kept { (self.new.seat ≡ self.old.seat) × (self.new.share ≡ self.old.share) }
+        ensures cause { IfFailed partner result (IsNotOpenedBy self.old place id) }
+        ensures shut { OnErr result (open_of self.new ≡ open_of self.old) }
+        ensures kept { KeepsSeat self.old self.new }
         ensures rate { self.new.songs.rate ≡ self.old.songs.rate }
     {
         let song = song_found(self.house.song(self.rt, place, id), partner)?;
@@ -394,7 +408,7 @@ impl<'h, L: Ledgers, S: SongSource<M> + Drop, M: Media + Drop, R: Wait + Clock> 
 
     /// Tells that frames of a partition's job are decoded; where that is refused, again after a while.
     fn have(&mut self, place: u8, number: u64, frames: u64) -> Reported
-        ensures told { FeedsShare self.old.seat place number frames self.old.share.amount self.new.share.amount result }
+        ensures told { TellsFrames place number frames result self.old self.new }
         ensures songs { self.new.songs ≡ self.old.songs }
     {
         let rt = self.rt;
@@ -431,7 +445,9 @@ impl<'h, L: Ledgers, S: SongSource<M> + Drop, M: Media + Drop, R: Wait + Clock> 
     /// Rests until something changes. While frames still leave the rings it looks by time, since nothing
     /// tells of them, whether a song is played or the last one has ended.
     fn rest(&mut self, seen: u64, owes: bool)
-        ensures { self.new.songs.rate ≡ self.old.songs.rate }
+        ensures rests { self.new.streak ≡ 0 }
+        ensures kept { (self.new.idle ≡ self.old.idle) × (self.new.seen ≡ self.old.seen) }
+        ensures rate { self.new.songs.rate ≡ self.old.songs.rate }
     {
         // A rest of a block's time may be over late, so that two went. Where more did, it was too long.
         self.wait = if self.streak > 2 {
@@ -479,7 +495,7 @@ fn song_found(
 /// Mixes the frames of a job that was accepted, and hands them to the outputs that they are for.
 #[tactic(auto, using(crate::proofs::Pushes::none_fed))]
 fn hand_out(rt: &impl Wait, feeders: &mut Vec<Feeder>, job: &Job, read: JobFrames, told: &Reported)
-    ensures { HandsOut job.now.fade read.frames.items read.others.items told.now feeders.old.items feeders.new.items }
+    ensures { HandsOutRead job.now read told.now feeders.old.items feeders.new.items }
 {
     let Some(feed) = feed_of(told) else {
         return;

@@ -1,9 +1,9 @@
 //! What the thread of an output does.
 ghost use Rattle.std.specs.Prelude.{◌≡◌, ◌+◌, ◌<◌, ◌||◌, List, IfSome, min};
 ghost use Rattle.frame_ledger.specs.Shares.{HasOnePart};
-ghost use Rattle.output_ring.specs.Rings.{SameDrainer, hand_of, has_failed, popped_of};
+ghost use Rattle.output_ring.specs.Rings.{SameDrainer, has_failed, popped_of};
 ghost use Rattle.output_ring.specs.declared.frames.CutFrame.{CutFrame};
-ghost use Rattle.crew_steps.specs.Turns.{GivesFates, Plays, Pops};
+ghost use Rattle.crew_steps.specs.Turns.{GivesFates, PlaysHand, Pops};
 
 use crate::output::{Gate, OutputEnd};
 use counted_devices::Sink;
@@ -56,9 +56,10 @@ pub struct Draining<'h, L: Ledgers, O: Sink + Drop, G: Gate, R: Wait + Clock> {
 impl<'h, L: Ledgers, O: Sink + Drop, G: Gate, R: Wait + Clock> Draining<'h, L, O, G, R> {
     ghost use Rattle.std.specs.Prelude.{◌≡◌, ◌<◌, ◌||◌, false, None, IfSome};
     ghost use Rattle.frame_ledger.specs.Shares.{HasOnePart};
-    ghost use Rattle.output_ring.specs.Rings.{SameDrainer, has_failed};
+    ghost use Rattle.output_ring.specs.Rings.{SameDrainer};
     ghost use Rattle.player_state.specs.declared.report.Report.TheVariants.{Ended};
-    ghost use Rattle.crew_steps.specs.Turns.{DoesAs, Drains, HasRun, Runs, RunsToEnd, TellsOutput, goes_on};
+    ghost use Rattle.crew_steps.specs.Drainings.{DrainsOnce, HasRunTo, KeepsKnowing, KeepsWriter, ObeysTurn, RunsOut, RunsTo};
+    ghost use Rattle.crew_steps.specs.Turns.{TellsOutput, goes_on};
 
     /// The output of this number.
     pub fn new(
@@ -90,8 +91,8 @@ impl<'h, L: Ledgers, O: Sink + Drop, G: Gate, R: Wait + Clock> Draining<'h, L, O
     /// turn left it.
     pub fn run(self, drainer: Drainer) -> OutputEnd<L>
         ensures ring { SameDrainer drainer result.drainer }
-        ensures runs { self.entry.failed ≡ has_failed drainer → RunsToEnd O.contents self.entry.output drainer self.entry.writer result.drainer }
-        ensures known { self.entry.failed ≡ has_failed drainer → HasRun self.entry.output drainer result.drainer }
+        ensures runs { RunsOut O.contents self.entry drainer result.drainer }
+        ensures known { HasRunTo self.entry drainer result.drainer }
     {
         let mut drainer = drainer;
         let mut draining = self;
@@ -102,7 +103,7 @@ impl<'h, L: Ledgers, O: Sink + Drop, G: Gate, R: Wait + Clock> Draining<'h, L, O
     /// Goes on until a turn is told of the end, and says what that one was told.
     fn keep_draining(&mut self, drainer: &mut Drainer) -> Reported
         ensures ring { SameDrainer drainer.old drainer.new }
-        ensures runs { self.old.failed ≡ has_failed drainer.old → Runs O.contents self.old.output result drainer.old self.old.writer drainer.new self.new.writer }
+        ensures runs { RunsTo O.contents result self.old drainer.old self.new drainer.new }
     {
         let rt = self.rt;
         for _ in rt.forever() {
@@ -118,8 +119,8 @@ impl<'h, L: Ledgers, O: Sink + Drop, G: Gate, R: Wait + Clock> Draining<'h, L, O
     #[tactic(auto, using(crate::proofs::Turns::still, crate::proofs::Turns::waited))]
     fn drain_once(&mut self, drainer: &mut Drainer) -> Option<Reported>
         ensures ring { SameDrainer drainer.old drainer.new }
-        ensures drains { Drains O.contents self.old.output self.old.failed result drainer.old self.old.writer drainer.new self.new.writer }
-        ensures failed { self.old.failed ≡ has_failed drainer.old → self.new.failed ≡ has_failed drainer.new }
+        ensures drains { DrainsOnce O.contents result self.old drainer.old self.new drainer.new }
+        ensures failed { KeepsKnowing self.old drainer.old self.new drainer.new }
         ensures output { self.new.output ≡ self.old.output }
     {
         if !self.gate.ask(self.output) {
@@ -142,8 +143,8 @@ impl<'h, L: Ledgers, O: Sink + Drop, G: Gate, R: Wait + Clock> Draining<'h, L, O
     /// Gives the frames of the hand the fates that its turn was told. False at the end.
     fn obey(&mut self, drainer: &mut Drainer, popped: usize, told: &Reported) -> bool
         ensures ring { SameDrainer drainer.old drainer.new }
-        ensures does { DoesAs O.contents told.now.report drainer.old self.old.writer drainer.new self.new.writer }
-        ensures failed { self.old.failed ≡ has_failed drainer.old → self.new.failed ≡ has_failed drainer.new }
+        ensures does { ObeysTurn O.contents told.now.report self.old drainer.old self.new drainer.new }
+        ensures failed { KeepsKnowing self.old drainer.old self.new drainer.new }
         ensures output { self.new.output ≡ self.old.output }
         ensures goes { result ≡ goes_on told.now.report }
         ensures ends { result ≡ false → told.now.report ≡ Ended }
@@ -180,7 +181,7 @@ impl<'h, L: Ledgers, O: Sink + Drop, G: Gate, R: Wait + Clock> Draining<'h, L, O
     /// refused.
     #[tactic(auto, using(crate::proofs::Turns::of_output))]
     fn tell(&mut self, fates: Fates) -> Option<Reported>
-        ensures kept { (self.new.writer ≡ self.old.writer) × (self.new.failed ≡ self.old.failed) × (self.new.output ≡ self.old.output) }
+        ensures kept { KeepsWriter self.old self.new }
         ensures told { IfSome result (TellsOutput self.old.output fates self.old.failed) }
         ensures untold { result ≡ None → self.new.shares ≡ self.old.shares }
     {
@@ -201,7 +202,7 @@ impl<'h, L: Ledgers, O: Sink + Drop, G: Gate, R: Wait + Clock> Draining<'h, L, O
     /// Rests until something changes. It is woken before new frames are in its ring, so after a change it
     /// looks once more soon.
     fn rest(&mut self, changes: u64, enabled: bool)
-        ensures { (self.new.writer ≡ self.old.writer) × (self.new.failed ≡ self.old.failed) × (self.new.output ≡ self.old.output) }
+        ensures { KeepsWriter self.old self.new }
     {
         self.streak = 0;
         if enabled && self.seen != changes {
@@ -265,7 +266,7 @@ struct Wrote {
 /// Gives the frames of the hand their fates.
 #[tactic(auto, using(crate::proofs::Turns::gives))]
 fn write_hand<O: Sink>(drainer: &mut Drainer, writer: &mut O, heard: Heard) -> Wrote
-    ensures plays { Plays O.contents heard (hand_of drainer.old) (has_failed drainer.old) writer.old drainer.new writer.new }
+    ensures plays { PlaysHand O.contents heard drainer.old writer.old drainer.new writer.new }
     ensures failed { has_failed drainer.new ≡ (has_failed drainer.old || result.failed) }
     ensures popped { popped_of drainer.new ≡ popped_of drainer.old }
     ensures fates { GivesFates drainer.old drainer.new }

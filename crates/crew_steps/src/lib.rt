@@ -18,7 +18,7 @@ mod songs;
 
 pub use decoder::{Decoder, DecoderEnd};
 pub use draining::Draining;
-pub use folder::Folder;
+pub use folder::{Folder, Paths};
 pub use new_rings::output_setups;
 pub use output::{Gate, Open, OutputEnd};
 pub use output_setup::OutputSetup;

@@ -1,6 +1,6 @@
 //! The block of a job.
-ghost use Rattle.std.specs.Prelude.{◌≡◌, ◌+◌, ◌&&◌, ◌==◌, length, nat_le, nat_lt};
-ghost use Rattle.crew_steps.specs.Feeding.{block_at};
+ghost use Rattle.std.specs.Prelude.{◌≡◌};
+ghost use Rattle.crew_steps.specs.Feeding.{block_at, is_within as is_within_lem};
 
 use pcm_mix::{Fading, Frame, mix};
 use player_core::FadePart;
@@ -28,7 +28,7 @@ pub(crate) fn mix_block(frames: &mut [Frame], others: &[Frame], fade: Option<Fad
 
 /// Whether a part of a fade has so many frames of both songs, and ends with the fade or before.
 fn is_within(part: FadePart, others: usize, count: usize) -> bool
-    ensures { result ≡ ((others == count) && nat_le (part.index + count) part.len && nat_lt part.len 4294967296) }
+    ensures { result ≡ is_within_lem part others count }
 {
     others == count
         && part.len <= u64::from(u32::MAX)

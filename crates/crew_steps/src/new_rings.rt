@@ -1,7 +1,6 @@
 //! The rings of the outputs.
 ghost use Rattle.std.specs.Prelude.{◌≡◌, ◌≤◌, IfOk, vec_len};
-ghost use Rattle.crew_steps.specs.Each.{Each};
-ghost use Rattle.crew_steps.specs.OutputSetups.{IsSetupOf};
+ghost use Rattle.crew_steps.specs.OutputSetups.{AreSetupsOf, IsSetupOf};
 
 use crate::output_setup::OutputSetup;
 use output_ring::ring;
@@ -14,7 +13,7 @@ pub fn output_setups<O: Drop>(
     writers: Vec<O>,
 ) -> Result<Vec<OutputSetup<O>>, AllocError>
     ensures count { IfOk result (λ output_setups. vec_len output_setups ≡ vec_len writers) }
-    ensures output_setups { IfOk result (λ output_setups. Each (IsSetupOf frames) writers.items output_setups.items) }
+    ensures output_setups { IfOk result (AreSetupsOf frames writers) }
 {
     let mut output_setups = Vec::new(alloc);
     output_setups.reserve(writers.len())?;

@@ -1,5 +1,4 @@
 //! A song that is open.
-ghost use Rattle.std.specs.Prelude.{◌≡◌, ◌+◌, ◌-◌, ◌≤◌, ◌⊎◌, ◌&&◌, nat_le, take, drop, vec_len, IfOk, IfErr, OnOk};
 ghost use Rattle.crew_steps.specs.Sounds.{StandFrom};
 
 use counted_devices::Media;
@@ -23,11 +22,11 @@ pub(crate) struct OpenSong<M: Media + Drop> {
 }
 
 impl<M: Media + Drop> OpenSong<M> {
-    ghost use Rattle.std.specs.Prelude.{◌≡◌, ◌+◌, ◌-◌, ◌≤◌, ◌⊎◌, ◌&&◌, ◌==◌, nat_le, take, drop, vec_len, IfOk, IfErr, OnOk};
+    ghost use Rattle.std.specs.Prelude.{◌≡◌, ◌≤◌, ◌&&◌, ◌==◌, vec_len, IfOk, IfErr, OnOk};
     ghost use Rattle.wave.specs.Devices.{ReadFaultHasCause};
     ghost use Rattle.wave.specs.declared.fault.WaveFault.{WaveFault};
-    ghost use Rattle.crew_steps.specs.Sounds.{AreOf, Hold};
-    ghost use Rattle.crew_steps.specs.OpenSongs.{calls_of, opened};
+    ghost use Rattle.crew_steps.specs.Sounds.{holds_all};
+    ghost use Rattle.crew_steps.specs.OpenSongs.{AreFramesOf, AreFrom, HoldsOf, IsOfCalls, calls_of, opened};
 
     /// The song of this id in the queue of a partition, in a file whose head this is.
     pub(crate) fn new(alloc: Global, place: u8, id: u32, file: M, head: Head) -> OpenSong<M>
@@ -56,9 +55,9 @@ impl<M: Media + Drop> OpenSong<M> {
         from: u64,
         count: usize,
     ) -> Result<Vec<Frame>, WaveFault>
-        ensures value { count ≤ WIDTH → IfOk result (λ frames. AreOf (opened self.old) from count frames.items) }
+        ensures value { count ≤ WIDTH → IfOk result (AreFramesOf self.old from count) }
         ensures count { IfOk result (λ frames. vec_len frames ≤ count) }
-        ensures fault { IfErr result (λ fault. (fault ≡ WaveFault.ReadFault) ⊎ (fault ≡ WaveFault.NoMemory)) }
+        ensures fault { IfErr result IsOfCalls }
         ensures cause { ReadFaultHasCause (calls_of self.old) (calls_of self.new) result }
         ensures song { opened self.new ≡ opened self.old }
     {
@@ -69,8 +68,8 @@ impl<M: Media + Drop> OpenSong<M> {
     /// Reads these frames, together with those after them, unless they were read already.
     #[tactic(auto, using(crate::proofs::Spans::held_already))]
     fn fetch(&mut self, alloc: Global, from: u64, count: usize) -> Result<(), WaveFault>
-        ensures held { count ≤ WIDTH → OnOk result (Hold (opened self.old) self.new.first self.new.frames.items from count) }
-        ensures fault { IfErr result (λ fault. (fault ≡ WaveFault.ReadFault) ⊎ (fault ≡ WaveFault.NoMemory)) }
+        ensures held { count ≤ WIDTH → OnOk result (HoldsOf self.old self.new from count) }
+        ensures fault { IfErr result IsOfCalls }
         ensures cause { ReadFaultHasCause (calls_of self.old) (calls_of self.new) result }
         ensures song { opened self.new ≡ opened self.old }
     {
@@ -85,8 +84,8 @@ impl<M: Media + Drop> OpenSong<M> {
     /// Reads frames from a place on together.
     #[tactic(auto, using(crate::proofs::Spans::frames_given))]
     fn read(&mut self, alloc: Global, from: u64) -> Result<Vec<Frame>, WaveFault>
-        ensures value { IfOk result (λ frames. AreOf (opened self.old) from WIDTH frames.items) }
-        ensures fault { IfErr result (λ fault. (fault ≡ WaveFault.ReadFault) ⊎ (fault ≡ WaveFault.NoMemory)) }
+        ensures value { IfOk result (AreFramesOf self.old from WIDTH) }
+        ensures fault { IfErr result IsOfCalls }
         ensures cause { ReadFaultHasCause (calls_of self.old) (calls_of self.new) result }
         ensures song { opened self.new ≡ opened self.old }
     {
@@ -95,7 +94,7 @@ impl<M: Media + Drop> OpenSong<M> {
 
     /// Whether the frames that were read together have these.
     fn has(&self, from: u64, count: usize) -> bool
-        ensures { result ≡ (nat_le self.now.first from && nat_le (from - self.now.first + count) (vec_len self.now.frames)) }
+        ensures { result ≡ holds_all self.now.first (vec_len self.now.frames) from count }
     {
         let many = self.frames.len() as u64;
         from >= self.first
@@ -105,7 +104,7 @@ impl<M: Media + Drop> OpenSong<M> {
 
     /// Those of the frames that were read together, from a place on, as many as are asked for.
     fn held(&self, alloc: Global, from: u64, count: usize) -> Result<Vec<Frame>, WaveFault>
-        ensures value { IfOk result (λ own. own.items ≡ take count (drop (from - self.now.first) self.now.frames.items)) }
+        ensures value { IfOk result (AreFrom self.now.first self.now.frames.items from count) }
         ensures fault { IfErr result (λ fault. fault ≡ WaveFault.NoMemory) }
     {
         let start = (from.saturating_sub(self.first) as usize).min(self.frames.len());

@@ -1,6 +1,7 @@
 //! Songs that are open of a partition, while another has its turn.
-ghost use Rattle.std.specs.Prelude.{ℕ, ◌≡◌, ◌<◌, IfSome, None, false, length, slice_index_or, true, vec_capacity, vec_len};
-ghost use Rattle.crew_steps.specs.OpenSongs.{AreMeant, ExchangesMeant, StayMeant};
+ghost use Rattle.std.specs.Prelude.{ℕ, ◌≡◌, ◌<◌, IfSome, None, false, length, true, vec_capacity, vec_len};
+ghost use Rattle.crew_steps.specs.OpenSongs.{AreMeant, AreNone, ExchangesMeant, StayMeant};
+ghost use Rattle.crew_steps.specs.Rounds.{has_number};
 
 use crate::open_song::OpenSong;
 use crate::rounds::is_there;
@@ -65,8 +66,8 @@ pub(crate) fn close_gone<M: Media + Drop>(others: &mut Vec<PartSongs<M>>, places
 
 /// Closes the songs of a partition if it is gone.
 fn close_one_gone<M: Media + Drop>(songs: &mut PartSongs<M>, places: [bool; 16])
-    ensures closed { slice_index_or places songs.old.place false ≡ false → (songs.new.current ≡ None) × (songs.new.partner ≡ None) }
-    ensures kept { slice_index_or places songs.old.place false ≡ true → songs.new ≡ songs.old }
+    ensures closed { has_number places songs.old.place ≡ false → AreNone songs.new }
+    ensures kept { has_number places songs.old.place ≡ true → songs.new ≡ songs.old }
     ensures meant { (rate : ℕ) → AreMeant rate songs.old → AreMeant rate songs.new }
 {
     if is_there(places, songs.place) {

@@ -1,10 +1,10 @@
 //! The numbers of the partitions, which have their turns one after the other.
-ghost use Rattle.std.specs.Prelude.{◌≡◌, false, filter, length, slice_index_or};
-ghost use Rattle.crew_steps.specs.Rounds.{first_from as first_from_lem, next_of};
+ghost use Rattle.std.specs.Prelude.{◌≡◌, filter, length};
+ghost use Rattle.crew_steps.specs.Rounds.{first_from as first_from_lem, has_number, next_of};
 
 /// Whether a partition has this number, of sixteen numbers of which these have one.
 pub(crate) fn is_there(places: [bool; 16], place: u8) -> bool
-    ensures { result ≡ slice_index_or places place false }
+    ensures { result ≡ has_number places place }
 {
     match places.get(usize::from(place)) {
         Some(is_there) => *is_there,

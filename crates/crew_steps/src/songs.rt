@@ -1,8 +1,8 @@
 //! The songs that are being decoded.
-ghost use Rattle.std.specs.Prelude.{◌≡◌, ◌≤◌, ◌⊎◌, All, IfOk, IfErr, vec_len};
-ghost use Rattle.crew_steps.specs.OpenSongs.{AreMeant, HasFault, opened_in};
+ghost use Rattle.std.specs.Prelude.{◌≡◌, ◌≤◌, All, IfOk, IfErr, vec_len};
+ghost use Rattle.crew_steps.specs.OpenSongs.{AreFramesIn, AreMeant, HasFault, opened_in};
 ghost use Rattle.crew_steps.specs.Songs.{IsFaultOf, frames_fault, head_fault};
-ghost use Rattle.crew_steps.specs.Sounds.{AreOfSome, IsMeant, is_song};
+ghost use Rattle.crew_steps.specs.Sounds.{IsMeant, is_song};
 
 use crate::open_song::{OpenSong, WIDTH};
 use crate::part_songs::{PartSongs, close_gone, exchange};
@@ -50,15 +50,18 @@ pub(crate) struct Songs<S: SongSource<M> + Drop, M: Media + Drop> {
 }
 
 impl<S: SongSource<M> + Drop, M: Media + Drop> Songs<S, M> {
-    ghost use Rattle.std.specs.Prelude.{◌≡◌, ◌≤◌, ◌⊎◌, ◌||◌, Bool, true, false, None, Some, Err, IfOk, IfErr, IsOk, OnErr, OnOk, if◌then◌else◌, not, slice_index_or, vec_len};
+    ghost use Rattle.std.specs.Prelude.{◌≡◌, ◌≤◌, Bool, true, false, None, Some, Err, IfOk, IfErr, IsOk, OnErr, OnOk, vec_len};
     ghost use Rattle.crew_steps.specs.OpenSongs.{HasFault, opened, opened_in};
-    ghost use Rattle.crew_steps.specs.Shown.{songs_of};
-    ghost use Rattle.crew_steps.specs.Songs.{Fails, IsFaultOf, IsShort};
-    ghost use Rattle.crew_steps.specs.Sounds.{AreClosed, AreOfSome, IsMeant, OthersOf, ReadsJob, is_song, song_at};
+    ghost use Rattle.crew_steps.specs.Rounds.{has_number};
+    ghost use Rattle.crew_steps.specs.Shown.{EndsReadingOf, IsNotHadBy, IsReadFor, OthersHaveCause, songs_of};
+    ghost use Rattle.crew_steps.specs.Songs.{AreOthersOf, Fails, IfFailed, IsFaultOf};
+    ghost use Rattle.crew_steps.specs.Sounds.{AreClosed, IsMeant, KeepsOther, is_either, is_song, song_at};
+    ghost use Rattle.crew_steps.specs.declared.song_source.SongFault.{SongFault};
     ghost use Rattle.crew_steps.specs.declared.songs.NoFrames.{NoFrames};
 
     pub(crate) fn new(alloc: Global, source: S, rate: u32) -> Songs<S, M>
-        ensures { result.rate ≡ rate }
+        ensures rate { result.rate ≡ rate }
+        ensures source { result.source ≡ source }
     {
         Songs {
             source,
@@ -108,8 +111,8 @@ impl<S: SongSource<M> + Drop, M: Media + Drop> Songs<S, M> {
 
     /// Closes the songs of the partitions that are gone: of sixteen numbers these are of one.
     pub(crate) fn close_gone(&mut self, places: [bool; 16])
-        ensures closed { slice_index_or places self.old.place false ≡ false → AreClosed (songs_of self.new) }
-        ensures kept { slice_index_or places self.old.place false ≡ true → songs_of self.new ≡ songs_of self.old }
+        ensures closed { has_number places self.old.place ≡ false → AreClosed (songs_of self.new) }
+        ensures kept { has_number places self.old.place ≡ true → songs_of self.new ≡ songs_of self.old }
         ensures rate { self.new.rate ≡ self.old.rate }
     {
         close_gone(&mut self.others, places);
@@ -121,7 +124,7 @@ impl<S: SongSource<M> + Drop, M: Media + Drop> Songs<S, M> {
     /// Whether the current song has this id; a partner that has it becomes the current song where that has
     /// another.
     pub(crate) fn is_current(&mut self, place: u8, id: u32) -> bool
-        ensures open { result ≡ (is_song place id (opened_in self.old.current) || is_song place id (opened_in self.old.partner)) }
+        ensures open { result ≡ is_either place id (songs_of self.old) }
         ensures current { result ≡ is_song place id (opened_in self.new.current) }
         ensures kept { result ≡ false → songs_of self.new ≡ songs_of self.old }
         ensures rate { self.new.rate ≡ self.old.rate }
@@ -149,8 +152,9 @@ impl<S: SongSource<M> + Drop, M: Media + Drop> Songs<S, M> {
         partner: bool,
     ) -> Result<(), NoFrames>
         ensures open { OnOk result (is_song place id (song_at partner (songs_of self.new)) ≡ true) }
-        ensures other { song_at (not partner) (songs_of self.new) ≡ song_at (not partner) (songs_of self.old) }
+        ensures other { KeepsOther partner (songs_of self.old) (songs_of self.new) }
         ensures fault { IfErr result (IsFaultOf partner) }
+        ensures cause { IfFailed partner result (IsNotHadBy self.old song.now.uri) }
         ensures kept { OnErr result (songs_of self.new ≡ songs_of self.old) }
         ensures rate { self.new.rate ≡ self.old.rate }
     {
@@ -177,6 +181,7 @@ impl<S: SongSource<M> + Drop, M: Media + Drop> Songs<S, M> {
     ) -> Result<OpenSong<M>, SongFault>
         ensures id { IfOk result (λ song. is_song place id (Some (opened song)) ≡ true) }
         ensures meant { IfOk result (λ song. IsMeant self.old.rate (Some (opened song))) }
+        ensures cause { result ≡ Err SongFault.Unopened → IsNotHadBy self.old song.now.uri }
         ensures kept { (self.new.current ≡ self.old.current) × (self.new.partner ≡ self.old.partner) }
         ensures rate { self.new.rate ≡ self.old.rate }
     {
@@ -199,7 +204,7 @@ impl<S: SongSource<M> + Drop, M: Media + Drop> Songs<S, M> {
     /// Closes the current song, or its partner.
     fn close(&mut self, partner: bool)
         ensures closed { song_at partner (songs_of self.new) ≡ None }
-        ensures other { song_at (not partner) (songs_of self.new) ≡ song_at (not partner) (songs_of self.old) }
+        ensures other { KeepsOther partner (songs_of self.old) (songs_of self.new) }
         ensures rate { self.new.rate ≡ self.old.rate }
     {
         if partner {
@@ -217,9 +222,10 @@ impl<S: SongSource<M> + Drop, M: Media + Drop> Songs<S, M> {
         place: u8,
         job: &Job,
     ) -> Result<JobFrames, NoFrames>
-        ensures read { IfOk result (λ read. ReadsJob (songs_of self.old) job.now read.frames.items read.others.items) }
+        ensures read { IfOk result (IsReadFor (songs_of self.old) job.now) }
         ensures kept { OnOk result (songs_of self.new ≡ songs_of self.old) }
         ensures failed { IfErr result (Fails (songs_of self.new) place job.now) }
+        ensures cause { IfErr result (EndsReadingOf self.old job.now) }
         ensures rate { self.new.rate ≡ self.old.rate }
     {
         let read = self.read_frames(alloc, job);
@@ -232,10 +238,11 @@ impl<S: SongSource<M> + Drop, M: Media + Drop> Songs<S, M> {
     /// The frames of a job.
     #[tactic(auto, using(crate::proofs::Heard::heard))]
     fn read_frames(&mut self, alloc: Global, job: &Job) -> Result<JobFrames, NoFrames>
-        ensures read { IfOk result (λ read. ReadsJob (songs_of self.old) job.now read.frames.items read.others.items) }
+        ensures read { IfOk result (IsReadFor (songs_of self.old) job.now) }
         ensures kept { songs_of self.new ≡ songs_of self.old }
         ensures song { result ≡ Err (NoFrames.Failed false) → HasFault self.old.current self.new.current }
         ensures fades { result ≡ Err (NoFrames.Failed true) → job.now.fade ≡ None → ⊥ }
+        ensures cause { IfErr result (EndsReadingOf self.old job.now) }
         ensures rate { self.new.rate ≡ self.old.rate }
     {
         let count = (job.count as usize).min(MOST_FRAMES);
@@ -252,9 +259,9 @@ impl<S: SongSource<M> + Drop, M: Media + Drop> Songs<S, M> {
         fade: Option<FadePart>,
         count: usize,
     ) -> Result<Vec<Frame>, NoFrames>
-        ensures others { count ≤ WIDTH → IfOk result (λ others. OthersOf self.old.rate fade (opened_in self.old.partner) count others.items) }
+        ensures others { count ≤ WIDTH → IfOk result (AreOthersOf (songs_of self.old) fade count) }
         ensures none { fade ≡ None → IsOk result }
-        ensures cause { count ≤ WIDTH → result ≡ Err (NoFrames.Failed true) → HasFault self.old.partner self.new.partner ⊎ IsShort self.old.rate fade (opened_in self.old.partner) count }
+        ensures cause { OthersHaveCause fade count self.old self.new result }
         ensures fault { IfErr result (IsFaultOf true) }
         ensures current { self.new.current ≡ self.old.current }
         ensures partner { opened_in self.new.partner ≡ opened_in self.old.partner }
@@ -309,9 +316,9 @@ fn frames_in<M: Media + Drop>(
     count: usize,
     partner: bool,
 ) -> Result<Vec<Frame>, NoFrames>
-    ensures value { count ≤ WIDTH → IfOk result (λ frames. AreOfSome (opened_in song.old) from count frames.items) }
+    ensures value { count ≤ WIDTH → IfOk result (AreFramesIn song.old from count) }
     ensures count { IfOk result (λ frames. vec_len frames ≤ count) }
-    ensures fault { IfErr result (λ fault. (fault ≡ NoFrames.NoMemory) ⊎ (fault ≡ NoFrames.Failed partner)) }
+    ensures fault { IfErr result (IsFaultOf partner) }
     ensures cause { result ≡ Err (NoFrames.Failed partner) → HasFault song.old song.new }
     ensures song { opened_in song.new ≡ opened_in song.old }
 {

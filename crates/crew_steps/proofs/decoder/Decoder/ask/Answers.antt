@@ -1,4 +1,4 @@
-use Rattle.std.proofs.Common.{◌≡◌, Some, refl}
+use Rattle.std.proofs.Common.{◌≡◌, Some}
 use Rattle.player_state.specs.declared.report.Report.TheVariants.{ToDecode}
 use Rattle.crew_steps.proofs.Wanted.{owes_nothing}
 use Rattle.crew_steps.proofs.decoder.Decoder.ask.Goals as goal

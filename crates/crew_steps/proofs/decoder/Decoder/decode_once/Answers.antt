@@ -1,6 +1,7 @@
-use Rattle.std.proofs.Common.{inl, inr, rules, subst}
+use Rattle.std.proofs.Common.{◌≡◌, inr, rules, subst}
 use Rattle.crew_steps.specs.Decoding.{IsGiven}
-use Rattle.crew_steps.specs.Feeding.{OwesNothingSomewhere}
+use Rattle.crew_steps.specs.Causes.{HasCause}
+use Rattle.crew_steps.specs.Feeding.{DoesJob, OwesNothingSomewhere}
 use Rattle.crew_steps.specs.Shown.{songs_of}
 use Rattle.crew_steps.proofs.Eaches.{each_same}
 use Rattle.crew_steps.proofs.Pushes.{each_kept}
@@ -14,23 +15,25 @@ returns-in-Decodes-clause-rings g c =
     each_same c.args.feeders.now.items c.push-owes.new.feeders.items c.decode-told.new.feeders.items (each_kept c.args.feeders.now.items c.push-owes.new.feeders.items c.push-owes.ensures.kept) c.decode-told.ensures.rings
 
 pub returns-in-Decodes-clause-decodes : goal.returns-in-Decodes-clause-decodes
-returns-in-Decodes-clause-decodes g c = inr (
-  record { place = c.next_place-place.result; job = c.in-Decodes.job },
-  (
-    c.push-owes.new.feeders.items,
-    c.push-owes.new.self.seat,
-    c.ask.new.self.seat,
-    c.push-owes.ensures.kept,
-    c.push-owes.new.self.own,
-    subst (λ owing. IsGiven c.push-owes.new.self.seat c.next_place-place.result owing c.in-Decodes.job) c.push-owes.ensures.owes c.in-Decodes.ensures.asks.0,
-    c.ask.new.self.own,
-    (
-      songs_of c.decode-told.new.self.songs,
-      search rules,
-      c.ask.new.self.share.amount,
-      c.decode-told.new.self.share.amount,
-      c.decode-told.result,
-      c.decode-told.ensures.decodes,
-    ),
-  ),
-)
+returns-in-Decodes-clause-decodes g c =
+    let rate : c.ask.new.self.songs.rate ≡ c.args.self.now.songs.rate = search rules in inr (
+      record { place = c.next_place-place.result; job = c.in-Decodes.job },
+      (
+        c.push-owes.new.feeders.items,
+        c.push-owes.new.self.seat,
+        c.ask.new.self.seat,
+        c.push-owes.ensures.kept,
+        c.push-owes.new.self.own,
+        subst (λ owing. IsGiven c.push-owes.new.self.seat c.next_place-place.result owing c.in-Decodes.job) c.push-owes.ensures.owes c.in-Decodes.ensures.asks.0,
+        c.ask.new.self.own,
+        (
+          songs_of c.decode-told.new.self.songs,
+          search rules,
+          c.ask.new.self.share.amount,
+          c.decode-told.new.self.share.amount,
+          c.decode-told.result,
+          subst (λ r. DoesJob (HasCause g.S.SongSource.answers g.M.Media.all_bytes g.M.Failing.call_counts r) (songs_of c.decode-told.new.self.songs) c.ask.new.self.seat c.ask.new.self.share.amount c.decode-told.new.self.share.amount
+              c.next_place-place.result c.in-Decodes.job c.decode-told.result c.push-owes.new.feeders.items c.decode-told.new.feeders.items) rate c.decode-told.ensures.decodes,
+        ),
+      ),
+    )
