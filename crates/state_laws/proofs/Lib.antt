@@ -14,3 +14,4 @@ mod Own
 mod Limits
 mod Within
 mod Telling
+mod Text

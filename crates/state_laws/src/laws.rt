@@ -3,7 +3,7 @@ ghost use Rattle.state_laws.specs.Bytes.{BytesAreRead, LinesEnd, OpenedComesBack
 ghost use Rattle.state_laws.specs.Limits.{OpenedStaysWithin};
 ghost use Rattle.state_laws.specs.Own.{PlacesComeBack, PlayersComeBack};
 ghost use Rattle.state_laws.specs.Saying.{LineIsRead, OpensEmpty, StateComesBack, StepsHappen};
-ghost use Rattle.state_laws.specs.Telling.{StepsAreTold};
+ghost use Rattle.state_laws.specs.Telling.{LinesAreOfState, StepsAreTold, TextComesBack, TextIsSteps, ToldPlayersComeBack};
 
 /// A line of a state is to the player of one thread what it is to a reading of kept states. So a player with an
 /// empty queue that is told all lines of a state has what is kept, of the songs that there are; what it is told are
@@ -30,4 +30,14 @@ pub fn texts_come_back()
 pub fn players_come_back()
     ensures places { PlacesComeBack }
     ensures players { PlayersComeBack }
+{}
+
+/// The text of a state, read line by line, is the bytes of the state's lines, and none of them is refused for its
+/// command. So a player that was just opened, and is told the text line by line, has what is kept; and is as the
+/// player was that told the state of itself. No URI that a scan finds has a control in it.
+pub fn told_texts_come_back()
+    ensures known { LinesAreOfState }
+    ensures text { TextIsSteps }
+    ensures back { TextComesBack }
+    ensures players { ToldPlayersComeBack }
 {}

@@ -3,4 +3,4 @@
 
 mod laws;
 
-pub use laws::{players_come_back, states_come_back, texts_come_back};
+pub use laws::{players_come_back, states_come_back, texts_come_back, told_texts_come_back};
