@@ -1,1 +1,3 @@
 pub mod Starting
+pub mod Restoring
+pub mod Storing

@@ -2,14 +2,13 @@
 use crate::fault::DaemonFault;
 use crate::folder::tell;
 use crate::hall::Hall;
-use crate::state_file::{read_state, set_aside};
+use crate::state_file::{Disk, read_state, set_aside};
 use counted_player::{Ledgers, Seat};
-use held_player::News;
+use held_player::{Answered, News};
 use house::House;
 use kept_state::{Hearer, is_of_state, tell_lines};
 use mpd_command::{CommandSet, Request};
 use shelf::{MemShelf, Shelf};
-use std::alloc::{AllocError, Global};
 use std::sync::Wait;
 
 /// The number of the daemon's own client. Those of the sockets are 1 to 64; while this one is in the player 63
@@ -56,11 +55,12 @@ pub(crate) fn restore<L: Ledgers, R: Wait>(
     house
         .notice(rt, &mut seat, News::Comes(KEEPER))
         .map_err(DaemonFault::Player)?;
-    let (mut seat, refused) = restore_text(rt, host, &house, seat, text.as_str())?;
+    let shelf = MemShelf::new(host.alloc());
+    let (mut seat, refused) = restore_text(rt, host, &house, seat, shelf, text.as_str())?;
     house
         .notice(rt, &mut seat, News::Goes(KEEPER))
         .map_err(DaemonFault::Player)?;
-    if set_aside(host, path, refused).is_err() {
+    if set_aside(&mut Disk { host: *host }, host.alloc(), path, refused).is_err() {
         tell(host, "the state with refused lines cannot be kept");
     }
     Ok(Hall {
@@ -71,11 +71,12 @@ pub(crate) fn restore<L: Ledgers, R: Wait>(
 }
 
 /// Tells the lines of a text, and counts those that are refused.
-fn restore_text<L: Ledgers, R: Wait>(
+fn restore_text<L: Ledgers, S: Shelf + Drop, R: Wait>(
     rt: &R,
     host: &HostRuntime,
     house: &House<L>,
     seat: Seat<L>,
+    shelf: S,
     text: &str,
 ) -> Result<(Seat<L>, u64), DaemonFault> {
     let mut restorer = Restorer {
@@ -83,7 +84,7 @@ fn restore_text<L: Ledgers, R: Wait>(
         host,
         house,
         seat,
-        shelf: MemShelf::new(host.alloc()),
+        shelf,
         refused: 0,
     };
     let refused = tell_lines(&mut restorer, text)?;
@@ -102,34 +103,52 @@ fn restore_text<L: Ledgers, R: Wait>(
 }
 
 impl<'h, L: Ledgers, S: Shelf + Drop, R: Wait> Hearer for Restorer<'h, L, S, R> {
-    ghost use Rattle.std.specs.Prelude.{⊤};
+    ghost use Rattle.serving.specs.Restoring.{IsHeard};
 
     type Fault = DaemonFault;
 
-    // What the player makes of a line is known of some past alone, so nothing is said of it here.
-    ghost hears = { λ _ _ _ _. ⊤ };
+    // What the player answers is known of some past alone: a house says no more.
+    ghost hears = { λ old line refused new. IsHeard S.standing S.failed old.shelf new.shelf old.seat new.seat line refused };
 
     fn hear(&mut self, line: &str) -> Result<bool, DaemonFault> {
-        let alloc = self.host.alloc();
-        if !is_of_state(line) {
-            self.refuse(line, "no line of a state");
-            return Ok(true);
+        if is_of_state(line) {
+            return self.say(line);
         }
-        let request = request_of(alloc, line)?;
-        let answered = self
-            .house
-            .command(self.rt, &mut self.seat, &mut self.shelf, KEEPER, request)
-            .map_err(DaemonFault::Player)?;
+        self.refuse(line, "no line of a state");
+        Ok(true)
+    }
+}
+
+impl<'h, L: Ledgers, S: Shelf + Drop, R: Wait> Restorer<'h, L, S, R> {
+    ghost use Rattle.std.specs.Prelude.{◌≡◌, IfOk, OnOk};
+    ghost use Rattle.counted_player.specs.Seats.{after_events};
+    ghost use Rattle.held_player.specs.Views.{AnswersClient};
+    ghost use Rattle.mpd_command.specs.Names.{fewest};
+    ghost use Rattle.mpd_command.specs.Requests.{request_of};
+    ghost use Rattle.serving.specs.Restoring.{IsSaid};
+
+    /// Says a line, and whether it is refused.
+    fn say(&mut self, line: &str) -> Result<bool, DaemonFault>
+        ensures { IfOk result (IsSaid S.standing S.failed self.old.shelf self.new.shelf self.old.seat self.new.seat line.now) }
+    {
+        let answered = self.ask(line)?;
         let reply = answered.reply();
         if reply.is_refusal() {
             self.refuse(line, reply.text());
         }
         Ok(reply.is_refusal())
     }
-}
 
-impl<'h, L: Ledgers, S: Shelf + Drop, R: Wait> Restorer<'h, L, S, R> {
-    ghost use Rattle.std.specs.Prelude.{◌≡◌};
+    /// What the player answers to a line of the client.
+    fn ask(&mut self, line: &str) -> Result<Answered, DaemonFault>
+        ensures made { OnOk result (self.new.seat ≡ after_events self.old.seat 1) }
+        ensures answer { IfOk result (AnswersClient S.standing S.failed self.old.shelf self.new.shelf self.old.seat 65 (request_of line.now fewest)) }
+    {
+        let request = Request::of_line(self.host.alloc(), line, CommandSet::base())?;
+        self.house
+            .command(self.rt, &mut self.seat, &mut self.shelf, KEEPER, request)
+            .map_err(DaemonFault::Player)
+    }
 
     /// Tells of a line that is refused, where not many were before.
     fn refuse(&mut self, line: &str, why: &str)
@@ -141,9 +160,4 @@ impl<'h, L: Ledgers, S: Shelf + Drop, R: Wait> Restorer<'h, L, S, R> {
             let _told = eprintln!(*self.host; "music_daemon: state: {line}: {}", why.trim_end());
         }
     }
-}
-
-/// What a line asks for. A state has lines of the base profile alone.
-fn request_of(alloc: Global, line: &str) -> Result<Request, AllocError> {
-    Request::of_line(alloc, line, CommandSet::base())
 }

@@ -1,6 +1,7 @@
 //! The file of the state.
 ghost use Rattle.serving.specs.Starting.{aside_for, texts_of};
-ghost use Rattle.std.specs.Prelude.{◌≡◌, IfOk};
+ghost use Rattle.serving.specs.Storing.{IsRenamed, IsSetAside};
+ghost use Rattle.std.specs.Prelude.{◌≡◌, IfOk, OnOk};
 
 use crate::fault::DaemonFault;
 use kept_state::Storing;
@@ -58,12 +59,63 @@ impl Storing for Disk {
     }
 
     fn rename(&mut self, from: &str, to: &str) -> io::Result<()> {
-        fs::rename(&self.host, from, to)?;
-        sync_folder(&self.host, to)
+        rename_through(self, from, to)
     }
 
     fn remove(&mut self, path: &str) {
         let _removed = fs::remove_file(&self.host, path);
+    }
+}
+
+/// Who gives files other names.
+pub(crate) trait Moving {
+    ghost use Rattle.std.specs.Prelude.{ℕ, List, OnOk};
+
+    /// What there is, where a file of the first name has the second one instead.
+    ghost moves: { Self → List ℕ → List ℕ → Self → Type 0 };
+
+    /// What there is, where the system has stored which files a folder has.
+    ghost syncs: { Self → List ℕ → Self → Type 0 };
+
+    /// Gives a file another name.
+    fn move_file(&mut self, from: &str, to: &str) -> io::Result<()>
+        ensures { OnOk result (moves self.old from.now to.now self.new) };
+
+    /// Has the system store which files a folder has.
+    fn sync_folder(&mut self, folder: &str) -> io::Result<()>
+        ensures { OnOk result (syncs self.old folder.now self.new) };
+}
+
+impl Moving for Disk {
+    ghost use Rattle.std.specs.Prelude.{⊤};
+
+    ghost moves = { λ _ _ _ _. ⊤ };
+
+    ghost syncs = { λ _ _ _. ⊤ };
+
+    fn move_file(&mut self, from: &str, to: &str) -> io::Result<()> {
+        fs::rename(&self.host, from, to)
+    }
+
+    fn sync_folder(&mut self, folder: &str) -> io::Result<()> {
+        fs::open(&self.host, folder)?.sync_all()
+    }
+}
+
+/// Gives a file another name, and has the system store that.
+fn rename_through<M: Moving>(disk: &mut M, from: &str, to: &str) -> io::Result<()>
+    ensures { OnOk result (IsRenamed M.moves M.syncs disk.old from.now to.now disk.new) }
+{
+    disk.move_file(from, to)?;
+    disk.sync_folder(folder_of(to))
+}
+
+/// The folder in which a file is.
+fn folder_of(path: &str) -> &str {
+    match path.rsplit_once('/') {
+        Some((folder, _name)) if !folder.is_empty() => folder,
+        Some(_) => "/",
+        None => ".",
     }
 }
 
@@ -76,20 +128,17 @@ fn write_through(rt: &HostRuntime, path: &str, text: &str) -> io::Result<()> {
     file.sync_all()
 }
 
-/// Has the system store that the file was renamed.
-fn sync_folder(rt: &HostRuntime, path: &str) -> io::Result<()> {
-    let folder = match path.rsplit_once('/') {
-        Some((folder, _name)) if !folder.is_empty() => folder,
-        Some(_) => "/",
-        None => ".",
-    };
-    fs::open(rt, folder)?.sync_all()
-}
-
 /// Keeps the file of a state beside the one that is written anew, where lines of it were refused.
-pub(crate) fn set_aside(rt: &HostRuntime, path: &str, refused: u64) -> io::Result<()> {
-    match aside_of(rt.alloc(), path, refused)? {
-        Some(aside) => fs::rename(rt, path, aside.as_str()),
+pub(crate) fn set_aside<M: Moving>(
+    disk: &mut M,
+    alloc: Global,
+    path: &str,
+    refused: u64,
+) -> io::Result<()>
+    ensures { OnOk result (IsSetAside M.moves disk.old path.now (aside_for path.now refused) disk.new) }
+{
+    match aside_of(alloc, path, refused)? {
+        Some(aside) => disk.move_file(path, aside.as_str()),
         None => Ok(()),
     }
 }
