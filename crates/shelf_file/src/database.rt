@@ -1,5 +1,7 @@
 //! The shelf of a database, whatever that is kept in.
 ghost use Rattle.settings.specs.Values.{AreWithin};
+ghost use Rattle.shelf_file.specs.Faults.{IsNoShelf, no_shelf as no_shelf_lem, unopened as unopened_lem};
+ghost use Rattle.std.specs.Prelude.{◌≡◌, Err, IfErr, IfOk};
 
 use serving::{DaemonFault, Purpose, serve};
 use settings::Settings;
@@ -25,6 +27,8 @@ pub(crate) fn serve_with_database<
     purpose: Purpose,
 ) -> (Result<(), DaemonFault>, Option<Connection<S>>)
     requires { AreWithin settings.now }
+    // What cannot be opened is not served.
+    ensures { IfErr opened (λ left. result.0 ≡ Err (unopened_lem left.0)) }
 {
     match shelf_of(host.alloc(), opened) {
         Ok(mut shelf) => {
@@ -39,21 +43,44 @@ pub(crate) fn serve_with_database<
 fn shelf_of<S: Alter + Drop, L: Drop>(
     alloc: Global,
     opened: Result<Connection<S>, (Error, L)>,
-) -> Result<SqlShelf<S>, DaemonFault> {
+) -> Result<SqlShelf<S>, DaemonFault>
+    ensures unopened { IfErr opened (λ left. result ≡ Err (unopened_lem left.0)) }
+    ensures no_shelf { IfOk opened (λ connection. IfErr result (IsNoShelf S.Store connection)) }
+{
     match opened {
         Ok(connection) => shelf_over(alloc, connection),
-        Err((Error::SqliteFailure(ErrorCode::OutOfMemory), _)) => Err(DaemonFault::NoMemory),
-        Err(_) => Err(DaemonFault::CannotOpenShelf),
+        Err((error, _)) => Err(unopened(error)),
+    }
+}
+
+/// Why a database is not opened.
+fn unopened(error: Error) -> DaemonFault
+    ensures { result ≡ unopened_lem error }
+{
+    match error {
+        Error::SqliteFailure(ErrorCode::OutOfMemory) => DaemonFault::NoMemory,
+        _ => DaemonFault::CannotOpenShelf,
     }
 }
 
 fn shelf_over<S: Alter + Drop>(
     alloc: Global,
     connection: Connection<S>,
-) -> Result<SqlShelf<S>, DaemonFault> {
+) -> Result<SqlShelf<S>, DaemonFault>
+    ensures { IfErr result (IsNoShelf S.Store connection) }
+{
     match SqlShelf::over(alloc, connection) {
         Ok(shelf) => Ok(shelf),
-        Err((ShelfFault::NoMemory, _)) => Err(DaemonFault::NoMemory),
-        Err(_) => Err(DaemonFault::CannotOpenShelf),
+        Err((cause, _)) => Err(no_shelf(cause)),
+    }
+}
+
+/// Why a database is no shelf.
+fn no_shelf(cause: ShelfFault) -> DaemonFault
+    ensures { result ≡ no_shelf_lem cause }
+{
+    match cause {
+        ShelfFault::NoMemory => DaemonFault::NoMemory,
+        _ => DaemonFault::CannotOpenShelf,
     }
 }

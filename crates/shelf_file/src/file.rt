@@ -1,6 +1,8 @@
 //! The file in which stored playlists and stickers are kept. What a database is over a file is said here
 //! alone: a proof that meets the bounds of one is dear, so it is met in one call.
 ghost use Rattle.settings.specs.Values.{AreWithin};
+ghost use Rattle.shelf_file.specs.Faults.{ends_with, unclosed as unclosed_lem, unopened};
+ghost use Rattle.std.specs.Prelude.{◌≡◌, Err, IfErr};
 
 use crate::database::serve_with_database;
 use serving::{DaemonFault, Purpose};
@@ -36,6 +38,7 @@ fn serve_and_close<D: Disk + Drop, R: Threads + Wait + Clock + Net + Copy + Send
     purpose: Purpose,
 ) -> Result<(), DaemonFault>
     requires { AreWithin settings.now }
+    ensures { IfErr opened (λ left. result ≡ Err (unopened left.0)) }
 {
     let (served, connection) = serve_with_database(rt, host, settings, opened, purpose);
     let closed = match connection {
@@ -46,11 +49,22 @@ fn serve_and_close<D: Disk + Drop, R: Threads + Wait + Clock + Net + Copy + Send
 }
 
 /// What became of the serving, and then of the file.
-fn first_of(served: Result<(), DaemonFault>, closed: Result<(), Error>) -> Result<(), DaemonFault> {
-    served?;
-    match closed {
-        Ok(()) => Ok(()),
-        Err(Error::SqliteFailure(ErrorCode::OutOfMemory)) => Err(DaemonFault::NoMemory),
-        Err(_) => Err(DaemonFault::WriteFault),
+fn first_of(served: Result<(), DaemonFault>, closed: Result<(), Error>) -> Result<(), DaemonFault>
+    ensures { result ≡ ends_with served closed }
+{
+    match (served, closed) {
+        (Err(fault), _) => Err(fault),
+        (Ok(()), Err(error)) => Err(unclosed(error)),
+        (Ok(()), Ok(())) => Ok(()),
+    }
+}
+
+/// Why a file is not closed.
+fn unclosed(error: Error) -> DaemonFault
+    ensures { result ≡ unclosed_lem error }
+{
+    match error {
+        Error::SqliteFailure(ErrorCode::OutOfMemory) => DaemonFault::NoMemory,
+        _ => DaemonFault::WriteFault,
     }
 }
