@@ -5,8 +5,9 @@ use std::net::{SocketAddr, TcpStream};
 use std::time::Duration;
 use std::{io, thread};
 
-/// What it says before one more song comes into the folder of the music.
-const MORNING: &[&str] = &["outputs", "listall"];
+/// What it says before one more song comes into the folder of the music. The second is a command of the everyday
+/// profile, which the settings do not ask for.
+const MORNING: &[&str] = &["outputs", "stats", "listall"];
 
 /// What it says from then on, until the queue plays.
 const NOON: &[&str] = &[
