@@ -1,0 +1,362 @@
+#!/usr/bin/env python3
+"""How the daemon's answers differ from MPD's: both are sent the transcripts of checks/serve/transcripts, and docs/DIFFERENCES.md names
+each difference and its reason.
+
+    checks/serve/differences.py [PROGRAM]             compares
+    checks/serve/differences.py [PROGRAM] --write     and writes what was answered into the transcripts and the page
+    checks/serve/differences.py [PROGRAM] --only NAME  the transcripts of one file, without the page
+    checks/serve/differences.py --songs FOLDER        only writes the songs of the transcripts there
+    checks/serve/differences.py --at PORT --music FOLDER    with a daemon that already runs on such songs, here
+
+It needs Debian's package mpd, of version 0.23. A daemon that already runs has the settings that `settings_of` shows.
+
+A transcript begins with `== NAME`. Its lines are those of the scripts of music_daemon: `1 add first` is client 1's; `sides.py` tells the
+steps. Each transcript begins with new clients and an empty queue. Below a line whose answers differ stand the names of the differences,
+behind `=`, and the lines that only MPD (`<`) and only music_daemon (`>`) answered. What the RULES below take out of the answers has a name
+on the page too, and no mark in the transcripts.
+
+The check fails where answers differ otherwise than the transcript says, where a name is not on the page, where a difference that is on
+the page occurs no more, and where no transcript sends a command that music_daemon has.
+"""
+import argparse
+import difflib
+import glob
+import os
+import re
+import shutil
+import sys
+import tempfile
+from collections import namedtuple
+from concurrent.futures import ThreadPoolExecutor
+
+sys.dont_write_bytecode = True
+
+from daemon import HERE, ROOT, Daemon, Mpd, Pacer, Table, program_of
+from sides import RATE, Side, put_library, values
+
+PAGE = os.path.join(ROOT, 'docs', 'DIFFERENCES.md')
+SEEN = re.compile(r'(?<=<!-- seen -->\n).*(?=<!-- end -->)', re.S)
+ROW = re.compile(r'^\| \*\*([a-z-]+)\*\* \|', re.M)
+SHOWN = 3     # how many lines of an answer the page shows
+MOST = 8      # how many lines of a difference a transcript has; behind them stands how many more there were
+LEAST = 200   # how many transcripts there are at least
+ACK = re.compile(r'(\d ACK \[\d+@\d+\] \{\w*\}) .*')
+TAGS = ('Title', 'Artist', 'Album', 'Date', 'Genre', 'Comment')
+OUTPUT = 'type "null"\nmixer_type "software"'
+
+Transcript = namedtuple('Transcript', 'name steps')
+# a line that is sent, the names of the differences of its answers, and the lines that only one of both answers, behind `< ` or `> `
+Step = namedtuple('Step', 'line names answers')
+
+
+# ---- transcripts
+
+def read(path):
+    with open(path, encoding='utf-8') as file:
+        return file.read()
+
+
+def parsed(text):
+    """The head of a file of transcripts, and its transcripts."""
+    head, *parts = re.split(r'(?m)^== ', text)
+    return head, [transcript_of(part) for part in parts]
+
+
+def transcript_of(text):
+    name, *lines = text.rstrip('\n').split('\n')
+    steps = []
+    for line in lines:
+        if line.startswith('= '):
+            steps[-1] = steps[-1]._replace(names=line[2:].split())
+        elif line[:2] in ('< ', '> '):
+            steps[-1].answers.append(line)
+        elif line:
+            steps.append(Step(line, [], []))
+    return Transcript(name, steps)
+
+
+def written(head, transcripts):
+    """The text of a file of transcripts."""
+    parts = []
+    for transcript in transcripts:
+        lines = ['== ' + transcript.name]
+        for step in transcript.steps:
+            lines += [step.line] + (['= ' + ' '.join(step.names or ['?'])] if step.answers else []) + step.answers
+        parts.append('\n'.join(lines) + '\n')
+    return head + '\n'.join(parts)
+
+
+# ---- what is compared
+
+def without(pattern):
+    """A rule that takes lines out of MPD's answers."""
+    def rule(mpd, own):
+        left = [line for line in mpd if not re.match(pattern, line)]
+        return left, own, left != mpd
+    return rule
+
+
+def without_texts(mpd, own):
+    """Of two refusals of one number, place and command the text is not compared."""
+    pairs = [(ACK.match(one), ACK.match(other)) for one, other in zip(mpd, own)]
+    same = [one and other and one.group(0) != other.group(0) and one.group(1) == other.group(1) for one, other in pairs]
+    plain = [pair[0].group(1) if is_same else None for pair, is_same in zip(pairs, same)]
+
+    def shown(lines):
+        return [plain[at] if at < len(plain) and plain[at] else line for at, line in enumerate(lines)]
+    return shown(mpd), shown(own), any(same)
+
+
+def without_order(mpd, own):
+    """The tags of a song are in the order of music_daemon."""
+    def in_order(lines):
+        found, tags, is_song = [], [], False
+        for line in lines + ['']:
+            key = line[2:].partition(': ')[0]
+            if is_song and key in TAGS:
+                tags.append(line)
+            else:
+                is_song = key == 'file' or is_song and key not in ('directory', 'playlist')
+                found += sorted(tags, key=lambda tag: TAGS.index(tag[2:].partition(': ')[0])) + [line]
+                tags = []
+        return found[:-1]
+    return in_order(mpd), own, mpd != own and in_order(mpd) == own
+
+
+def without_status_order(mpd, own):
+    """The next song of a status stands behind the current one, as music_daemon has it."""
+    after = [line for line in mpd if re.match(r'\d nextsong(id)?: ', line)]
+    at = next((at for at, line in enumerate(mpd) if re.match(r'\d songid: ', line)), None)
+    if not after or at is None:
+        return mpd, own, False
+    left = [line for line in mpd if line not in after]
+    moved = left[:at + 1] + after + left[at + 1:]
+    return moved, own, moved != mpd
+
+
+def without_plugin(mpd, own):
+    """The outputs of MPD here are of its kind `null`."""
+    if 'plugin: raw' not in {line[2:] for line in own}:
+        return mpd, own, False
+    plain = [line.replace('plugin: null', 'plugin: raw') for line in mpd]
+    return plain, own, plain != mpd
+
+
+def sorted_lists(lines):
+    """The stored playlists of an answer in byte order: those of MPD come as their folder has them."""
+    found, lists = [], []
+    for line in lines + ['']:
+        if line[2:].startswith('playlist: '):
+            lists.append(line)
+        else:
+            found += sorted(lists) + [line]
+            lists = []
+    return found[:-1]
+
+
+RULES = {
+    'song-lines': without(r'\d (Last-Modified|Format): '),
+    'status-lines': without(r'\d (mixrampdb|mixrampdelay|bitrate): '),
+    'output-plugin': without_plugin,
+    'status-order': without_status_order,
+    'tag-order': without_order,
+    'refusal-texts': without_texts,
+}
+
+
+def compared(mpd, own):
+    """The lines that only one of two answers has, in their order, and the rules that took something out."""
+    used = set()
+    for name, rule in RULES.items():
+        mpd, own, has_used = rule(mpd, own)
+        used |= {name} if has_used else set()
+    mpd, own = sorted_lists(mpd), sorted_lists(own)
+    lines = [line for line in difflib.ndiff(mpd, own) if line[0] in '-+']
+    return shortened([('< ' if line[0] == '-' else '> ') + line[2:] for line in lines]), used
+
+
+def shortened(lines):
+    found = []
+    for sign in '<>':
+        of_one = [line for line in lines if line[0] == sign]
+        found += of_one[:MOST] + (['%s and %d more' % (sign, len(of_one) - MOST)] if len(of_one) > MOST else [])
+    return found
+
+
+class Seen:
+    """What differed: for each name the transcripts and an example, and for each rule how many answers it took something out of. And the
+    commands that were sent; `kill` would end both daemons."""
+
+    def __init__(self):
+        self.steps, self.rules, self.count, self.sent = {}, dict.fromkeys(RULES, 0), 0, {'kill'}
+
+    def add(self, transcript, step):
+        self.sent.add(step.line.split(' ')[1] if ' ' in step.line else '')
+        for name in step.names:
+            self.steps.setdefault(name, []).append((transcript, step))
+
+    def example(self, name):
+        """The first step that shows this difference and no other, else the first that shows it."""
+        found = self.steps[name]
+        return next((it for it in found if it[1].names == [name]), found[0])
+
+
+def run(transcript, sides, seen):
+    """A transcript with what was answered now."""
+    lines = [step.line for step in transcript.steps]
+    with ThreadPoolExecutor(len(sides)) as both:
+        answers = list(both.map(lambda side: side.answers(lines), sides))
+    steps = []
+    for step, mpd, own in zip(transcript.steps, *answers):
+        different, used = compared(mpd, own)
+        for name in used:
+            seen.rules[name] += 1
+        steps.append(Step(step.line, (step.names or ['?']) if different else [], different))
+        seen.add(transcript.name, steps[-1])
+    seen.count += 1
+    return Transcript(transcript.name, steps)
+
+
+# ---- the page
+
+def span(line):
+    return '`%s`' % line.replace('`', "'").replace('|', '\\|')
+
+
+def lines_shown(answers, sign):
+    lines = [line[2:] for line in answers if line[0] == sign]
+    return '<br>'.join([span(line) for line in lines[:SHOWN]] + (['and more'] if len(lines) > SHOWN else [])) or 'nothing'
+
+
+def table_of(seen):
+    """The part of the page that is made: how often each difference was seen, with an example."""
+    lines = ['%d transcripts were compared.' % seen.count, '',
+             '| Difference | Transcripts | Example | Sent | MPD answers | music_daemon answers |', '|---|---|---|---|---|---|']
+    for name in sorted(seen.steps):
+        transcript, step = seen.example(name)
+        count = len({it for it, _ in seen.steps[name]})
+        lines.append('| %s | %d | %s | %s | %s | %s |' % (name, count, transcript, span(step.line), *[lines_shown(step.answers, it) for it in '<>']))
+    return '\n'.join(lines) + '\n'
+
+
+def page_faults(page, seen):
+    """What the page names otherwise than it was seen."""
+    named, found = ROW.findall(page), set(seen.steps) | {name for name, count in seen.rules.items() if count}
+    yield from ('%s: the page has it twice' % name for name in sorted({it for it in named if named.count(it) > 1}))
+    yield from ('%s: the page does not name it' % name for name in sorted(found - set(named)))
+    yield from ('%s: the page names it, and it was not seen' % name for name in sorted(set(named) - found))
+    if SEEN.findall(page) != [table_of(seen)]:
+        yield 'the table of the page is not what was seen: run it with --write'
+
+
+# ---- both daemons
+
+class At:
+    """A daemon that already runs."""
+
+    def __init__(self, port):
+        self.port = port
+
+    def kill(self):
+        pass
+
+
+def settings_of(pacers):
+    """What music_daemon is started with."""
+    return {'outputs': [pacer.path for pacer in pacers], 'rate': RATE, 'kill': True, 'more': 'everyday = true'}
+
+
+def compare(sides, table, is_written, only):
+    """Runs all transcripts, or those of one file."""
+    seen = Seen()
+    for path in sorted(glob.glob(os.path.join(HERE, 'transcripts', (only or '*') + '.txt'))):
+        head, transcripts = parsed(read(path))
+        now = [run(transcript, sides, seen) for transcript in transcripts]
+        wrong = [(old, new) for old, new in zip(transcripts, now) if old != new]
+        table.row(os.path.basename(path), len(now), sum(any(step.answers for step in it.steps) for it in now), right=not wrong)
+        for old, new in wrong:
+            print('\n'.join(difflib.unified_diff(*[written('', [it]).split('\n') for it in (old, new)], 'as it stands', 'now', n=9, lineterm='')))
+        if is_written:
+            with open(path, 'w', encoding='utf-8') as file:
+                file.write(written(head, now))
+    return seen
+
+
+def judged(seen, commands, table, is_written):
+    """Asks the page, and writes its table. The commands are those that music_daemon has."""
+    page = read(PAGE)
+    if is_written:
+        page = SEEN.sub(lambda _: table_of(seen), page)
+        with open(PAGE, 'w', encoding='utf-8') as file:
+            file.write(page)
+    for name, count in seen.rules.items():
+        table.row(name, '', count)
+    faults = list(page_faults(page, seen))
+    if seen.count < LEAST:
+        faults.append('%d transcripts; there are to be %d' % (seen.count, LEAST))
+    faults += ['no transcript sends %s' % name for name in commands if name not in seen.sent]
+    for fault in faults:
+        table.row(fault, right=False)
+
+
+def words():
+    parser = argparse.ArgumentParser(description="How the daemon's answers differ from MPD's.")
+    parser.add_argument('program', nargs='?')
+    parser.add_argument('--write', action='store_true')
+    parser.add_argument('--only', metavar='NAME')
+    parser.add_argument('--songs', metavar='FOLDER')
+    parser.add_argument('--at', type=int, metavar='PORT')
+    parser.add_argument('--music', metavar='FOLDER')
+    return parser.parse_args()
+
+
+def started(given, folder, pacers):
+    """Both daemons on the songs, MPD first."""
+    music = given.music or os.path.join(folder, 'music')
+    if not given.music:
+        put_library(music)
+    yield Mpd(folder, music, outputs=(OUTPUT, OUTPUT))
+    if given.at:
+        yield At(given.at)
+    else:
+        pacers += [Pacer(os.path.join(folder, 'fifo%d' % number), RATE) for number in range(2)]
+        yield Daemon(program_of(given.program), folder, music, **settings_of(pacers))
+
+
+def compared_by(given, folder, table):
+    servers, pacers = [], []
+    try:
+        for server in started(given, folder, pacers):
+            servers.append(server)
+        sides = [Side(server) for server in servers]
+        if not sides[0].owner.greeting.startswith('OK MPD 0.23.'):
+            table.row('this page is about MPD 0.23; here is %s' % sides[0].owner.greeting, right=False)
+            return
+        table.row('', 'transcripts', 'differing')
+        seen = compare(sides, table, given.write, given.only)
+        if not given.only:
+            judged(seen, values(sides[1].owner.must('commands'), 'command'), table, given.write)
+    finally:
+        for server in servers:
+            server.kill()
+        for pacer in pacers:
+            pacer.close()
+
+
+def main():
+    given = words()
+    if given.songs:
+        put_library(given.songs)
+        return 0
+    if not shutil.which('mpd'):
+        print('mpd is missing, and nothing was compared: install the package mpd (Debian: apt-get install mpd)')
+        return 0
+    table = Table('Beside MPD', 24, -11, -9)
+    with tempfile.TemporaryDirectory() as folder:
+        compared_by(given, folder, table)
+    print('\n%d failed' % table.failed)
+    return 1 if table.failed else 0
+
+
+if __name__ == '__main__':
+    sys.exit(main())

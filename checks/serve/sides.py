@@ -1,0 +1,211 @@
+"""The two daemons of differences.py: the songs that both play, and a daemon to which transcripts are sent."""
+import os
+import re
+import struct
+import time
+
+from daemon import ANSWER, Client, wave
+
+RATE = 8000
+INFO = {'Title': b'INAM', 'Artist': b'IART', 'Album': b'IPRD', 'Date': b'ICRD', 'Genre': b'IGNR', 'Comment': b'ICMT'}
+# a URI, its seconds of silence, its tags
+SONGS = [
+    ('Bare.wav', 20, {}),
+    ('Brief.wav', 0.2, {'Title': 'Fly'}),
+    ('Isn\'t "5".wav', 20, {'Title': 'It\'s "five"'}),
+    ('first/0.wav', 30, {'Title': 'Air', 'Artist': 'Ann', 'Album': 'First', 'Date': '2001', 'Genre': 'Folk'}),
+    ('first/1.wav', 20, {'Title': 'Bee', 'Artist': 'Ann', 'Album': 'First', 'Date': '2001', 'Genre': 'Folk'}),
+    ('second/2.wav', 20.5, {'Title': 'Sea', 'Artist': 'Bob', 'Album': 'Second', 'Date': '1999', 'Genre': 'Jazz'}),
+    ('second/3.wav', 10, {'Title': 'Dew', 'Artist': 'Zoë', 'Album': 'Second', 'Genre': 'Jazz'}),
+    ('third/inner/4.wav', 20, {'Title': 'Elm', 'Artist': 'bob'}),
+    ('zoo/a.wav', 20, {'Title': 'Yak', 'Album': 'Two'}),
+    ('zoo/den/c.wav', 20, {'Title': 'Emu', 'Album': 'Two'}),
+    ('zoo/z.wav', 20, {'Title': 'Gnu', 'Album': 'One', 'Comment': 'live'}),
+]
+WAIT = 0.2    # the seconds in which a client that waits is told of a change
+LATEST = 15   # the seconds within which a status is to become what a transcript waits for
+
+# What is not compared, since it is another in each run, or counts from another start in each daemon: a pattern and what stands for it.
+VOLATILE = [
+    (r'(elapsed|uptime|db_update|Last-Modified): .*', r'\1: T'),
+    (r'time: \d+:', 'time: T:'),
+    (r'updating_db: \d+', 'updating_db: N'),
+]
+LIST_BEGINS = (b'command_list_begin', b'command_list_ok_begin')
+AT_THE_RESET = ['stop', 'clear', 'clearerror', 'setvol 100', 'crossfade 0', 'repeat 0', 'random 0', 'single 0', 'consume 0',
+                'replay_gain_mode off', 'enableoutput 0', 'enableoutput 1', 'addid Bare.wav', 'clear', 'status']
+
+
+def put_library(folder):
+    """Writes the songs."""
+    for uri, seconds, tags in SONGS:
+        path = os.path.join(folder, uri)
+        os.makedirs(os.path.dirname(path), exist_ok=True)
+        size = int(4 * RATE * seconds)
+        head = wave([], 2, 16, RATE, tags=[(INFO[tag], text) for tag, text in tags.items()])
+        with open(path, 'wb') as file:
+            file.write(head[:-4] + struct.pack('<I', size) + bytes(size))
+
+
+class Speaker(Client):
+    """A client of a transcript, and whether it is within a list or waits for a notice."""
+
+    def __init__(self, port, owner):
+        super().__init__(port)
+        self.owner = owner
+        self.is_listing = self.is_idle = self.is_closed = self.has_idle = False
+
+    def told(self, seconds):
+        """What it is sent within so many seconds, up to the end of an answer."""
+        self.socket.settimeout(seconds)
+        lines = []
+        try:
+            while not lines or not (lines[-1] in ('OK', 'closed') or lines[-1].startswith('ACK ')):
+                lines.append(self.line() or 'closed')
+        except ConnectionError:
+            lines.append('closed')
+        except TimeoutError:
+            pass
+        self.is_closed = lines[-1:] == ['closed']
+        self.is_idle = self.is_idle and not lines
+        return lines
+
+    def told_soon(self):
+        """What it is sent where perhaps nothing comes: the daemon has answered another client since."""
+        self.owner.must('ping')
+        return self.told(WAIT)
+
+    def say(self, data):
+        """Sends a line: what it is answered."""
+        self.socket.sendall(data + b'\n')
+        word = data.split(b' ')[0]
+        if self.is_listing or data.strip() in LIST_BEGINS:
+            return self.collect(word)
+        if word == b'idle' or word == b'noidle' and not self.is_idle:
+            self.is_idle = word == b'idle'
+            return self.told_soon()
+        return self.told(ANSWER)
+
+    def collect(self, word):
+        """A line of a list. MPD begins to wait where a list has `idle`."""
+        self.is_listing, self.has_idle = word != b'command_list_end', self.has_idle and self.is_listing or word == b'idle'
+        if self.is_listing:
+            return self.told_soon() if self.is_idle else []
+        self.is_idle = self.has_idle
+        return self.told_soon() if self.has_idle else self.told(ANSWER)
+
+
+class Side:
+    """A daemon during one transcript. Ids and queue versions are counted from its start: `$1` is the first id after it, `%0` the version
+    that the queue had."""
+
+    def __init__(self, server):
+        self.port, self.clients, self.owner = server.port, {}, Client(server.port)
+
+    def client(self, number):
+        if number not in self.clients or self.clients[number].is_closed:
+            self.clients[number] = Speaker(self.port, self.owner)
+        return self.clients[number]
+
+    def begin(self):
+        """Makes the player as it was when it was opened."""
+        for client in [self.owner, *self.clients.values()]:
+            client.close()
+        # MPD closes a client that says nothing for a minute, as long as the other daemon may be busy.
+        self.owner, self.clients, self.partition = Client(self.port), {}, 'default'
+        for name in values(self.owner.must('listpartitions'), 'partition'):
+            if name != 'default':
+                self.take_back(name)
+        lines = ['rm "%s"' % name for name in values(self.owner.must('listplaylists'), 'playlist')] + AT_THE_RESET
+        told = self.owner.must('\n'.join(['command_list_begin', *lines, 'command_list_end']))
+        self.first_id, self.first_version = int(values(told, 'Id')[0]), int(values(told, 'playlist')[0])
+
+    def end(self):
+        """Takes away the stickers, which no other command does."""
+        for uri, _, _ in SONGS:
+            self.owner.ask('sticker delete song ' + quoted(uri))
+
+    def take_back(self, name):
+        """Ends a partition, whose outputs come back."""
+        end = time.monotonic() + ANSWER
+        for output in ('out0', 'out1'):
+            self.owner.must('moveoutput ' + output)
+        # Its clients, which were closed, may not be gone yet.
+        while self.owner.ask('delpartition ' + name)[-1] != 'OK':
+            if time.monotonic() > end:
+                raise AssertionError('the partition %s cannot be deleted' % name)
+            time.sleep(0.02)
+
+    def answers(self, lines):
+        """What is answered to each line of a transcript."""
+        self.begin()
+        told = [self.run(line) for line in lines]
+        if any(' sticker ' in line for line in lines):
+            self.end()
+        return told
+
+    def run(self, line):
+        """Runs a line of a transcript: the lines that are answered, each behind its client's number."""
+        first, _, rest = line.partition(' ')
+        if first == '!':
+            return self.step(rest.split(' '))
+        return self.say(int(first), self.filled(rest).encode())
+
+    def filled(self, text):
+        text = re.sub(r'\$(\d+)', lambda found: str(self.first_id + int(found.group(1))), text)
+        text = re.sub(r'%(-?\d+)', lambda found: str(self.first_version + int(found.group(1))), text)
+        return re.sub(r'\{(\d+)\*(.*?)\}', lambda found: int(found.group(1)) * found.group(2), text)
+
+    def say(self, number, data):
+        spoke = self.client(number)
+        answer = ['%d %s' % (number, self.normal(line, data.startswith(b'stats'))) for line in spoke.say(data)]
+        return answer + self.notices(number)
+
+    def notices(self, speaker=0):
+        """What clients that wait are told, but the one that spoke."""
+        waiting = [number for number in sorted(self.clients) if number != speaker and self.clients[number].is_idle]
+        if waiting:
+            self.owner.must('ping')
+            time.sleep(WAIT)
+        return ['%d %s' % (number, line) for number in waiting for line in self.clients[number].told(0.01)]
+
+    def step(self, words):
+        """`wait KEY [VALUE...]`: until the status has that key, with one of these values; `wait no KEY`: until it has it not.
+        `gone N`: client N disconnects. `bytes N HEX`: client N sends a line of these bytes."""
+        if words[0] == 'gone':
+            self.clients.pop(int(words[1])).close()
+            time.sleep(WAIT)
+            return self.notices()
+        if words[0] == 'bytes':
+            return self.say(int(words[1]), bytes.fromhex(words[2]))
+        if not self.becomes(*words[1:]):
+            return ['! it never had %s' % ' '.join(words[1:])]
+        return []
+
+    def becomes(self, key, *wanted):
+        end = time.monotonic() + LATEST
+        while time.monotonic() < end:
+            value = self.owner.value('status', wanted[0] if key == 'no' else key)
+            if value is None if key == 'no' else value is not None and (not wanted or value in wanted):
+                return True
+            time.sleep(0.02)
+        return False
+
+    def normal(self, line, is_stats):
+        """A line of an answer as it is compared."""
+        if line.startswith('partition: '):
+            self.partition = line.partition(': ')[2]
+        for pattern, plain in VOLATILE + ([('playtime: .*', 'playtime: T')] if is_stats else []):
+            line = re.sub('^%s' % pattern, plain, line)
+        line = re.sub(r'^((?:next)?songid|Id): (\d+)$', lambda found: '%s: $%d' % (found.group(1), int(found.group(2)) - self.first_id), line)
+        since = self.first_version if self.partition == 'default' else 1
+        return re.sub(r'^playlist: (\d+)$', lambda found: 'playlist: %%%d' % (int(found.group(1)) - since), line)
+
+
+def values(lines, key):
+    """The values of a key in an answer."""
+    return [line[len(key) + 2:] for line in lines if line.startswith(key + ': ')]
+
+
+def quoted(text):
+    return '"%s"' % text.replace('\\', '\\\\').replace('"', '\\"')
