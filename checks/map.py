@@ -128,6 +128,8 @@ THEOREMS = [
     ('partition_laws', 'feeds_no_newcomer', '', 'partition_laws/Owing', 'FeedsNoNewcomer', ''),
     'decoded frames are written or discarded, in order, then left',
     ('crew', 'close', 'settled', 'crew/Closing', 'ClosesRuns', ''),
+    ('crew_steps', 'Decoder::run', 'decodes', 'crew_steps/Decoders', 'RunsWith', ''),
+    ('crew_steps', 'Draining::run', 'runs', 'crew_steps/Drainings', 'RunsOut', ''),
     ('held_player', 'Held::settle_all', 'settles', 'held_player/Settling', 'SettlesInTurn', ''),
     ('frame_ledger', 'settle', 'balances', 'frame_ledger/Balance', 'Balances', ''),
     ('output_ring', 'Drainer::write_out', 'played', 'output_ring/Turns', 'WritesHand', ''),
@@ -155,7 +157,7 @@ THEOREMS = [
     ('settings', 'settings', 'taken', 'settings/Values', 'Says', 'settings: one_cause'),
     ('opened_player', 'player_of', 'opened', 'opened_player/Opened', 'opened_by', ''),
     ('kept_state', 'kept_of', '', 'kept_state/Told', 'IsTold', ''),
-    ('kept_state', 'state_text', '', 'kept_state/Texts', 'state_text', 'kept_state: gives_back; state_laws: players_come_back'),
+    ('kept_state', 'state_text', '', 'kept_state/Texts', 'state_text', 'kept_state: gives_back; state_laws: players_come_back told_texts_come_back'),
     ('kept_state', 'tell_lines', '', 'kept_state/Telling', 'TellsSteps', ''),
     ('command_line', 'command_line', 'asks', 'command_line/Programs', 'Asks', 'command_line: readings'),
 ]
