@@ -95,8 +95,8 @@ def rest_behind(line, wants, printed):
     return printed[length:]
 
 
-def compare(line, wants, printed):
-    """Raises the difference between what a line printed and what is wanted of it."""
+def behind(line, wants, printed):
+    """The lines that are left behind what a line printed; raises the difference between that and what is wanted of it."""
     groups = []
     for want in wants:
         if groups and (groups[-1][-1][0] == b'<') == (want[0] == b'<'):
@@ -106,7 +106,12 @@ def compare(line, wants, printed):
     rest = printed
     for group in groups:
         rest = rest_behind(line, group, rest)
-    if rest:
+    return rest
+
+
+def compare(line, wants, printed):
+    """Raises the difference between what a line printed, which is all of these lines, and what is wanted of it."""
+    if behind(line, wants, printed):
         raise Difference(line, [text for _, text in wants], printed)
 
 

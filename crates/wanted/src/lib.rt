@@ -4,13 +4,15 @@
 
 ghost use Rattle.std.specs.Prelude.{◌≡◌, ◌≢◌, IfOk, IsOk, OnErr, OnOk, string_bytes};
 
+mod parting;
 mod told;
 
+use crate::parting::Parting;
 use std::alloc::AllocError;
 use std::test::Fail;
 pub use told::Told;
 
-/// Something is told, and it is what is wanted.
+/// Something is told, and it is what is wanted. Where it is not, the fault names the first line that differs.
 pub fn wants<E: Drop>(told: Result<String, E>, wanted: &str) -> Result<(), Fail>
     ensures told { OnOk result (IsOk told) }
     ensures wanted { OnOk result (IfOk told (λ text. string_bytes text ≡ wanted.now)) }
@@ -22,7 +24,20 @@ pub fn wants<E: Drop>(told: Result<String, E>, wanted: &str) -> Result<(), Fail>
     if text.as_str() == wanted {
         return Ok(());
     }
-    Err(Fail::new(format_args!("{text}, and not {wanted}")))
+    Err(fail_at(Parting::of(text.as_str(), wanted)))
+}
+
+fn fail_at(parting: Parting<'_>) -> Fail {
+    let Parting {
+        line,
+        before,
+        told,
+        wanted,
+    } = parting;
+    let [third, second, first] = before;
+    Fail::new(format_args!(
+        "line {line} is\n  {told}\nand not\n  {wanted}\nbehind\n  {third}\n  {second}\n  {first}"
+    ))
 }
 
 /// The same of a text that is made.

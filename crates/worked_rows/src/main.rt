@@ -7,6 +7,7 @@
 
 mod broken;
 mod client;
+mod comparing;
 mod day;
 mod files;
 mod long_session;

@@ -1,13 +1,12 @@
-//! Row files, and what a script printed beside what one wants.
+//! Row files: what a session says, and what it wants to be printed.
 
 ghost use Rattle.std.specs.Prelude.{◌<◌, IfSome};
 
 use std::alloc::Global;
-use std::str::Lines;
 
 /// How an output line is wanted.
 #[derive(Clone, Copy, PartialEq, Eq)]
-enum Kind {
+pub(crate) enum Kind {
     /// The next line is this one.
     Exact,
     /// The answer has this line; other lines may come before it.
@@ -18,22 +17,26 @@ enum Kind {
 
 /// A wanted output line.
 #[derive(Drop)]
-struct Wanted {
-    kind: Kind,
+pub(crate) struct Wanted {
+    pub(crate) kind: Kind,
     /// The client whose answer it is; no byte of a client at a step.
-    speaker: u8,
+    pub(crate) speaker: u8,
     /// How many input lines come before it.
-    step: u64,
-    text: Vec<u8>,
+    pub(crate) step: u64,
+    /// The number of its line in the row file, from 1.
+    pub(crate) line: u64,
+    pub(crate) text: Vec<u8>,
 }
 
 /// A session: its input, the lines that stand in front of it in further runs, and the output that is wanted
-/// of each run. While it is read, also the number of the last input line and its client.
+/// of each run. While it is read, also the number of its last line, that of the last input line, and the
+/// latter's client.
 #[derive(Drop)]
 pub struct Row {
     input: Vec<u8>,
     again: Vec<String>,
     wanted: Vec<Wanted>,
+    line: u64,
     step: u64,
     speaker: u8,
 }
@@ -45,6 +48,7 @@ impl Row {
             input: Vec::new(alloc),
             again: Vec::new(alloc),
             wanted: Vec::new(alloc),
+            line: 0,
             step: 0,
             speaker: 0,
         };
@@ -58,6 +62,7 @@ impl Row {
 
     /// Takes in a line of a row file. False where it is of no kind, or where there is no memory.
     fn takes(&mut self, alloc: Global, line: &str) -> bool {
+        self.line = self.line.saturating_add(1);
         if is_passed_over(line) {
             return true;
         }
@@ -89,6 +94,7 @@ impl Row {
             kind,
             speaker: self.speaker,
             step: self.step,
+            line: self.line,
             text,
         };
         self.wanted.push(wanted).is_ok()
@@ -114,9 +120,8 @@ impl Row {
         &self.again
     }
 
-    /// How many lines were wanted, if the output is as wanted.
-    pub fn compare(&self, output: &[u8]) -> Option<u64> {
-        compare(&self.wanted, output)
+    pub(crate) fn wanted(&self) -> &[Wanted] {
+        &self.wanted
     }
 }
 
@@ -202,105 +207,4 @@ fn push_repeated<'a>(bytes: &mut Vec<u8>, text: &'a str) -> Option<&'a str> {
         }
     }
     Some(after)
-}
-
-/// How many lines were wanted, if the output is as wanted.
-fn compare(wanted: &[Wanted], output: &[u8]) -> Option<u64> {
-    let Ok(text) = str::from_utf8(output) else {
-        return None;
-    };
-    let mut lines = text.lines();
-    let mut open = None;
-    let mut count = 0u64;
-    for line in wanted {
-        if let Some((speaker, step)) = open
-            && (step != line.step || line.kind == Kind::Exact)
-        {
-            if !skip_answer(&mut lines, speaker) {
-                return None;
-            }
-            open = None;
-        }
-        if !is_met(&mut lines, line) {
-            return None;
-        }
-        if line.kind != Kind::Exact {
-            let ended = line.kind == Kind::Has && ends_answer(line.text.as_slice(), line.speaker);
-            open = if ended {
-                None
-            } else {
-                Some((line.speaker, line.step))
-            };
-        }
-        count = count.saturating_add(1);
-    }
-    let is_closed = match open {
-        Some((speaker, _)) => skip_answer(&mut lines, speaker),
-        None => true,
-    };
-    if is_closed && lines.next().is_none() {
-        Some(count)
-    } else {
-        None
-    }
-}
-
-/// Whether what is printed from here on is as a line is wanted.
-fn is_met(lines: &mut Lines<'_>, wanted: &Wanted) -> bool {
-    match wanted.kind {
-        Kind::Exact => match lines.next() {
-            Some(line) => line.as_bytes() == wanted.text.as_slice(),
-            None => false,
-        },
-        Kind::Has => find_in_answer(lines, wanted),
-        Kind::Lacks => match lines.clone() {
-            Ok(ahead) => lacks(ahead, wanted),
-            Err(_) => false,
-        },
-    }
-}
-
-/// Whether the answer has a line, from here on.
-fn find_in_answer(lines: &mut Lines<'_>, wanted: &Wanted) -> bool {
-    for line in lines {
-        if line.as_bytes() == wanted.text.as_slice() {
-            return true;
-        }
-        if ends_answer(line.as_bytes(), wanted.speaker) {
-            return false;
-        }
-    }
-    false
-}
-
-/// Whether no line of the answer begins so, from here on. An answer without an end is none.
-fn lacks(lines: Lines<'_>, unwanted: &Wanted) -> bool {
-    for line in lines {
-        if line.as_bytes().starts_with(unwanted.text.as_slice()) {
-            return false;
-        }
-        if ends_answer(line.as_bytes(), unwanted.speaker) {
-            return true;
-        }
-    }
-    false
-}
-
-/// Passes over the rest of an answer, which has to be a success.
-fn skip_answer(lines: &mut Lines<'_>, speaker: u8) -> bool {
-    for line in lines {
-        if ends_answer(line.as_bytes(), speaker) {
-            return line.as_bytes() == [speaker, b' ', b'O', b'K'].as_slice();
-        }
-    }
-    false
-}
-
-/// Whether a line ends an answer of a client.
-fn ends_answer(line: &[u8], speaker: u8) -> bool {
-    match line {
-        [first, b' ', b'O', b'K'] => *first == speaker,
-        [first, b' ', b'A', b'C', b'K', b' ', ..] => *first == speaker,
-        _ => false,
-    }
 }

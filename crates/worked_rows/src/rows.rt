@@ -7,10 +7,11 @@
 //! line of the answer begins so. `>e` and `<e` are the same with escapes: `\r`, `\t`, `\\`, `\xHH`, and
 //! `\{TEXT*N}` for a text N times.
 
+use crate::comparing::difference;
 use crate::row::Row;
 use crate::runs::run_between;
 use counted_devices::{FailAt, FailurePoint};
-use std::alloc::Global;
+use std::alloc::{AllocError, Global};
 use std::{fs, io};
 
 /// The most row files.
@@ -52,49 +53,61 @@ fn run_each(rt: &HostRuntime, names: &[String]) -> io::Result<()> {
     println!(rt; "{} rows, {lines} lines, {runs} runs", names.len())
 }
 
-/// Runs the row of a file, prints whether it passes, and adds to what all had. No lines where it does not.
+/// Runs the row of a file, prints whether it passes or what differs, and adds to what all had. No lines where it
+/// does not pass.
 fn run_row(rt: &HostRuntime, name: &str, all: &mut Passed) -> io::Result<()> {
     let text = fs::read_to_string(rt, name)?;
-    let Some(Passed { lines, runs }) = passes(rt.alloc(), text.as_str()) else {
-        return println!(rt; "{name}: DIFFERS");
-    };
-    all.lines = all.lines.saturating_add(lines);
-    all.runs = all.runs.saturating_add(runs);
-    println!(rt; "{name}: {lines} lines as wanted, runs: {runs}")
+    match run_of(rt.alloc(), text.as_str())? {
+        Outcome::Passes(Passed { lines, runs }) => {
+            all.lines = all.lines.saturating_add(lines);
+            all.runs = all.runs.saturating_add(runs);
+            println!(rt; "{name}: {lines} lines as wanted, runs: {runs}")
+        }
+        Outcome::Differs(difference) => println!(rt; "{name}: DIFFERS{difference}"),
+        Outcome::IsNoRow => println!(rt; "{name}: DIFFERS\n  it has a line of no kind"),
+    }
 }
 
-/// Runs a row as it is, and once more after each line of its `again`. `None` where a run prints something
-/// else, or where there is no memory for it.
-fn passes(alloc: Global, text: &str) -> Option<Passed> {
+/// What becomes of a row.
+#[derive(Drop)]
+enum Outcome {
+    Passes(Passed),
+    /// The first difference, of the first run that has one.
+    Differs(String),
+    IsNoRow,
+}
+
+/// Runs a row as it is, and once more after each line of its `again`.
+fn run_of(alloc: Global, text: &str) -> Result<Outcome, AllocError> {
     let Some(row) = Row::read(alloc, text) else {
-        return None;
+        return Ok(Outcome::IsNoRow);
     };
-    let Some(lines) = wanted_lines(alloc, &row, "") else {
-        return None;
-    };
+    if let Some(difference) = difference_behind(alloc, &row, "")? {
+        return Ok(Outcome::Differs(difference));
+    }
     let mut runs = 1u64;
     for first in row.again() {
-        if wanted_lines(alloc, &row, first.as_str()).is_none() {
-            return None;
+        if let Some(difference) = difference_behind(alloc, &row, first.as_str())? {
+            let told = format!(in alloc; "\n  behind the line {first}{difference}")?;
+            return Ok(Outcome::Differs(told));
         }
         runs = runs.saturating_add(1);
     }
-    Some(Passed { lines, runs })
+    Ok(Outcome::Passes(Passed {
+        lines: row.wanted().len() as u64,
+        runs,
+    }))
 }
 
-/// How many wanted lines a row has, if what the script prints for a first line and the row's input is what it
-/// wants.
-fn wanted_lines(alloc: Global, row: &Row, first: &str) -> Option<u64> {
-    let mut input = Vec::new(alloc);
-    if input.extend_from_slice(first.as_bytes()).is_err()
-        || input.extend_from_slice(row.input()).is_err()
-    {
-        return None;
-    }
+/// What differs of a row that is run behind a first line, if something does.
+fn difference_behind(alloc: Global, row: &Row, first: &str) -> Result<Option<String>, AllocError> {
+    let mut input = Vec::from_slice(alloc, first.as_bytes())?;
+    input.extend_from_slice(row.input())?;
     let reader = FailAt::new(input, FailurePoint::Never);
     let writer = FailAt::new(Vec::new(alloc), FailurePoint::Never);
-    match run_between(alloc, reader, writer) {
-        (Ok(()), written) => row.compare(written.bytes()),
-        (Err(_), _) => None,
+    let (ended, written) = run_between(alloc, reader, writer);
+    if ended.is_err() {
+        return Ok(Some(String::from_str(alloc, "\n  the script did not end well")?));
     }
+    difference(alloc, row.wanted(), written.bytes())
 }

@@ -1,0 +1,45 @@
+//! Where two texts part.
+
+/// What stands for a line where a text has none.
+const NO_LINE: &str = "(no line)";
+
+/// The first line in which two texts differ.
+pub(crate) struct Parting<'a> {
+    /// Its number, from 1.
+    pub(crate) line: u64,
+    /// The three lines before it, which both texts have.
+    pub(crate) before: [&'a str; 3],
+    pub(crate) told: &'a str,
+    pub(crate) wanted: &'a str,
+}
+
+impl<'a> Parting<'a> {
+    /// Where what was told parts from what was wanted. Of texts with the same lines, as where one lacks its last
+    /// newline, it is behind the last one.
+    pub(crate) fn of(told: &'a str, wanted: &'a str) -> Parting<'a> {
+        let mut parting = Parting {
+            line: 1,
+            before: [NO_LINE; 3],
+            told: NO_LINE,
+            wanted: NO_LINE,
+        };
+        let mut others = wanted.lines();
+        for line in told.lines() {
+            let other = others.next();
+            if other != Some(line) {
+                parting.told = line;
+                parting.wanted = other.unwrap_or(NO_LINE);
+                return parting;
+            }
+            parting.pass(line);
+        }
+        parting.wanted = others.next().unwrap_or(NO_LINE);
+        parting
+    }
+
+    fn pass(&mut self, line: &'a str) {
+        let [_, second, first] = self.before;
+        self.before = [second, first, line];
+        self.line = self.line.saturating_add(1);
+    }
+}
