@@ -2,7 +2,7 @@
 //! what was taken is written or discarded, in order, then held, in the ring, or owed.
 #![tactic(auto)]
 
-ghost use Rattle.std.specs.Prelude.{◌≡◌, [], IfOk};
+ghost use Rattle.std.specs.Prelude.{◌≡◌, ◌≤◌, [], IfOk};
 ghost use Rattle.output_ring.specs.Rings.{AreEnds, HasNoFates, HasNoFrames, taken_of, owed_of, room_of};
 
 pub mod drainer;
@@ -29,8 +29,16 @@ pub fn ring(alloc: Global, capacity: usize, hand: usize) -> Result<(Feeder, Drai
     ensures counts { IfOk result (λ r. HasNoFates r.1) }
 {
     let (frames_in, frames_out) = RingBuffer::new(alloc, capacity)?;
-    let (runs_in, runs_out) = RingBuffer::new(alloc, capacity.max(1))?;
+    let (runs_in, runs_out) = RingBuffer::new(alloc, most_runs(capacity))?;
     let feeder = Feeder::new(alloc, Inlet::new(frames_in, runs_in))?;
     let drainer = Drainer::new(alloc, Outlet::new(frames_out, runs_out), hand)?;
     Ok((feeder, drainer))
+}
+
+/// How many runs a ring of so many frames has room for, at least one. A block of 1,024 frames makes one run, and one
+/// more for each time that the ring has no room for all of it, so that a run for 32 frames is more than enough.
+fn most_runs(capacity: usize) -> usize
+    ensures { 1 ≤ result }
+{
+    capacity.min((capacity / 32).max(64)).max(1)
 }
