@@ -62,6 +62,8 @@ struct Bench<L: Ledgers, S> {
     alloc: Global,
     source: S,
     rate: u32,
+    /// How many frames the ring of an output holds.
+    ring: usize,
     share: Share<Decoded<L>>,
     /// Room for the ends of the feeders.
     room: Vec<FeederEnd>,
@@ -83,10 +85,11 @@ fn decode<L: Ledgers, S: SongSource<M> + Drop, M: Media + Drop, R: Wait + Clock 
         alloc,
         source,
         rate,
+        ring,
         share,
         room,
     } = bench;
-    let decoder: Decoder<L, S, M, R> = Decoder::new(&rt, alloc, &*house, source, rate, share);
+    let decoder: Decoder<L, S, M, R> = Decoder::new(&rt, alloc, &*house, source, rate, ring, share);
     decoder.run(feeders, room)
 }
 
@@ -152,7 +155,8 @@ fn make_rooms<L: Ledgers>(
     })
 }
 
-/// Starts the decoder, which reads songs of this rate from a source and feeds these outputs.
+/// Starts the decoder, which reads songs of this rate from a source and feeds these outputs, whose rings hold so
+/// many frames each.
 ///
 /// # Errors
 ///
@@ -169,6 +173,7 @@ pub fn start_decoder<
     house: &Arc<House<L>, Global>,
     source: S,
     rate: u32,
+    ring: usize,
     outputs: OutputRuns<L>,
     share: Share<Decoded<L>>,
 ) -> Result<Crew<L>, AllocError>
@@ -192,6 +197,7 @@ pub fn start_decoder<
         alloc,
         source,
         rate,
+        ring,
         share,
         room,
     };

@@ -29,11 +29,25 @@ const PAUSE: u64 = 50;
 /// How often it looks at full rings before it rests, where it decoded several blocks without a rest.
 const LOOKS: u32 = 200;
 
-/// How many microseconds it rests after several blocks without a rest: frames are taken fast.
+/// How many microseconds it rests after more blocks than a rest is for: frames are taken fast.
 const SHORT_REST: u64 = 100;
 
-/// How often it looks by time at rings into which no frame goes, before it rests until something changes.
+/// Up to how many microseconds a rest is slept. A longer one ends where something changes.
+const LONGEST_SLEEP: u64 = 5_000;
+
+/// The most blocks that a rest is for, and the most microseconds that it takes while a song is played.
+const MOST_BLOCKS: u64 = 4;
+
+const LONGEST_REST: u64 = 100_000;
+
+/// How often it looks by time at rings into which no frame goes, before it looks each second.
 const VAIN_LOOKS: u32 = 16;
+
+/// How many milliseconds it rests at most where nothing is played: while frames wait for room in a ring, since
+/// nothing tells of the room, and while none do.
+const OWING_REST: u64 = 1_000;
+
+const IDLE_REST: u64 = 3_600_000;
 
 /// A decoder that runs: it hands the frames of the house's jobs to the feeders of the outputs. The partitions
 /// are asked for jobs in turn, so that each has its own however many there are.
@@ -51,7 +65,9 @@ pub struct Decoder<'h, L: Ledgers, S: SongSource<M> + Drop, M: Media + Drop, R: 
     idle: usize,
     /// How often the house had changed when the first of them was asked.
     seen: u64,
-    /// How many microseconds it rests at most while a song is played: the time that a block lasts.
+    /// How many blocks a rest is for while a song is played: those of half a ring, at least one.
+    blocks: u64,
+    /// How many microseconds it rests at most while a song is played: the time that these blocks last.
     look: u64,
     /// How many microseconds it rests now.
     wait: u64,
@@ -82,11 +98,16 @@ enum Next {
     Decodes(Job, u64),
 }
 
-/// How long a block of 1,024 frames lasts, in microseconds, from 1,000 to 40,000.
-fn look_at(rate: u32) -> u64 {
-    (1_024_000_000 / u64::from(rate.max(1)))
+/// How many blocks of 1,024 frames are half a ring, from one to four.
+fn blocks_of(ring: usize) -> u64 {
+    (ring as u64 / 2_048).max(1).min(MOST_BLOCKS)
+}
+
+/// How long so many blocks of 1,024 frames last, in microseconds, from 1,000 to 100,000.
+fn time_of(blocks: u64, rate: u32) -> u64 {
+    (blocks.min(MOST_BLOCKS) * 1_024_000_000 / u64::from(rate.max(1)))
         .max(1_000)
-        .min(40_000)
+        .min(LONGEST_REST)
 }
 
 impl<'h, L: Ledgers, S: SongSource<M> + Drop, M: Media + Drop, R: Wait + Clock> Decoder<
@@ -109,19 +130,21 @@ impl<'h, L: Ledgers, S: SongSource<M> + Drop, M: Media + Drop, R: Wait + Clock> 
     ghost use Rattle.crew_steps.specs.Songs.{Fails, IfFailed, IsFaultOf};
     ghost use Rattle.crew_steps.specs.Sounds.{AreOpenFor, KeepsOther, is_partner, is_song, song_at};
 
-    /// A decoder of songs of this rate, which it has of this source.
+    /// A decoder of songs of this rate, which it has of this source, for outputs whose rings hold so many frames.
     pub fn new(
         rt: &'h R,
         alloc: Global,
         house: &'h House<L>,
         source: S,
         rate: u32,
+        ring: usize,
         share: Share<Decoded<L>>,
     ) -> Self
         requires { share.parts ≡ 1 }
         ensures rate { result.songs.rate ≡ rate }
         ensures source { result.songs.source ≡ source }
     {
+        let blocks = blocks_of(ring);
         Decoder {
             rt,
             alloc,
@@ -132,7 +155,8 @@ impl<'h, L: Ledgers, S: SongSource<M> + Drop, M: Media + Drop, R: Wait + Clock> 
             place: 0,
             idle: 0,
             seen: 0,
-            look: look_at(rate),
+            blocks,
+            look: time_of(blocks, rate),
             wait: SHORT_REST,
             streak: 0,
             vain: 0,
@@ -281,7 +305,7 @@ impl<'h, L: Ledgers, S: SongSource<M> + Drop, M: Media + Drop, R: Wait + Clock> 
         ensures kept { Each TakesNone feeders.old.items feeders.new.items }
         ensures rate { self.new.songs.rate ≡ self.old.songs.rate }
     {
-        let looks = if self.streak > 2 { LOOKS } else { 1 };
+        let looks = if self.is_fast() { LOOKS } else { 1 };
         for _ in 0..looks {
             let pushed = push_all(feeders);
             self.vain = if pushed.moves { 0 } else { self.vain };
@@ -442,6 +466,12 @@ impl<'h, L: Ledgers, S: SongSource<M> + Drop, M: Media + Drop, R: Wait + Clock> 
         unreachable!()
     }
 
+    /// Whether it decoded more blocks since its last rest than that was for, and one that went while the rest was
+    /// over late: frames are taken fast.
+    fn is_fast(&self) -> bool {
+        self.streak > self.blocks.saturating_add(1)
+    }
+
     /// Rests until something changes. While frames still leave the rings it looks by time, since nothing
     /// tells of them, whether a song is played or the last one has ended.
     fn rest(&mut self, seen: u64, owes: bool)
@@ -449,25 +479,35 @@ impl<'h, L: Ledgers, S: SongSource<M> + Drop, M: Media + Drop, R: Wait + Clock> 
         ensures kept { (self.new.idle ≡ self.old.idle) × (self.new.seen ≡ self.old.seen) }
         ensures rate { self.new.songs.rate ≡ self.old.songs.rate }
     {
-        // A rest of a block's time may be over late, so that two went. Where more did, it was too long.
-        self.wait = if self.streak > 2 {
+        self.wait = if self.is_fast() {
             SHORT_REST
         } else {
             self.wait.saturating_mul(2).min(self.look)
         };
         self.streak = 0;
         let wait = Duration::from_micros(self.wait);
-        if owes && self.vain < VAIN_LOOKS {
-            self.vain += 1;
+        let looks = owes && self.vain < VAIN_LOOKS;
+        self.vain = if looks {
+            self.vain.saturating_add(1)
+        } else {
+            self.vain
+        };
+        if looks && self.wait <= LONGEST_SLEEP {
             thread::sleep(self.rt, wait);
         } else {
-            let _ = self.house.rest(self.rt, seen, wait);
+            let idle = if looks { wait } else { idle_rest(owes) };
+            let _ = self.house.rest(self.rt, seen, wait, idle);
         }
     }
 
     fn pause(&self) {
         thread::sleep(self.rt, Duration::from_millis(PAUSE));
     }
+}
+
+/// How long it rests at most where nothing is played, and it does not look by time.
+fn idle_rest(owes: bool) -> Duration {
+    Duration::from_millis(if owes { OWING_REST } else { IDLE_REST })
 }
 
 /// Whether so many partitions, passed over one after the other, are all.

@@ -20,8 +20,8 @@ use std::time::{Clock, Duration};
 /// How many milliseconds an enabled output without frames rests at most while a song is played.
 const LOOK: u64 = 10;
 
-/// How many milliseconds an output rests at most that is off.
-const OFF: u64 = 1_000;
+/// How many milliseconds an output rests at most that is off, or while none is played.
+const OFF: u64 = 3_600_000;
 
 /// How many microseconds it waits for frames that may be on their way. Others wait for the slowest output, so
 /// a longer sleep would hold up all where frames are taken fast.
@@ -211,9 +211,8 @@ impl<'h, L: Ledgers, O: Sink + Drop, G: Gate, R: Wait + Clock> Draining<'h, L, O
             return;
         }
         let look = if enabled { LOOK } else { OFF };
-        let _ = self
-            .house
-            .rest(self.rt, changes, Duration::from_millis(look));
+        let (look, idle) = (Duration::from_millis(look), Duration::from_millis(OFF));
+        let _ = self.house.rest(self.rt, changes, look, idle);
     }
 
     fn pause(&self) {

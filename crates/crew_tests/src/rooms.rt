@@ -270,7 +270,8 @@ fn decoder_of<
     requires part { share.parts ≡ 1 }
     requires few { vec_len outputs.runs ≤ 8 }
 {
-    Ok(start_decoder(rt, alloc, house, files, 8_000, outputs, share)?)
+    let (rate, ring) = (8_000, 8_192);
+    Ok(start_decoder(rt, alloc, house, files, rate, ring, outputs, share)?)
 }
 
 /// The crew with the thread of a scanner.

@@ -29,9 +29,6 @@ use std::sync::ledger::Share;
 use std::sync::{Condvar, Mutex, Wait};
 use std::time::{Clock, Duration};
 
-/// How long a thread rests at most while nothing is played, in milliseconds.
-const IDLE_REST: u64 = 1_000;
-
 /// A player that any thread may use.
 pub struct House<L: Ledgers> {
     held: Mutex<Held<L>>,
@@ -331,19 +328,21 @@ impl<L: Ledgers> House<L> {
         self.held.lock(rt).has_ended()
     }
 
-    /// Rests until something changed since the house had changed so often; while a song is played, no longer
-    /// than the time that is given, and else a second. Answers how often it has changed by then.
+    /// Rests until something changed since the house had changed so often, but no longer than a time: one while a
+    /// song is played, and another while none is. Answers how often it has changed by then.
     ///
     /// What changes is what a thread has something to do for
     /// ([`Reported::changes`](held_player::Reported::changes)): which partitions there are, in each whether and
     /// what is played and which outputs are enabled, frames that are fed, and the end.
-    pub fn rest<R: Wait + Clock>(&self, rt: &R, seen: u64, while_playing: Duration) -> u64 {
+    pub fn rest<R: Wait + Clock>(
+        &self,
+        rt: &R,
+        seen: u64,
+        while_playing: Duration,
+        while_idle: Duration,
+    ) -> u64 {
         let plays = self.held.lock(rt).plays();
-        let most = if plays {
-            while_playing
-        } else {
-            Duration::from_millis(IDLE_REST)
-        };
+        let most = if plays { while_playing } else { while_idle };
         let (held, _is_late) = self.state_changed.wait_timeout_while(
             rt,
             self.held.lock(rt),

@@ -77,7 +77,7 @@ fn waits<L: Ledgers, R: Wait + Clock>(
     let most = Duration::from_secs(600);
     begun.store(1, Ordering::SeqCst);
     match waited {
-        Waited::Change(before) => house.rest(rt, before, most) != before,
+        Waited::Change(before) => house.rest(rt, before, most, most) != before,
         Waited::Notice => house.await_notice(rt, most),
         Waited::Scan => house.await_scan(rt, most),
     }

@@ -111,7 +111,8 @@ fn rests<L: Ledgers, R: Wait + Clock>(
     if says(rt, alloc, house, seat, 2, line).is_err() {
         told.fail();
     }
-    let is_seen = house.rest(rt, before, Duration::from_millis(1)) != before;
+    let most = Duration::from_millis(1);
+    let is_seen = house.rest(rt, before, most, most) != before;
     told.add(format_args!("{line}: {is_seen}\n"));
 }
 

@@ -120,7 +120,8 @@ fn start_crew<
     let CrewShares { decoded, outputs } = shares;
     let rings = output_setups(alloc, manner.ring, writers)?;
     let outputs = start_outputs(rt, alloc, house, gates, rings, outputs)?;
-    start_decoder::<L, N, M, R>(rt, alloc, house, source, manner.rate, outputs, decoded)
+    let (rate, ring) = (manner.rate, manner.ring);
+    start_decoder::<L, N, M, R>(rt, alloc, house, source, rate, ring, outputs, decoded)
 }
 
 /// Ends the threads, and prints what became of each output's frames.
