@@ -26,7 +26,7 @@ use shelf::Shelf;
 use song_db::SharedSong;
 use std::alloc::{AllocError, Global};
 use std::sync::ledger::Share;
-use std::sync::{Condvar, Mutex, Wait};
+use std::sync::{Condvar, Mutex, MutexGuard, Wait};
 use std::time::{Clock, Duration};
 
 /// A player that any thread may use.
@@ -116,13 +116,9 @@ impl<L: Ledgers> House<L> {
         ensures somewhere { IfOk result (AnswersClient S.standing S.failed shelf.old shelf.new seat.old client request) }
         ensures front { IfOk result (λ a. IfSome a.front (λ notice. notice.client ≡ client)) }
     {
-        let (told, rung) = {
-            let mut held = self.held.lock(rt);
-            let before = held.changes();
-            let told = held.command(seat, shelf, client, request);
-            (told, rung_since(&*held, before))
-        };
-        self.ring(rung);
+        let (mut held, before) = self.take(rt);
+        let told = held.command(seat, shelf, client, request);
+        self.leave(held, before);
         told
     }
 
@@ -146,13 +142,9 @@ impl<L: Ledgers> House<L> {
         ensures front { IfOk result (λ a. IfSome a.front (λ notice. notice.client ≡ client)) }
         ensures stopped { IfErr result (StopsIn S.standing S.failed shelf.old shelf.new seat.old client form requests) }
     {
-        let (told, rung) = {
-            let mut held = self.held.lock(rt);
-            let before = held.changes();
-            let told = held.list(seat, shelf, client, form, requests);
-            (told, rung_since(&*held, before))
-        };
-        self.ring(rung);
+        let (mut held, before) = self.take(rt);
+        let told = held.list(seat, shelf, client, form, requests);
+        self.leave(held, before);
         told
     }
 
@@ -172,13 +164,9 @@ impl<L: Ledgers> House<L> {
         ensures refused { IfErr result (λ fault. RefusesSomewhere seat.old (event_of news) fault) }
         ensures somewhere { IfOk result (λ told. TellsSomewhere seat.old (event_of news) told) }
     {
-        let (told, rung) = {
-            let mut held = self.held.lock(rt);
-            let before = held.changes();
-            let told = held.notice(seat, news);
-            (told, rung_since(&*held, before))
-        };
-        self.ring(rung);
+        let (mut held, before) = self.take(rt);
+        let told = held.notice(seat, news);
+        self.leave(held, before);
         told
     }
 
@@ -220,13 +208,9 @@ impl<L: Ledgers> House<L> {
         ensures parts { share.new.parts ≡ share.old.parts }
         ensures fault { OnErr result ((seat.new ≡ seat.old) × (share.new ≡ share.old)) }
     {
-        let (told, rung) = {
-            let mut held = self.held.lock(rt);
-            let before = held.changes();
-            let told = held.have(seat, place, number, frames, share);
-            (told, rung_since(&*held, before))
-        };
-        self.ring(rung);
+        let (mut held, before) = self.take(rt);
+        let told = held.have(seat, place, number, frames, share);
+        self.leave(held, before);
         told
     }
 
@@ -251,13 +235,9 @@ impl<L: Ledgers> House<L> {
         ensures parts { KeepsParts shares.old shares.new }
         ensures fault { OnErr result ((seat.new ≡ seat.old) × (shares.new ≡ shares.old)) }
     {
-        let (told, rung) = {
-            let mut held = self.held.lock(rt);
-            let before = held.changes();
-            let told = held.turn(seat, output, fates, failed, shares);
-            (told, rung_since(&*held, before))
-        };
-        self.ring(rung);
+        let (mut held, before) = self.take(rt);
+        let told = held.turn(seat, output, fates, failed, shares);
+        self.leave(held, before);
         told
     }
 
@@ -378,6 +358,20 @@ impl<L: Ledgers> House<L> {
             |held| !held.scans() && !held.has_ended(),
         );
         held.scans()
+    }
+
+    /// Takes the lock. With it comes how often what it holds had changed.
+    fn take(&self, rt: &impl Wait) -> (MutexGuard<'_, Held<L>>, u64) {
+        let held = self.held.lock(rt);
+        let before = held.changes();
+        (held, before)
+    }
+
+    /// Frees the lock, and then wakes the threads that rest, if they are to be woken for what changed.
+    fn leave(&self, held: MutexGuard<'_, Held<L>>, before: u64) {
+        let rung = rung_since(&*held, before);
+        drop(held);
+        self.ring(rung);
     }
 
     /// Wakes the threads that rest, if they are to be woken.
