@@ -80,16 +80,17 @@ FRAME = [
 HELD = [
     (0, 'house', 'House', {'held': 'the lock', 'state_changed': None, 'notices_wait': None, 'scan_runs': None}),
     (1, 'held_player', 'Held', {
-        'counted': 'the player, below', 'waiting': 'notices that are not delivered yet', 'books': 'frames decoded, written, discarded',
-        'free': 'seats that nobody has', 'closed': 'all shares, once outputs are settled', 'alloc': None, 'changes': None}),
-    (2, 'counted_player', 'Counted', {'partition': 'below', 'seats': 'how many events each counted seat made'}),
-    (3, 'partition', 'Partition', {
+        'core': 'the player with its notices, below', 'books': 'frames decoded, written, discarded',
+        'free': 'seats that nobody has', 'closed': 'all shares, once outputs are settled', 'alloc': None}),
+    (2, 'held_player', 'Core', {'counted': 'the player, below', 'waiting': 'notices that are not delivered yet', 'changes': None}),
+    (3, 'counted_player', 'Counted', {'partition': 'below', 'seats': 'how many events each counted seat made'}),
+    (4, 'partition', 'Partition', {
         'base': 'the state that the window begins at', 'history': 'the window of events', 'state': 'the present one, below',
         'limit': 'how many events the window may have', 'bytes': None, 'alloc': None}),
-    (4, 'partition', 'State', {
+    (5, 'partition', 'State', {
         'parts': 'each partition, below', 'openings': 'what a new partition starts with', 'library': 'the songs, and the scan', 'made': 'how many events each seat made', 'books': 'frames of each output',
         'ended': 'whether the daemon has ended', 'clients': 'the partition of each, its tags, what it waits for, what is pending'}),
-    (5, 'player_state', 'Part', {
+    (6, 'player_state', 'Part', {
         'place': 'its number', 'name': None, 'queue': 'slots, stamps, ids', 'player': 'what is played', 'volume': None,
         'outputs': 'which are enabled or failed', 'channels': 'who listens, and messages', 'played': None}),
 ]

@@ -10,18 +10,20 @@ use Rattle.counted_player.proofs.seat.Seat.TheSendSync as seat
 use Rattle.held_player.proofs.all_shares.AllShares.TheSendSync as all_shares
 use Rattle.held_player.specs.contracts.held.Held as Held
 use Rattle.held_player.specs.contracts.held.Held.TheInside as HeldInside
+use Rattle.held_player.specs.contracts.player.Core as Core
 use Rattle.counted_player.proofs.Crosses.{counted_send}
 
 ruleset parts = (crosses, sendable)
 
 module _ (L : RattleType) (l : Ghosts L.Denot) where
+  core_send : IsSend (Core.the_row L l)
+  core_send = declared_send (Core.the_type L l) (counted_send L l ⨟ search parts depth 60 fits 20000 ⨟ search parts depth 60 fits 20000 ⨟ tt)
+
   pub held_send : IsSend (Held.the_row L l)
   held_send = view_send _ _ _ _ _ (declared_send (HeldInside.the_type L l) (
       search parts depth 60 fits 20000 ⨟
-      counted_send L l ⨟
-      search parts depth 60 fits 20000 ⨟
+      core_send ⨟
       search (books.the_send, parts) depth 60 fits 20000 ⨟
       search (seat.the_send, parts) depth 60 fits 20000 ⨟
       search (all_shares.the_send, parts) depth 60 fits 20000 ⨟
-      search parts depth 60 fits 20000 ⨟
       tt))

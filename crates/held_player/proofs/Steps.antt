@@ -2,11 +2,14 @@
 use Rattle.std.proofs.Common.{◌≡◌, inl, inr, ℕ, ◌+◌, ◌<◌, ◌≤◌, ◌^◌, true, false, Option, None, Some, length, refl, ap, ◌∙◌, Bool, List, arith}
 use Rattle.std.specs.Prelude.{Result, Ok, Err, IfErr, IfOk, OnErr, OnOk, sum}
 use Rattle.player_events.specs.declared.event.Event.{Event}
+use Rattle.player_events.specs.declared.event.Event.TheVariants.{Connect, Disconnect, Line, ScanQuestion, ScanResult, Want, Have, Failed, OutputTurn, End}
 use Rattle.partition.specs.declared.partition.PartitionFault.{PartitionFault}
 use Rattle.player_events.specs.Outcomes.{OutcomeData}
 use Rattle.partition.specs.History.{Chronicle, joined_by}
-use Rattle.partition.specs.Image.{Image, Overview}
-use Rattle.partition.specs.Step.{failure, limit_of, next_image, told, transition, transition_of, want}
+use Rattle.parts.specs.Parts.{part_at}
+use Rattle.partition.specs.Image.{Image, Overview, overview}
+use Rattle.partition.specs.Legal.{IsPast}
+use Rattle.partition.specs.Step.{failure, limit_of, next_image, place_at, speaker_in, told, transition, transition_of, want}
 use Rattle.partition.specs.Steps.{RefusesStep}
 use Rattle.player_events.specs.Events.{is_line}
 use Rattle.player_state.specs.Outputs.{FrameBooks}
@@ -16,8 +19,9 @@ use Rattle.player_state.specs.declared.state.Part.{Part}
 use Rattle.held_player.specs.declared.news.News.{News}
 use Rattle.held_player.specs.declared.news.News.TheVariants as news
 use Rattle.held_player.specs.News.{event_of}
+use Rattle.held_player.specs.Player.{BooksFollow, CanCount}
 use Rattle.held_player.specs.Views.{IsRefusedFor, IsUnchangedOrFolded, entry}
-use Rattle.counted_player.proofs.Booked.{HasEight, all_stay, decoded_grows, discarded_grows, few_after, written_grows}
+use Rattle.counted_player.proofs.Booked.{HasEight, all_stay, decoded_grows, discarded_grows, few_after, has_eight, have_fates, turn_decoded, written_grows}
 use Rattle.counted_player.proofs.Frameless.{is_frameless}
 use Rattle.counted_player.proofs.ListEntries.{room_keeps}
 use Rattle.held_player.proofs.Few.{few_notices}
@@ -40,7 +44,7 @@ failure_frameless : (part : Option Part) (number : ℕ) (partner : Bool) → is_
 failure_frameless None number partner = refl
 failure_frameless (Some part) number partner = refl
 
-pub news_frameless : (o : Overview) (part : Option Part) (library : Library) (client : Option Client) (piece : News) → is_frameless (transition_of o part library client (event_of piece)).effect ≡ true
+news_frameless : (o : Overview) (part : Option Part) (library : Library) (client : Option Client) (piece : News) → is_frameless (transition_of o part library client (event_of piece)).effect ≡ true
 news_frameless o part library client (news.Comes number) = refl
 news_frameless o part library client (news.Goes number) = refl
 news_frameless o part library client news.AsksToScan = refl
@@ -48,17 +52,23 @@ news_frameless o part library client (news.Scanned songs second) = refl
 news_frameless o part library client (news.Wants place owes) = want_frameless o.ended part owes
 news_frameless o part library client (news.Failed place number partner) = failure_frameless part number partner
 
--- there is room for its notices
-pub has_room_for : (i : Image) (event : Event) (r : Result OutcomeData PartitionFault) (waiting capacity : ℕ) → waiting + length i.clients ≤ capacity
-    → IfOk r (λ outcome. outcome ≡ told i event) → IfOk r (λ outcome. waiting + length outcome.notices ≤ capacity)
-has_room_for i event (Ok outcome) waiting capacity room is =
+-- the same of the whole image
+quiet_frameless : (i : Image) (piece : News) → is_frameless (transition i (event_of piece)).effect ≡ true
+quiet_frameless i piece =
+    news_frameless (overview i) (part_at (place_at i (event_of piece)) i.parts) i.shared.library (speaker_in i.clients (event_of piece)) piece
+
+-- it gives no more notices than there are clients
+pub few_told : (i : Image) (event : Event) (outcome : OutcomeData) → outcome ≡ told i event → length outcome.notices ≤ length i.clients
+few_told i event outcome is =
     let few = few_notices i event in
     let same : length outcome.notices ≡ length (told i event).notices = ap (λ (t : OutcomeData). length t.notices) is in
-    omega (arith, room, few, same)
-has_room_for i event (Err fault) waiting capacity room is = tt
+    omega (arith, few, same)
 
 at_most : (n : ℕ) → n ≤ n
 at_most n = omega arith
+
+no_line : true ≡ false → ⊥
+no_line e = cc
 
 abbrev books_of : Chronicle → FrameBooks
 books_of c = c.present.shared.books
@@ -122,13 +132,54 @@ module _ (before after : Chronicle) (seat : ℕ) (event : Event) where
     discarded_rise = rises (λ (b : FrameBooks). b.discarded) (λ i is. discarded_grows seat before.present i event eight is)
 
   -- all of them can be counted
-  pub few_decoded : (r : Result OutcomeData PartitionFault) → OnOk r (limit_of seat before.present event ≡ None) → Joins r → OnOk r (sum after.present.shared.books.decoded < 2 ^ 63)
-  few_decoded (Ok outcome) within joins = (few_after seat before.present after.present event within (steps_to outcome joins)).decoded
-  few_decoded (Err fault) within joins = tt
-
-  pub few_fates : (r : Result OutcomeData PartitionFault) → OnOk r (limit_of seat before.present event ≡ None) → Joins r
-      → OnOk r ((sum after.present.shared.books.written < 2 ^ 63) × (sum after.present.shared.books.discarded < 2 ^ 63))
-  few_fates (Ok outcome) within joins =
+  pub few_frames : (r : Result OutcomeData PartitionFault) → OnOk r (limit_of seat before.present event ≡ None) → Joins r → OnOk r (CanCount (books_of after))
+  few_frames (Ok outcome) within joins =
       let all = few_after seat before.present after.present event within (steps_to outcome joins) in
-      (all.written, all.discarded)
-  few_fates (Err fault) within joins = tt
+      (all.decoded, all.written, all.discarded)
+  few_frames (Err fault) within joins = tt
+
+-- what an event brings to the books
+module _ (before after : Chronicle) (seat : ℕ) (past : IsPast before) where
+  eight : HasEight before.present.shared.books
+  eight = has_eight before past
+
+  quiet : (piece : News) (r : Result OutcomeData PartitionFault) → Joins before after seat (event_of piece) r → LeavesUnchanged before after seat (event_of piece) r
+      → BooksFollow (event_of piece) before after
+  quiet (news.Comes client) r joins leaves = step_stays before after seat (Connect client) eight (quiet_frameless before.present (news.Comes client)) r joins leaves
+  quiet (news.Goes client) r joins leaves = step_stays before after seat (Disconnect client) eight (quiet_frameless before.present (news.Goes client)) r joins leaves
+  quiet news.AsksToScan r joins leaves = step_stays before after seat ScanQuestion eight (quiet_frameless before.present news.AsksToScan) r joins leaves
+  quiet (news.Scanned songs second) r joins leaves = step_stays before after seat (ScanResult songs second) eight (quiet_frameless before.present (news.Scanned songs second)) r joins leaves
+  quiet (news.Wants place owes) r joins leaves = step_stays before after seat (Want place owes) eight (quiet_frameless before.present (news.Wants place owes)) r joins leaves
+  quiet (news.Failed place number partner) r joins leaves =
+      step_stays before after seat (Failed place number partner) eight (quiet_frameless before.present (news.Failed place number partner)) r joins leaves
+
+  pub follows : (event : Event) → is_line event ≡ false → (r : Result OutcomeData PartitionFault) → Joins before after seat event r → LeavesUnchanged before after seat event r
+      → BooksFollow event before after
+  follows (Connect client) step r joins leaves = quiet (news.Comes client) r joins leaves
+  follows (Disconnect client) step r joins leaves = quiet (news.Goes client) r joins leaves
+  follows (Line client stand request heard) step r joins leaves = absurd (no_line step)
+  follows ScanQuestion step r joins leaves = quiet news.AsksToScan r joins leaves
+  follows (ScanResult songs second) step r joins leaves = quiet (news.Scanned songs second) r joins leaves
+  follows (Want place owes) step r joins leaves = quiet (news.Wants place owes) r joins leaves
+  follows (Have place number frames) step r joins leaves =
+      let event : Event = Have place number frames in (
+        decoded_rise before after seat event eight r joins leaves,
+        step_part before after seat event eight (λ (b : FrameBooks). b.written) r (λ i is. (have_fates seat before.present i place number frames eight is).0) joins leaves,
+        step_part before after seat event eight (λ (b : FrameBooks). b.discarded) r (λ i is. (have_fates seat before.present i place number frames eight is).1) joins leaves,
+      )
+  follows (Failed place number partner) step r joins leaves = quiet (news.Failed place number partner) r joins leaves
+  follows (OutputTurn output written discarded failed) step r joins leaves =
+      let event : Event = OutputTurn output written discarded failed in (
+        (written_rise before after seat event eight r joins leaves, discarded_rise before after seat event eight r joins leaves),
+        step_part before after seat event eight (λ (b : FrameBooks). b.decoded) r (λ i is. turn_decoded seat before.present i output written discarded failed eight is) joins leaves,
+      )
+  follows End step r joins leaves = step_stays before after seat End eight refl r joins leaves
+
+-- a piece of news leaves them
+pub news_stay : (before after : Chronicle) (piece : News) → BooksFollow (event_of piece) before after → books_of after ≡ books_of before
+news_stay before after (news.Comes client) follow = follow
+news_stay before after (news.Goes client) follow = follow
+news_stay before after news.AsksToScan follow = follow
+news_stay before after (news.Scanned songs second) follow = follow
+news_stay before after (news.Wants place owes) follow = follow
+news_stay before after (news.Failed place number partner) follow = follow

@@ -1,5 +1,6 @@
 pub mod Waiting
 pub mod Views
+pub mod Player
 pub mod News
 pub mod Lists
 pub mod Settling

@@ -16,10 +16,10 @@ event_of (news.Scanned songs second) = ScanResult songs second
 event_of (news.Wants place owes) = Want place owes
 event_of (news.Failed place number partner) = Failed place number partner
 
--- the client that goes, if one goes
-abbrev pub gone_of : News → Option ℕ
-gone_of (news.Goes client) = Some client
-gone_of _ = None
+-- the client that goes at an event, if one goes
+abbrev pub gone_at : Event → Option ℕ
+gone_at (Disconnect client) = Some client
+gone_at _ = None
 
 -- the notices that still wait: those of a client that goes are dropped
 abbrev pub kept_without : Option ℕ → List Notice → List Notice
@@ -27,4 +27,4 @@ kept_without None waiting = waiting
 kept_without (Some client) waiting = of_others client waiting
 
 abbrev pub kept_at : News → List Notice → List Notice
-kept_at piece waiting = kept_without (gone_of piece) waiting
+kept_at piece waiting = kept_without (gone_at (event_of piece)) waiting

@@ -69,10 +69,6 @@ CountsOn old new = (sum old.written ≤ sum new.written) × (sum old.discarded �
 abbrev pub AreNoFewer : FrameBooks → List ℕ → List ℕ → Type 0
 AreNoFewer books written discarded = (sum books.written ≤ sum written) × (sum books.discarded ≤ sum discarded)
 
--- the frames that were written can be counted, and those that were discarded
-abbrev pub CanCount : FrameBooks → Type 0
-CanCount books = (sum books.written < 2 ^ 63) × (sum books.discarded < 2 ^ 63)
-
 -- frames that were decoded joined the history, and the decoder was told so
 abbrev pub JoinsFed : View → View → SeatCount → Event → OutcomeData → Type 0
 JoinsFed before after seat event told = Joins before.player after.player seat.number event told
@@ -170,7 +166,3 @@ module _ {S : Type 0} (standing : S → Standing) (failed : S → S → Call →
 
   abbrev pub StopsLine : View → View → S → S → SeatCount → ℕ → Request → PartitionFault → Type 0
   StopsLine before after old new seat client request fault = Stops before.player after.player old new seat.number (line_of client request) fault
-
-  -- a line of a client is told so
-  abbrev pub TellsClient : S → S → SeatCount → ℕ → Request → OutcomeData → Type 0
-  TellsClient old new seat client request told = AnswersSomewhere standing failed old new seat (line_of client request) told

@@ -1,17 +1,16 @@
 //! What lies under the house's lock.
 use crate::all_shares::AllShares;
 use crate::answered::{Answered, Reported};
-use crate::changes::count_change;
-use crate::happen::{hear_end, hear_line, hear_news};
 use crate::new_books::{NewBooks, new_books};
 use crate::news::News;
-use crate::waiting::{addressees, drop_gone, put_all, take_first};
+use crate::player::Core;
+use crate::waiting::{addressees, take_first};
 use counted_player::{Counted, Decoded, Discarded, Ledgers, NoSeat, Seat, Written};
 use frame_ledger::{Blanks as FrameBlanks, Books, OutputShares};
 use idle_clients::Notice;
 use mpd_command::Request;
 use partition::{Partition, PartitionFault};
-use player_events::Logged;
+use player_events::{Event, Logged};
 use shelf::Shelf;
 use song_db::SharedSong;
 use std::alloc::{AllocError, Global};
@@ -38,15 +37,11 @@ pub struct CrewShares<L: Ledgers> {
 /// The player, the notices that wait to be handed out, and the books that count its events and its frames.
 pub struct Held<L: Ledgers> {
     pub(crate) alloc: Global,
-    pub(crate) counted: Counted<L>,
-    pub(crate) waiting: Vec<Notice>,
+    pub(crate) core: Core<L>,
     pub(crate) books: Books<Decoded<L>, Written<L>, Discarded<L>>,
     pub(crate) free: Vec<Seat<L>>,
     /// All shares, once the outputs are settled, whose last fates no event told of.
     pub(crate) closed: Option<AllShares<L>>,
-    /// How often something changed that a thread at rest is woken for; it begins anew after its greatest
-    /// value. No contract speaks of it.
-    pub(crate) changes: u64,
 }
 
 // Written out, so that a proof goes through one call where it lets one go (docs/DECISIONS.md).
@@ -54,12 +49,10 @@ impl<L: Ledgers> Drop for Held<L> {
     fn drop(self) {
         let Held {
             alloc: _,
-            counted: _,
-            waiting: _,
+            core: _,
             books: _,
             free: _,
             closed: _,
-            changes: _,
         } = self;
     }
 }
@@ -77,11 +70,11 @@ impl<L: Ledgers> Model for Held<L> {
 
     ghost coded = { Prim.hlevel (codes, filter.the_row.coded) };
 
-    ghost view = { λ h. record { player = h.counted; waiting = h.waiting.items; books = numbers_in h.books; is_settled = is_some h.closed; free = vec_len h.free } };
+    ghost view = { λ h. record { player = h.core.counted; waiting = h.core.waiting.items; books = numbers_in h.books; is_settled = is_some h.closed; free = vec_len h.free } };
 
-    ghost invariant = { λ h. (h.books.decoded ≡ h.counted.present.shared.books.decoded)
-        × (h.closed ≡ None → h.books.written ≡ h.counted.present.shared.books.written)
-        × (h.closed ≡ None → h.books.discarded ≡ h.counted.present.shared.books.discarded)
+    ghost invariant = { λ h. (h.books.decoded ≡ h.core.counted.present.shared.books.decoded)
+        × (h.closed ≡ None → h.books.written ≡ h.core.counted.present.shared.books.written)
+        × (h.closed ≡ None → h.books.discarded ≡ h.core.counted.present.shared.books.discarded)
         × HaveAllOutputs (numbers_in h.books)
         × All (λ s. (s.number < 4) × (s.made ≡ 0)) h.free.items };
 }
@@ -124,12 +117,14 @@ impl<L: Ledgers> Held<L> {
         } = opened;
         let held = Held {
             alloc,
-            counted: Counted::new(partition, seats),
-            waiting: Vec::new(alloc),
+            core: Core {
+                counted: Counted::new(partition, seats),
+                waiting: Vec::new(alloc),
+                changes: 0,
+            },
             books,
             free,
             closed: None,
-            changes: 0,
         };
         Ok((held, shares))
     }
@@ -160,7 +155,7 @@ impl<L: Ledgers> Held<L> {
         ensures books { self.now.is_settled ≡ false → self.now.books ≡ self.now.player.present.shared.books }
     {
         let _is_open = self.closed.is_none();
-        self.counted.history()
+        self.core.counted.history()
     }
 
     /// One line of a client. Its waiting notice is handed out in front of the reply.
@@ -204,21 +199,7 @@ impl<L: Ledgers> Held<L> {
 
         ensures somewhere { IfOk result (AnswersClient S.standing S.failed shelf.old shelf.new seat.old client request) }
     {
-        let Held {
-            alloc: _alloc,
-            counted,
-            waiting,
-            books: _books,
-            free: _free,
-            closed: _closed,
-            changes,
-        } = self;
-        let wake_fingerprint = counted.wake_fingerprint();
-        let outcome = hear_line(counted, waiting, seat, shelf, client, request)?;
-        let front = take_first(waiting, client);
-        put_all(waiting, outcome.notices());
-        count_change(changes, counted.wake_fingerprint() != wake_fingerprint);
-        Ok(Answered { front, outcome })
+        self.core.hear_line(seat, shelf, client, request)
     }
 
     /// A piece of news. The notice of a client that goes is dropped.
@@ -241,25 +222,7 @@ impl<L: Ledgers> Held<L> {
         ensures unchanged { OnErr result (IsUnchangedOrFolded self.old.player self.new.player) }
         ensures somewhere { IfOk result (λ told. TellsSomewhere seat.old (event_of news) told) }
     {
-        let Held {
-            alloc: _alloc,
-            counted,
-            waiting,
-            books: _books,
-            free: _free,
-            closed: _closed,
-            changes,
-        } = self;
-        let wake_fingerprint = counted.wake_fingerprint();
-        let gone = news.gone();
-        let outcome = hear_news(counted, waiting, seat, news)?;
-        drop_gone(waiting, gone);
-        put_all(waiting, outcome.notices());
-        count_change(changes, counted.wake_fingerprint() != wake_fingerprint);
-        Ok(Reported {
-            outcome,
-            changes: *changes,
-        })
+        self.core.take_step(seat, news.into_event())
     }
 
     /// The end: from now on nothing is decoded and no scan begins.
@@ -280,18 +243,7 @@ impl<L: Ledgers> Held<L> {
         ensures refused { IfErr result (λ fault. IsRefusedFor self.old.player seat.old.number End fault) }
         ensures unchanged { OnErr result (IsUnchangedOrFolded self.old.player self.new.player) }
     {
-        let Held {
-            alloc: _alloc,
-            counted,
-            waiting,
-            books: _books,
-            free: _free,
-            closed: _closed,
-            changes,
-        } = self;
-        let outcome = hear_end(counted, waiting, seat)?;
-        put_all(waiting, outcome.notices());
-        count_change(changes, true);
+        let _told = self.core.take_step(seat, Event::End)?;
         Ok(())
     }
 
@@ -300,12 +252,12 @@ impl<L: Ledgers> Held<L> {
         ensures ended { result ≡ self.now.player.present.shared.ended }
         ensures legal { IsPast self.now.player }
     {
-        self.counted.has_ended()
+        self.core.counted.has_ended()
     }
 
     /// How often something changed that a thread at rest is woken for.
     pub fn changes(&self) -> u64 {
-        self.changes
+        self.core.changes
     }
 
     /// Whether a scan was asked for that has not ended.
@@ -313,28 +265,28 @@ impl<L: Ledgers> Held<L> {
         ensures scan { result ≡ has_scan self.now.player.present }
         ensures legal { IsPast self.now.player }
     {
-        self.counted.scans()
+        self.core.counted.scans()
     }
 
     /// Whether a song is being played in some partition.
     pub fn plays(&self) -> bool
         ensures { result ≡ any_plays self.now.player.present.parts }
     {
-        self.counted.plays()
+        self.core.counted.plays()
     }
 
     /// Whether a notice waits for a client.
     pub fn has_notices(&self) -> bool
         ensures { (result ≡ false) ↔ (self.now.waiting ≡ []) }
     {
-        !self.waiting.is_empty()
+        !self.core.waiting.is_empty()
     }
 
     /// The clients that notices wait for, in the order of the notices.
     pub fn addressees(&self, alloc: Global) -> Result<Vec<u32>, AllocError>
         ensures { IfOk result (λ clients. clients.items ≡ map (λ notice. notice.client) self.now.waiting) }
     {
-        addressees(alloc, &self.waiting)
+        addressees(alloc, &self.core.waiting)
     }
 
     /// Of sixteen numbers those of a partition. It is no event.
@@ -342,7 +294,7 @@ impl<L: Ledgers> Held<L> {
         ensures places { ArePlaces result self.now.player.present }
         ensures legal { IsPast self.now.player }
     {
-        self.counted.places()
+        self.core.counted.places()
     }
 
     /// The song of the entry that has this id in the present queue of the partition of a number. It is no event.
@@ -350,7 +302,7 @@ impl<L: Ledgers> Held<L> {
         ensures song { IfOk result (λ song. song ≡ song_at place id self.now.player.present) }
         ensures legal { IsPast self.now.player }
     {
-        self.counted.song(place, id)
+        self.core.counted.song(place, id)
     }
 
     /// The client's waiting notice, which is taken out. It is no event and takes no memory.
@@ -361,6 +313,6 @@ impl<L: Ledgers> Held<L> {
         ensures player { self.new.player ≡ self.old.player }
         ensures books { KeepsBooks self.old self.new }
     {
-        take_first(&mut self.waiting, client)
+        take_first(&mut self.core.waiting, client)
     }
 }

@@ -7,13 +7,13 @@ mod answered;
 mod changes;
 mod ended_ring;
 mod fates;
-mod happen;
 mod held;
 mod list;
 mod listed;
 mod new_books;
 mod news;
 mod output;
+mod player;
 mod settlement;
 mod waiting;
 

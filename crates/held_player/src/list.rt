@@ -2,7 +2,6 @@
 use crate::answered::AnsweredList;
 use crate::changes::count_change;
 use crate::held::Held;
-use crate::listed::hear_list;
 use crate::waiting::{put_each, take_first};
 use command_lists::ListForm;
 use counted_player::{Ledgers, Seat};
@@ -49,28 +48,18 @@ impl<L: Ledgers> Held<L> {
         ensures somewhere { IfOk result (λ a. TellsList S.standing S.failed shelf.old shelf.new seat.old client form requests a.tolds) }
         ensures stopped { IfErr result (StopsIn S.standing S.failed shelf.old shelf.new seat.old client form requests) }
     {
-        let Held {
-            alloc,
-            counted,
-            waiting,
-            books: _books,
-            free: _free,
-            closed: _closed,
-            changes,
-        } = self;
-        let wake_fingerprint = counted.wake_fingerprint();
-        match hear_list(
-            *alloc, counted, waiting, seat, shelf, client, form, requests,
-        ) {
+        let core = &mut self.core;
+        let before = core.counted.wake_fingerprint();
+        let end = core.run_list(self.alloc, seat, shelf, client, form, requests);
+        count_change(&mut core.changes, core.counted.wake_fingerprint() != before);
+        match end {
             Ok(outcome) => {
-                let front = take_first(waiting, client);
-                put_each(waiting, outcome.outcomes());
-                count_change(changes, counted.wake_fingerprint() != wake_fingerprint);
+                let front = take_first(&mut core.waiting, client);
+                put_each(&mut core.waiting, outcome.outcomes());
                 Ok(AnsweredList { front, outcome })
             }
             Err(fault) => {
-                put_each(waiting, &fault.outcomes);
-                count_change(changes, counted.wake_fingerprint() != wake_fingerprint);
+                put_each(&mut core.waiting, &fault.outcomes);
                 Err(fault)
             }
         }

@@ -1,6 +1,6 @@
 //! What the house is told beside lines and frames.
 ghost use Rattle.std.specs.Prelude.{◌≡◌};
-ghost use Rattle.held_player.specs.News.{event_of, gone_of};
+ghost use Rattle.held_player.specs.News.{event_of};
 
 use player_events::Event;
 use song_db::SharedDb;
@@ -25,16 +25,6 @@ pub enum News {
 }
 
 impl News {
-    /// The client that goes, if one goes.
-    pub(crate) fn gone(&self) -> Option<u32>
-        ensures { result ≡ gone_of self.now }
-    {
-        match self {
-            News::Goes(client) => Some(*client),
-            _ => None,
-        }
-    }
-
     /// The event that it is.
     pub(crate) fn into_event(self) -> Event
         ensures { result ≡ event_of self }

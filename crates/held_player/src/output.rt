@@ -1,17 +1,15 @@
 //! Frames under the lock: what is decoded, and what outputs wrote and discarded.
 use crate::all_shares::AllShares;
 use crate::answered::Reported;
-use crate::changes::count_change;
 use crate::ended_ring::EndedRing;
 use crate::fates::book_fates;
-use crate::happen::{hear_frames, hear_turn};
 use crate::held::{CrewShares, Held};
 use crate::settlement::{Settlement, audit_all, settle_rings, show_open};
-use crate::waiting::put_all;
 use counted_player::{Decoded, Discarded, Ledgers, Seat, Written};
 use frame_ledger::OutputShares;
 use output_ring::Fates;
 use partition::PartitionFault;
+use player_events::Event;
 use std::sync::ledger::Share;
 
 impl<L: Ledgers> Held<L> {
@@ -59,25 +57,12 @@ impl<L: Ledgers> Held<L> {
         ensures refused { IfErr result (IsRefusedFor self.old.player seat.old.number (Have place number frames)) }
         ensures unchanged { OnErr result (IsUnchangedOrFolded self.old.player self.new.player) }
     {
-        let Held {
-            alloc: _alloc,
-            counted,
-            waiting,
-            books,
-            free: _free,
-            closed: _closed,
-            changes,
-        } = self;
-        let outcome = hear_frames(counted, waiting, seat, place, number, frames)?;
-        put_all(waiting, outcome.notices());
-        let decoded = counted.decoded();
-        books.decoded.raise_to(share, &decoded);
-        // Frames that are fed wake the outputs.
-        count_change(changes, true);
-        Ok(Reported {
-            outcome,
-            changes: *changes,
-        })
+        let told = self
+            .core
+            .take_step(seat, Event::Have(place, number, frames))?;
+        let decoded = self.core.counted.decoded();
+        self.books.decoded.raise_to(share, &decoded);
+        Ok(told)
     }
 
     /// An output had its turn: it wrote and discarded so many frames since its last one. Its books and the
@@ -114,27 +99,13 @@ impl<L: Ledgers> Held<L> {
         ensures refused { IfErr result (IsTurnRefused self.old seat.old (turn_of output told_fates failed)) }
         ensures unchanged { OnErr result (IsUnchangedOrFolded self.old.player self.new.player) }
     {
-        let Held {
-            alloc: _alloc,
-            counted,
-            waiting,
-            books,
-            free: _free,
-            closed,
-            changes,
-        } = self;
-        show_open(closed, &mut shares.written);
-        let wake_fingerprint = counted.wake_fingerprint();
-        let outcome = hear_turn(counted, waiting, seat, output, told_fates, failed)?;
-        put_all(waiting, outcome.notices());
-        let written = counted.written();
-        let discarded = counted.discarded();
-        book_fates(books, shares, written, discarded);
-        count_change(changes, counted.wake_fingerprint() != wake_fingerprint);
-        Ok(Reported {
-            outcome,
-            changes: *changes,
-        })
+        show_open(&mut self.closed, &mut shares.written);
+        let event = Event::OutputTurn(output, told_fates.written, told_fates.discarded, failed);
+        let told = self.core.take_step(seat, event)?;
+        let written = self.core.counted.written();
+        let discarded = self.core.counted.discarded();
+        book_fates(&mut self.books, shares, written, discarded);
+        Ok(told)
     }
 
     /// Compares the books of all outputs with their rings, one after the other from the first on, once the
@@ -164,20 +135,11 @@ impl<L: Ledgers> Held<L> {
     {
         // What the lock found is a past's, with its numbers.
         let _window = self.history();
-        let Held {
-            alloc: _alloc,
-            counted: _counted,
-            waiting: _waiting,
-            books,
-            free: _free,
-            closed,
-            changes: _changes,
-        } = self;
         let mut shares = shares;
-        show_open(closed, &mut shares.outputs.written);
-        audit_all(books, &mut shares);
-        let results = settle_rings(books, &mut shares.outputs, rings, room);
-        *closed = Some(AllShares { shares });
+        show_open(&mut self.closed, &mut shares.outputs.written);
+        audit_all(&mut self.books, &mut shares);
+        let results = settle_rings(&mut self.books, &mut shares.outputs, rings, room);
+        self.closed = Some(AllShares { shares });
         results
     }
 }
