@@ -160,6 +160,8 @@ THEOREMS = [
     ('kept_state', 'kept_of', '', 'kept_state/Told', 'IsTold', ''),
     ('kept_state', 'state_text', '', 'kept_state/Texts', 'state_text', 'kept_state: gives_back; state_laws: players_come_back told_texts_come_back'),
     ('kept_state', 'tell_lines', '', 'kept_state/Telling', 'TellsSteps', ''),
+    ('serving', 'Keeper::look', 'state', 'serving/Keeping', 'IsStateThen', ''),
+    ('serving', 'restore_text', '', 'serving/Restoring', 'IsTextTold', ''),
     ('command_line', 'command_line', 'asks', 'command_line/Programs', 'Asks', 'command_line: readings'),
 ]
 

@@ -1,3 +1,4 @@
 pub mod Starting
 pub mod Restoring
 pub mod Storing
+pub mod Keeping

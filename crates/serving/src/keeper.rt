@@ -1,16 +1,19 @@
 //! A client of the daemon's own that keeps the player's state in a file.
+ghost use Rattle.std.specs.Prelude.{IfOk, string_bytes};
+ghost use Rattle.serving.specs.Keeping.{IsKeptBy, IsTextOf};
+
 use crate::folder::tell;
 use crate::restoring::KEEPER;
 use crate::state_file::Disk;
 use command_lists::ListForm;
 use counted_player::{Ledgers, Seat};
-use held_player::News;
+use held_player::{AnsweredList, News};
 use house::House;
 use kept_state::{Kept, StateFile, kept_of, state_text};
 use mpd_command::{CommandSet, Request};
 use own_lines::{answers_of, requests_of};
 use patience::Gates;
-use shelf::MemShelf;
+use shelf::{MemShelf, Shelf};
 use std::alloc::{AllocError, Global};
 use std::sync::{Arc, Wait};
 use std::thread::{self, JoinHandle, Threads};
@@ -127,14 +130,14 @@ fn rest<L: Ledgers, R: Wait + Clock>(rt: &R, house: &House<L>, next: &Option<Ins
 
 /// The client, and the file that it writes.
 #[derive(Drop)]
-struct Keeper<'h, L: Ledgers, R: Wait + Clock + Copy> {
+struct Keeper<'h, L: Ledgers, S: Shelf + Drop, R: Wait + Clock + Copy> {
     rt: &'h R,
     host: &'h HostRuntime,
     house: &'h House<L>,
     gates: &'h Gates<L, R>,
     seat: Seat<L>,
-    /// None of its commands asks a shelf.
-    shelf: MemShelf,
+    /// None of its commands asks it.
+    shelf: S,
     file: StateFile<Disk>,
     /// Whether the last write failed, which is told once.
     has_failed: bool,
@@ -142,8 +145,9 @@ struct Keeper<'h, L: Ledgers, R: Wait + Clock + Copy> {
     plays: bool,
 }
 
-impl<'h, L: Ledgers, R: Wait + Clock + Copy> Keeper<'h, L, R> {
-    ghost use Rattle.std.specs.Prelude.{◌≡◌, string_bytes, true};
+impl<'h, L: Ledgers, S: Shelf + Drop, R: Wait + Clock + Copy> Keeper<'h, L, S, R> {
+    ghost use Rattle.std.specs.Prelude.{◌≡◌, IfOk, false, string_bytes, true};
+    ghost use Rattle.serving.specs.Keeping.{IsAnswered, IsKeptThen, IsStateThen};
 
     /// Comes to the player, and keeps its state until the daemon has ended.
     fn keep(&mut self) {
@@ -174,15 +178,22 @@ impl<'h, L: Ledgers, R: Wait + Clock + Copy> Keeper<'h, L, R> {
     }
 
     /// Looks at the player, and keeps its state. False where there was no memory for it, or it could not be written.
-    fn look(&mut self) -> bool {
+    fn look(&mut self) -> bool
+        ensures left { result ≡ false → self.new.file.written ≡ self.old.file.written }
+        ensures state { result ≡ true → IsStateThen S.standing S.failed self.old.shelf self.new.shelf
+            self.old.seat self.new.seat (string_bytes self.new.file.written) }
+    {
         match self.state() {
             Ok(text) => self.write(text),
             Err(_) => false,
         }
     }
 
+    /// Writes a text into the file, where it is another than the one that was written last.
     fn write(&mut self, text: String) -> bool
-        ensures { result ≡ true → string_bytes self.new.file.written ≡ string_bytes text }
+        ensures written { result ≡ true → string_bytes self.new.file.written ≡ string_bytes text }
+        ensures left { result ≡ false → self.new.file.written ≡ self.old.file.written }
+        ensures others { (self.new.seat ≡ self.old.seat) × (self.new.shelf ≡ self.old.shelf) }
     {
         match self.file.keep(text) {
             Ok(is_written) => {
@@ -202,31 +213,43 @@ impl<'h, L: Ledgers, R: Wait + Clock + Copy> Keeper<'h, L, R> {
         }
     }
 
-    /// The state as it is now. An output that is off for its path alone is kept as one that is on; since the daemon
-    /// may switch it off or on while it is asked, it is looked at before and after.
-    fn state(&mut self) -> Result<String, AllocError> {
+    /// The state as it is now. Since the daemon may switch outputs off or on for their paths while it is asked, these are
+    /// looked at before and after.
+    fn state(&mut self) -> Result<String, AllocError>
+        ensures file { self.new.file ≡ self.old.file }
+        ensures state { IfOk result (λ text. IsStateThen S.standing S.failed self.old.shelf self.new.shelf
+            self.old.seat self.new.seat (string_bytes text)) }
+    {
         let before = self.gates.off_for_paths();
-        let mut kept = self.kept()?;
-        kept.switch_on(before);
-        kept.switch_on(self.gates.off_for_paths());
+        let kept = self.kept()?;
         self.plays = kept.is_played();
-        state_text(self.host.alloc(), &kept)
+        let after = self.gates.off_for_paths();
+        text_of(self.host.alloc(), kept, before, after)
     }
 
-    /// What is kept by the player's answers to the questions, all given at one moment.
-    fn kept(&mut self) -> Result<Kept, AllocError> {
-        let alloc = self.host.alloc();
-        let requests = requests_of(alloc, QUESTIONS)?;
+    /// What is kept by the player's answers to the questions.
+    fn kept(&mut self) -> Result<Kept, AllocError>
+        ensures file { self.new.file ≡ self.old.file }
+        ensures kept { IfOk result (IsKeptThen S.standing S.failed self.old.shelf self.new.shelf
+            self.old.seat self.new.seat) }
+    {
+        let answered = self.ask()?;
+        kept_by(self.host.alloc(), &answered)
+    }
+
+    /// The player's answers to the questions, all given at one moment.
+    fn ask(&mut self) -> Result<AnsweredList, AllocError>
+        ensures file { self.new.file ≡ self.old.file }
+        ensures answered { IfOk result (IsAnswered S.standing S.failed self.old.shelf self.new.shelf
+            self.old.seat self.new.seat) }
+    {
+        let requests = requests_of(self.host.alloc(), QUESTIONS)?;
         let (seat, shelf) = (&mut self.seat, &mut self.shelf);
         match self
             .house
             .list(self.rt, seat, shelf, KEEPER, ListForm::Plain, requests)
         {
-            // An answer that is none must not be taken for that of an empty player.
-            Ok(answered) => match answers_of(alloc, answered.answers().outcomes())? {
-                Some(text) => kept_of(alloc, text.as_str()),
-                None => Err(AllocError),
-            },
+            Ok(answered) => Ok(answered),
             Err(_) => Err(AllocError),
         }
     }
@@ -280,6 +303,32 @@ impl<'h, L: Ledgers, R: Wait + Clock + Copy> Keeper<'h, L, R> {
             Err(_) => None,
         }
     }
+}
+
+/// What is kept by answers. A refusal must not be taken for the answer of an empty player.
+fn kept_by(alloc: Global, answered: &AnsweredList) -> Result<Kept, AllocError>
+    ensures { IfOk result (IsKeptBy answered.now) }
+{
+    match answers_of(alloc, answered.answers().outcomes())? {
+        Some(text) => kept_of(alloc, text.as_str()),
+        None => Err(AllocError),
+    }
+}
+
+/// The text of what is kept. An output that is off for its path alone, before or after it was asked for, is kept as one
+/// that is on.
+fn text_of(
+    alloc: Global,
+    kept: Kept,
+    before: [bool; 8],
+    after: [bool; 8],
+) -> Result<String, AllocError>
+    ensures { IfOk result (λ text. IsTextOf before after kept (string_bytes text)) }
+{
+    let mut kept = kept;
+    kept.switch_on(before);
+    kept.switch_on(after);
+    state_text(alloc, &kept)
 }
 
 /// The moment after so long a time, if the clock can be read.

@@ -1,4 +1,7 @@
 //! The lines of a state, which are told to the player before the daemon listens.
+ghost use Rattle.std.specs.Prelude.{IfOk};
+ghost use Rattle.serving.specs.Restoring.{IsTextTold};
+
 use crate::fault::DaemonFault;
 use crate::folder::tell;
 use crate::hall::Hall;
@@ -9,6 +12,7 @@ use house::House;
 use kept_state::{Hearer, is_of_state, tell_lines};
 use mpd_command::{CommandSet, Request};
 use shelf::{MemShelf, Shelf};
+use std::marker::Model;
 use std::sync::Wait;
 
 /// The number of the daemon's own client. Those of the sockets are 1 to 64; while this one is in the player 63
@@ -18,7 +22,7 @@ pub(crate) const KEEPER: u32 = 65;
 /// How many refused lines are told, each by itself.
 const TOLD: u64 = 10;
 
-/// The client, which tells the lines of a state.
+/// The client, which tells the lines of a state. Contracts see its seat and the shelf.
 #[derive(Drop)]
 struct Restorer<'h, L: Ledgers, S: Shelf + Drop, R: Wait> {
     rt: &'h R,
@@ -29,6 +33,14 @@ struct Restorer<'h, L: Ledgers, S: Shelf + Drop, R: Wait> {
     shelf: S,
     /// How many lines were refused.
     refused: u64,
+}
+
+impl<'h, L: Ledgers, S: Shelf + Drop, R: Wait> Model for Restorer<'h, L, S, R> {
+    ghost use Rattle.serving.specs.Restoring.{Speaker, speaker};
+
+    ghost Value = { Speaker S };
+
+    ghost view = { λ r. speaker r.shelf r.seat };
 }
 
 /// Tells the lines of the file of this path, where it is there. A line that is refused is told on standard
@@ -78,7 +90,9 @@ fn restore_text<L: Ledgers, S: Shelf + Drop, R: Wait>(
     seat: Seat<L>,
     shelf: S,
     text: &str,
-) -> Result<(Seat<L>, u64), DaemonFault> {
+) -> Result<(Seat<L>, u64), DaemonFault>
+    ensures { IfOk result (λ told. IsTextTold S.standing S.failed shelf seat told.0 text.now told.1) }
+{
     let mut restorer = Restorer {
         rt,
         host,
@@ -103,12 +117,12 @@ fn restore_text<L: Ledgers, S: Shelf + Drop, R: Wait>(
 }
 
 impl<'h, L: Ledgers, S: Shelf + Drop, R: Wait> Hearer for Restorer<'h, L, S, R> {
-    ghost use Rattle.serving.specs.Restoring.{IsHeard};
+    ghost use Rattle.serving.specs.Restoring.{Hears};
 
     type Fault = DaemonFault;
 
     // What the player answers is known of some past alone: a house says no more.
-    ghost hears = { λ old line refused new. IsHeard S.standing S.failed old.shelf new.shelf old.seat new.seat line refused };
+    ghost hears = { Hears S.standing S.failed };
 
     fn hear(&mut self, line: &str) -> Result<bool, DaemonFault> {
         if is_of_state(line) {
