@@ -12,11 +12,37 @@ import os
 import shutil
 import sys
 
+HEADING = '# ---- '
+
+
+def lines_of(root):
+    with open(os.path.join(root, 'crates.txt'), encoding='utf-8') as table:
+        return list(table)
+
+
+def is_crate(line):
+    return ':' in line and not line.startswith('#')
+
+
+def name_in(line):
+    return line.split(':')[0].split()[0]
+
 
 def table_of(root):
     """The lines of crates.txt by the names of their crates."""
-    with open(os.path.join(root, 'crates.txt'), encoding='utf-8') as table:
-        return {line.split(':')[0].split()[0]: line for line in table if ':' in line and not line.startswith('#')}
+    return {name_in(line): line for line in lines_of(root) if is_crate(line)}
+
+
+def headings_of(root):
+    """The headings of crates.txt in its order, each with the names of the crates below it; '' has what stands before the first."""
+    found, crates = {}, None
+    for line in lines_of(root):
+        if line.startswith(HEADING):
+            crates = found.setdefault(line[len(HEADING):].strip(), [])
+        elif is_crate(line):
+            crates = found.setdefault('', []) if crates is None else crates
+            crates.append(name_in(line))
+    return found
 
 
 def below(root, crates):

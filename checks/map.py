@@ -4,10 +4,10 @@
     checks/map.py              says whether they are as they are drawn here, and what a drawing says that is not so
     checks/map.py --write      writes them there
 
-The crates and what they stand on are those of crates.txt. What is drawn beside them stands in the tables below, and each line of these
-is looked up: a layer has each library once and stands on no layer above it; a call is in its crate, and the crate of a step stands on that of
-the step which it makes; a field is one of the struct, and none is left out; a definition is in its file, a law and a clause in their crate.
-The exit status is 1 where something differs.
+The layers are the headings of crates.txt, and the crates and what they stand on are its lines: each stands below those that it depends on,
+so that no layer depends on one above it. What is drawn beside them stands in the tables below, and each line of these is looked up: a call is
+in its crate, and the crate of a step stands on that of the step which it makes; a field is one of the struct, and none is left out; a
+definition is in its file, a law and a clause in their crate. The exit status is 1 where something differs.
 """
 import os
 import re
@@ -15,29 +15,11 @@ import sys
 
 sys.dont_write_bytecode = True
 
-from crates import table_of
+from crates import headings_of, table_of
 
 TOP = os.path.dirname(os.path.dirname(os.path.abspath(__file__)))
 MAP = 'docs/MAP.md'
-TESTS = re.compile(r'_tests$|^(?:worked_rows|house_rooms|wanted)$')
-
-# the layers, the highest first
-LAYERS = [
-    ('the program', 'music_daemon shelf_file serving patience opened_player own_lines state_laws kept_state scan_report settings command_line'),
-    ('clients', 'mpd_server server_rounds mpd_session mpd_answers'),
-    ("the house's threads", 'crew crew_steps'),
-    ('the house', 'house held_player counted_player'),
-    ('scripts', 'daemon_script script_reports script_lines'),
-    ('laws', 'partition_laws command_laws notice_laws library_laws queue_laws'),
-    ('one-thread player', 'partition player_events idle_clients'),
-    ('commands', 'queue_commands library_commands status_commands partition_commands transitions parts shelf_contents player_state'),
-    ('requests', 'mpd_command selections command_arguments command_lists'),
-    ('the shelf', 'shelf_database shelf'),
-    ('what is played', 'player_core play_order song_queue queue_slots idle_notes'),
-    ('songs', 'song_groups song_search filters known_tags library_scan song_db'),
-    ('sound', 'frame_ledger output_ring patient_output wave pcm_mix'),
-    ('texts, devices', 'mpd_text counted_devices'),
-]
+TESTS = 'tests'   # the last heading of crates.txt, which is no layer
 
 # A way: a step is its depth, crate, call and what it does; a step stands on the one above it that is less deep. A text alone is a mark.
 LINE = [
@@ -180,6 +162,16 @@ def code_of(crate, part='src', ending='.rt'):
     return '\n'.join(texts)
 
 
+def layers():
+    """The layers with their crates, the highest first."""
+    return [(title, crates) for title, crates in reversed(headings_of(TOP).items()) if title != TESTS]
+
+
+def libraries():
+    """The crates of the layers, the lowest first."""
+    return [crate for _, crates in reversed(layers()) for crate in crates]
+
+
 def below():
     """Of each crate those of crates.txt that its line names."""
     lines = table_of(TOP)
@@ -198,14 +190,16 @@ def all_below(crate, deps, found=None):
 # ---- what the tables say that is not so
 
 def wrong_layers(deps):
-    place = {crate: at for at, (_, crates) in enumerate(LAYERS) for crate in crates.split()}
-    libraries = [crate for crate in deps if not TESTS.search(crate)]
-    yield from ('%s is in no layer' % crate for crate in libraries if crate not in place)
-    yield from ('%s is in a layer and not in crates.txt' % crate for crate in place if crate not in deps)
-    for crate in libraries:
-        for it in deps[crate]:
-            if it in place and crate in place and place[it] < place[crate]:
-                yield '%s stands on %s of a layer above it' % (crate, it)
+    headings = headings_of(TOP)
+    yield from ('%s is below no heading of crates.txt' % crate for crate in headings.get('', []))
+    if list(headings)[-1] != TESTS:
+        yield 'the last heading of crates.txt is %s, and not %s' % (list(headings)[-1], TESTS)
+    if [crate for crates in headings.values() for crate in crates] != list(deps):
+        yield 'a heading of crates.txt stands twice'
+    seen = set()
+    for crate in deps:
+        yield from ('%s stands on %s, whose line comes after it' % (crate, it) for it in deps[crate] if it not in seen)
+        seen.add(crate)
 
 
 def clauses_of(crate, call):
@@ -268,14 +262,14 @@ def wrong_theorems():
 
 def layers_below(deps):
     """Of each layer those that it stands on, without those that one of these stands on."""
-    place = {crate: at for at, (_, crates) in enumerate(LAYERS) for crate in crates.split()}
-    on = {at: {place[it] for crate in crates.split() for it in deps[crate] if it in place} - {at} for at, (_, crates) in enumerate(LAYERS)}
+    place = {crate: at for at, (_, crates) in enumerate(layers()) for crate in crates}
+    on = {at: {place[it] for crate in crates for it in deps[crate]} - {at} for at, (_, crates) in enumerate(layers())}
     return {at: sorted(on[at] - set().union(*(all_below(it, on) for it in on[at]))) for at in on}
 
 
 def rows_of(crates, width):
     rows = ['']
-    for crate in crates.split():
+    for crate in crates:
         if rows[-1] and len(rows[-1]) + len(crate) > width:
             rows.append('')
         rows[-1] += crate + '  '
@@ -283,13 +277,14 @@ def rows_of(crates, width):
 
 
 def draw_layers(deps):
-    on, width = layers_below(deps), max(len(title) for title, _ in LAYERS)
+    drawn, on = layers(), layers_below(deps)
+    width = max(len(title) for title, _ in drawn)
     edge = '-' * (width + 62)
     lines = [edge]
-    for at, (title, crates) in enumerate(LAYERS):
-        for number, row in enumerate(rows_of(crates, 54)):
-            head = ('%2d  %s' % (len(LAYERS) - at, title)) if number == 0 else ''
-            foot = '   on ' + ', '.join(str(len(LAYERS) - it) for it in on[at]) if number == 0 and on[at] else ''
+    for at, (title, crates) in enumerate(drawn):
+        for number, row in enumerate(rows_of(reversed(crates), 54)):
+            head = ('%2d  %s' % (len(drawn) - at, title)) if number == 0 else ''
+            foot = '   on ' + ', '.join(str(len(drawn) - it) for it in on[at]) if number == 0 and on[at] else ''
             lines.append(('%-*s  %-56s%s' % (width + 4, head, row, foot)).rstrip())
         lines.append(edge)
     return lines
@@ -346,18 +341,18 @@ def waiting(crate):
                 yield (kind.group(1) + '::' if kind else '') + found.group(1)
 
 
-def draw_waits(deps):
+def draw_waits():
     lines = []
-    for crate in (it for it in deps if not TESTS.search(it)):
+    for crate in libraries():
         calls = list(waiting(crate))
-        for number, row in enumerate(rows_of(' '.join(calls), 84) if calls else []):
+        for number, row in enumerate(rows_of(calls, 84) if calls else []):
             lines.append(('%-14s %s' % (crate if number == 0 else '', row)).rstrip())
     return lines
 
 
 def drawings():
     return {'layers': draw_layers(below()), 'line': draw_way(LINE), 'frame': draw_way(FRAME), 'lock': draw_held(),
-            'theorems': draw_theorems(), 'waits': draw_waits(below())}
+            'theorems': draw_theorems(), 'waits': draw_waits()}
 
 
 # ---- compared and written
