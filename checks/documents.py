@@ -8,7 +8,7 @@ It fails where
   this crate nor in one that it stands on;
 - a call `Type::name` is named and no file has both the type and the name; a path is none of the repository;
 - a library of crates.txt has no README, or the manual's list of commands is not the one that the tables make;
-- a drawing of docs/MAP.md is not as `checks/map.py` draws it;
+- a drawing of docs/MAP.md is not as `checks/map.py` draws it, or the manual or CHANGELOG.md is not of the code's version (`checks/release.py`);
 - README's first screen, all before its first heading, has more than 25 lines of 100 columns.
 
 A word of the protocol that the daemon does not know, of a tool or of another program is in OTHERS.
@@ -22,6 +22,7 @@ sys.dont_write_bytecode = True
 
 import commands
 import map as drawings
+import release
 from crates import table_of
 
 TOP = os.path.dirname(os.path.dirname(os.path.abspath(__file__)))
@@ -154,6 +155,7 @@ def check(_program=None):
     wrong += missing()
     wrong += commands.faults()
     wrong += drawings.faults()
+    wrong += release.faults()
     lines = screen_lines()
     if lines > SCREEN_LINES:
         wrong.append("README's first screen has %d lines, at most %d are wanted" % (lines, SCREEN_LINES))

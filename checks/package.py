@@ -1,5 +1,6 @@
 #!/usr/bin/env python3
-"""The Debian package that packaging/deb makes, in a Debian of its own: it is installed, the program serves, an upgrade, and a purge.
+"""The Debian package that packaging/deb makes, in a Debian of its own: it is installed, the program serves, keeps its queue, is heard and
+is found on the network (household.py), an upgrade, and a purge.
 
     checks/package.py [PROGRAM] [--suite bookworm] [--mirror URL] [--base FOLDER]
 
@@ -10,6 +11,7 @@ its own, which end with it.
 import argparse
 import hashlib
 import os
+import re
 import shutil
 import signal
 import stat
@@ -21,13 +23,16 @@ sys.dont_write_bytecode = True
 HERE = os.path.dirname(os.path.abspath(__file__))
 sys.path.insert(0, os.path.join(HERE, 'serve'))
 
-from daemon import ROOT, Process, Table, free_port, program_of, put_songs
+import household
+import release
+from daemon import ROOT, Table, free_port, program_of, put_songs
+from household import ALSA_UNIT, AVAHI, DOCUMENTS, RUN, SETTINGS, STATE, content, last_of
 
 DEB = os.path.join(ROOT, 'packaging', 'deb')
-STATE, RUN, SETTINGS = 'var/lib/music_daemon', 'run/music_daemon', 'etc/music_daemon.toml'
 SYSTEM, USER = 'usr/lib/systemd/system/music_daemon.service', 'usr/lib/systemd/user/music_daemon.service'
-WANTED = 'etc/systemd/system/multi-user.target.wants/music_daemon.service'
-DOCUMENTS = 'usr/share/doc/music-daemon'
+# What is linked where the units are enabled
+WANTED = ('multi-user.target.wants/music_daemon.service', 'music_daemon.service.wants/music_daemon_alsa@speakers.service',
+          'sound.target.wants/music_daemon_alsa@speakers.service')
 PAGE = 'usr/share/man/man1/music_daemon.1.gz'
 SONGS = 12
 MOST = 1200000   # the bytes that a package may have
@@ -35,24 +40,28 @@ LONGEST = 600    # the seconds that a command in the folder may take
 # Owner, group and mode of what is there after the installation.
 OWNERS = {
     'usr/bin/music_daemon': ('root', 'root', '-rwxr-xr-x'),
+    **{'usr/lib/music_daemon/' + name: ('root', 'root', '-rwxr-xr-x') for name in ('alsa', 'fifos', 'listening')},
     SYSTEM: ('root', 'root', '-rw-r--r--'),
+    ALSA_UNIT: ('root', 'root', '-rw-r--r--'),
     USER: ('root', 'root', '-rw-r--r--'),
     SETTINGS: ('root', 'root', '-rw-r--r--'),
+    AVAHI: ('root', 'root', '-rw-r--r--'),
     PAGE: ('root', 'root', '-rw-r--r--'),
     DOCUMENTS + '/copyright': ('root', 'root', '-rw-r--r--'),
     DOCUMENTS + '/changelog.gz': ('root', 'root', '-rw-r--r--'),
+    DOCUMENTS + '/README.Debian': ('root', 'root', '-rw-r--r--'),
     DOCUMENTS + '/examples/settings.toml': ('root', 'root', '-rw-r--r--'),
     STATE: ('music_daemon', 'audio', 'drwxr-xr-x'),
     STATE + '/music': ('root', 'root', 'drwxr-xr-x'),
     RUN: ('music_daemon', 'audio', 'drwxr-xr-x'),
-    RUN + '/fifo': ('music_daemon', 'audio', 'prw-r-----'),
+    RUN + '/speakers': ('music_daemon', 'audio', 'prw-r-----'),
 }
 # What is no file of the folder, and what every installation writes: records of apt and dpkg, locks and former files of users.
-PASSED_OVER = ('proc', 'sys', 'dev', 'tmp', 'var/log', 'var/cache', 'var/lib/apt', 'var/lib/dpkg', 'run/adduser', 'etc/.pwd.lock',
-               'etc/passwd-', 'etc/shadow-', 'etc/group-', 'etc/gshadow-')
-# Lines of the settings of a service.
-LINES = ('everyday = true', 'listen = "127.0.0.1:6600"', 'music = "/%s/music"' % STATE, 'shelf = "/%s/shelf"' % STATE,
-         'path = "/%s/fifo"' % RUN)
+PASSED_OVER = ('proc', 'sys', 'dev', 'tmp', 'var/log', 'var/cache', 'var/lib/apt', 'var/lib/dpkg', 'run/adduser', 'run/dbus',
+               'run/avahi-daemon', 'etc/.pwd.lock', 'etc/passwd-', 'etc/shadow-', 'etc/group-', 'etc/gshadow-')
+# Lines of the settings of a service, in their order: what a household may want to change stands first.
+LINES = ('music = "/%s/music"' % STATE, 'listen = "127.0.0.1:6600"', 'rate = 44100', 'everyday = true', 'state = "/%s/state"' % STATE,
+         'shelf = "/%s/shelf"' % STATE, '[[output]]', 'name = "speakers"', 'path = "/%s/speakers"' % RUN, 'patience = 5')
 ENVIRONMENT = {'PATH': '/usr/sbin:/usr/bin:/sbin:/bin', 'LC_ALL': 'C', 'DEBIAN_FRONTEND': 'noninteractive'}
 
 
@@ -86,6 +95,16 @@ class Debian:
         shutil.copy(package, self.path('tmp/music-daemon.deb'))
         told = self.run('apt-get', 'install', '-y', '--no-install-recommends', '--allow-downgrades', '/tmp/music-daemon.deb')
         os.remove(self.path('tmp/music-daemon.deb'))
+        return told
+
+    def install_quietly(self, *packages):
+        """Packages of Debian, whose services are not started."""
+        policy = self.path('usr/sbin/policy-rc.d')
+        with open(policy, 'w') as file:
+            file.write('#!/bin/sh\nexit 101\n')
+        os.chmod(policy, 0o755)
+        told = self.run('apt-get', 'install', '-y', '--no-install-recommends', *packages)
+        os.remove(policy)
         return told
 
     def names(self, file):
@@ -124,10 +143,6 @@ class Debian:
         return found
 
 
-def last(told):
-    return told.splitlines()[-1] if told else ''
-
-
 def differ(before, after):
     return sorted(name for name in before.keys() | after.keys() if before.get(name) != after.get(name))
 
@@ -138,16 +153,11 @@ def made(program, path, version=None):
     return done.returncode, done.stdout.decode(errors='replace').strip()
 
 
-def content(path):
-    with open(path, 'rb') as file:
-        return file.read()
-
-
 def check_made(rows, program, folder):
     """The package, twice, and a newer one."""
     paths = [os.path.join(folder, name) for name in ('one.deb', 'two.deb', 'newer.deb')]
     status, told = made(program, paths[0])
-    rows.row('packaging/deb', last(told).replace(folder + '/', ''), right=status == 0)
+    rows.row('packaging/deb', last_of(told).replace(folder + '/', ''), right=status == 0)
     if status:
         return None
     made(program, paths[1])
@@ -169,9 +179,9 @@ def check_refusals(rows, folder):
         file.write('#!/bin/sh\n')
     os.chmod(script, 0o755)
     status, told = made(script, os.path.join(folder, 'no.deb'))
-    rows.row('a script', last(told).replace(folder, '..'), right=status == 1 and 'no program for amd64' in told)
+    rows.row('a script', last_of(told).replace(folder, '..'), right=status == 1 and 'no program for amd64' in told)
     status, told = made('/bin/ls', os.path.join(folder, 'no.deb'))
-    rows.row('a program that needs more than libc', last(told).replace(folder, '..'), right=status == 1 and 'which is not in' in told)
+    rows.row('a program that needs more than libc', last_of(told).replace(folder, '..'), right=status == 1 and 'which is not in' in told)
 
 
 def check_installed(rows, debian):
@@ -182,12 +192,12 @@ def check_installed(rows, debian):
     rows.row('files as packed', told or 'yes', right=(status, told) == (0, ''))
     status, told = debian.run('id', 'music_daemon')
     rows.row('the user', told, right=status == 0 and 'groups=29(audio)' in told and int(told[4:told.index('(')]) < 1000)
-    link = debian.path(WANTED)
-    rows.row('the unit is enabled', os.readlink(link) if os.path.islink(link) else 'no', right=os.path.islink(link))
+    links = [debian.path('etc/systemd/system/' + name) for name in WANTED]
+    to = [os.readlink(link) if os.path.islink(link) else 'no' for link in links]
+    rows.row('the units are enabled', ', '.join(map(os.path.basename, to)), right='no' not in to)
     rows.row('nothing runs', 'yes' if not running(debian) else 'no', right=not running(debian))
-    lines = content(debian.path(SETTINGS)).decode().splitlines()
-    wrong = [line for line in LINES if line not in lines]
-    rows.row('the settings of a service', ', '.join(wrong) or 'yes', right=not wrong)
+    lines = [line for line in content(debian.path(SETTINGS)).decode().splitlines() if line and not line.startswith('#')]
+    rows.row('the settings of a service', 'yes' if lines == list(LINES) else ', '.join(lines), right=lines == list(LINES))
 
 
 def running(debian):
@@ -204,15 +214,15 @@ def running(debian):
 
 def check_units(rows, debian):
     """systemd-analyze of this machine, on the units where they are installed, with the folder as its root."""
-    for name, words in ((SYSTEM, []), (USER, ['--user'])):
-        case = 'systemd-analyze verify, ' + ('of a user' if words else 'of the system')
+    for name, words in ((SYSTEM, []), (ALSA_UNIT, []), (USER, ['--user'])):
+        case = 'systemd-analyze verify, ' + ('of a user' if words else 'of a sound card' if name == ALSA_UNIT else 'of the system')
         if not shutil.which('systemd-analyze'):
             rows.row(case, 'not looked at: there is no systemd-analyze')
             continue
         # It wants the program at the unit's path, which is this machine's; so it is given the path in the folder.
-        copy = os.path.join(debian.path('tmp'), os.path.basename(name))
+        copy = os.path.join(debian.path('tmp'), os.path.basename(name).replace('@', '@speakers'))
         with open(debian.path(name)) as file, open(copy, 'w') as unit:
-            unit.write(file.read().replace('/usr/bin/music_daemon', debian.path('usr/bin/music_daemon')))
+            unit.write(re.sub(r'/usr/(?:bin|lib)/music_daemon', lambda found: debian.path(found.group()[1:]), file.read()))
         done = subprocess.run(['systemd-analyze', *words, '--man=no', 'verify', copy], stdout=subprocess.PIPE, stderr=subprocess.STDOUT,
                               env=dict(os.environ, XDG_RUNTIME_DIR=debian.path('tmp')), timeout=60)
         # It tells of all units that it loads; of others nothing is asked.
@@ -224,18 +234,15 @@ def check_units(rows, debian):
 def check_program(rows, debian, folder):
     """The program in a Debian without a toolchain, as the package's user; it is left running."""
     status, told = debian.run('/usr/bin/music_daemon', '--version')
-    rows.row('--version', told, right=status == 0 and told.startswith('music_daemon '))
+    rows.row('--version', told, right=status == 0 and told == 'music_daemon ' + release.version())
     put_songs(debian.path(STATE + '/music'), SONGS, 100)
     status, told = debian.run('/usr/bin/music_daemon', 'scan', '/%s/music' % STATE, user='music_daemon:audio')
     count = sum(line.startswith('file: ') for line in told.splitlines())
     rows.row('scan', '%d songs, status %d' % (count, status), right=(status, count) == (0, SONGS))
     port = free_port()
-    text = content(debian.path(SETTINGS)).decode()
-    with open(debian.path(SETTINGS), 'w') as file:
-        file.write(text.replace('127.0.0.1:6600', '127.0.0.1:%d' % port))
-    words = ['chroot', '--userspec=music_daemon:audio', debian.root, '/usr/bin/music_daemon', 'serve', '--config', '/' + SETTINGS]
+    household.put_port(debian, port)
     try:
-        daemon = Process(words, port, folder, environment=ENVIRONMENT)
+        daemon = household.serve(debian, port, folder, ENVIRONMENT)
     except AssertionError as fault:
         rows.row('serve', fault, right=False)
         return None
@@ -269,9 +276,11 @@ def check_removed(rows, debian, daemon):
         except subprocess.TimeoutExpired:
             ended = None
         rows.row('the daemon ended', ended or 'no', right=ended is not None)
-    kept = [name for name in (SETTINGS, STATE + '/shelf', STATE + '/music') if os.path.lexists(debian.path(name))]
-    rows.row('settings, shelf and music are kept', ' '.join(kept), right=len(kept) == 3)
-    gone = [name for name in ('usr/bin/music_daemon', SYSTEM, USER, PAGE, DOCUMENTS, RUN) if os.path.lexists(debian.path(name))]
+    files = (SETTINGS, STATE + '/shelf', STATE + '/state', STATE + '/music')
+    kept = [name for name in files if os.path.lexists(debian.path(name))]
+    rows.row('settings, shelf, state and music are kept', ' '.join(kept), right=len(kept) == len(files))
+    files = ('usr/bin/music_daemon', 'usr/lib/music_daemon', SYSTEM, ALSA_UNIT, USER, PAGE, DOCUMENTS, RUN)
+    gone = [name for name in files if os.path.lexists(debian.path(name))]
     rows.row('program, units and documents are gone', ' '.join(gone) or 'yes', right=not gone)
 
 
@@ -310,33 +319,41 @@ def check_under_systemd(rows, debian, package, newer):
     os.rmdir(debian.path('run/systemd/system'))
 
 
+def make_debian(given, root):
+    """A folder of debootstrap, or a copy of one."""
+    if given.base:
+        subprocess.run(['cp', '-a', given.base, root], check=True)
+        return
+    words = ['debootstrap', '--variant=minbase', given.suite, root, given.mirror]
+    done = subprocess.run(words, stdout=subprocess.PIPE, stderr=subprocess.STDOUT)
+    if done.returncode:
+        sys.exit('debootstrap: ' + last_of(done.stdout.decode(errors='replace')))
+
+
 def check_package(given, folder):
     rows = Rows()
     packages = check_made(rows, program_of(given.program), folder)
     check_refusals(rows, folder)
     if packages:
         root = os.path.join(folder, 'debian')
-        if given.base:
-            subprocess.run(['cp', '-a', given.base, root], check=True)
-        else:
-            words = ['debootstrap', '--variant=minbase', given.suite, root, given.mirror]
-            done = subprocess.run(words, stdout=subprocess.PIPE, stderr=subprocess.STDOUT)
-            if done.returncode:
-                sys.exit('debootstrap: ' + last(done.stdout.decode(errors='replace')))
+        make_debian(given, root)
         subprocess.run(['mount', '-t', 'proc', 'proc', os.path.join(root, 'proc')], check=True)
         debian = Debian(root)
         try:
+            if not given.base:
+                debian.run('apt-get', 'update')
             # What it depends on stays after it, and in Debian 13 adduser is no part of the smallest system.
-            debian.run('apt-get', 'install', '-y', '--no-install-recommends', 'adduser')
+            status, told = debian.install_quietly('adduser', *household.NEEDED)
+            rows.row('what the check needs', 'status %d' % status, right=status == 0)
             before = debian.tree()
             status, told = debian.install(packages[0])
-            rows.row('apt-get install', last(told), right=status == 0)
+            rows.row('apt-get install', last_of(told), right=status == 0)
             check_installed(rows, debian)
             check_units(rows, debian)
             check_purged(rows, debian, 'no music', before, {})
             status, told = debian.install(packages[0])
-            rows.row('apt-get install again', last(told), right=status == 0)
-            daemon = check_program(rows, debian, folder)
+            rows.row('apt-get install again', last_of(told), right=status == 0)
+            daemon = household.check(rows, debian, check_program(rows, debian, folder), folder, ENVIRONMENT)
             music = {name: seen for name, seen in debian.tree().items() if name.startswith(STATE + '/music')}
             sums = {name: content(debian.path(name)) for name in music if name.endswith('.wav')}
             check_upgrade(rows, debian, packages[1], daemon)

@@ -2,6 +2,9 @@
 The launcher at the top has the same texts of help and the version, which it shows before the program is built."""
 import os
 import re
+import subprocess
+
+import release
 
 LAUNCHER = os.path.join(os.path.dirname(os.path.dirname(os.path.abspath(__file__))), 'music_daemon')
 TEXTS = {'help': ('--help',), 'help_serve': ('serve', '--help'), 'help_scan': ('scan', '--help'), 'help_script': ('script', '--help')}
@@ -21,7 +24,7 @@ WANTED = [
     (('--rate', '8000', 'scan', '.'), REFUSED), (('script', '--version'), REFUSED), (('--', 'script'), REFUSED),
 ]
 
-VERSION = b'music_daemon MPD protocol 0.23.0\n'
+VERSION = b'music_daemon %s\n' % release.version().encode()
 
 
 def is_right(run, words, wanted):
@@ -37,7 +40,11 @@ def check_launcher(program):
     """The launcher's texts are the program's."""
     with open(LAUNCHER, encoding='utf-8') as launcher:
         text = launcher.read()
-    wrong = [] if 'echo "%s"' % VERSION.decode().strip() in text else ['version']
+    found = re.search(r'^version\(\) \{\n.*?^\}$', text, re.MULTILINE | re.DOTALL)
+    shows = 'echo "music_daemon $(version)"'
+    words = ['bash', '-c', 'top=$1\n%s\n%s' % (found.group(0) if found else '', shows), 'bash', release.TOP]
+    told = subprocess.run(words, stdout=subprocess.PIPE).stdout
+    wrong = [] if told == VERSION and shows in text else ['version']
     for name, words in TEXTS.items():
         found = re.search(r"^%s\(\) \{\n  cat <<'TEXT'\n(.*?)^TEXT$" % name, text, re.MULTILINE | re.DOTALL)
         if not found or found.group(1).encode() != program.run(b'', words).output:

@@ -7,6 +7,9 @@ ghost use Rattle.command_line.specs.Arguments as arguments;
 use clap::{Arg, ArgAction, Command};
 use std::alloc::{AllocError, Global};
 
+/// The version of the program. The package, the launcher and the manual's head have it from this line.
+pub const VERSION: &str = "0.9.0";
+
 /// The whole command line.
 pub(crate) fn daemon<'a>(alloc: Global) -> Result<Command<'a>, AllocError>
     ensures { IfOk result (λ command. app_of command ≡ arguments.daemon) }
@@ -25,7 +28,7 @@ fn bare<'a>(alloc: Global) -> Command<'a>
 {
     Command::new(alloc, "music_daemon")
         .about("A Music Player Daemon for PCM libraries")
-        .version("MPD protocol 0.23.0")
+        .version(VERSION)
         .subcommand_required(true)
 }
 

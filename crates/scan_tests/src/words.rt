@@ -77,7 +77,7 @@ music_daemon nosuch => 2: error: unrecognized subcommand 'nosuch'
 music_daemon => 2: error: 'music_daemon' requires a subcommand but one was not provided
 music_daemon --help => 0: A Music Player Daemon for PCM libraries
 music_daemon help script => 0: Runs standard input as a script
-music_daemon --version => 0: music_daemon MPD protocol 0.23.0";
+music_daemon --version => 0: music_daemon 0.9.0";
 
 fn comes_to(alloc: Global, pair: &str) -> Result<(), Fail> {
     let (line, wanted) = pair.split_once(" => ").unwrap_or((pair, "?"));

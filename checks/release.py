@@ -1,0 +1,75 @@
+#!/usr/bin/env python3
+"""The version of the release, which only the code has, and what else names it.
+
+    checks/release.py
+
+It fails where the manual's head or the newest entry of CHANGELOG.md has another version, where these two have different dates, and where
+the package's copyright file does not name a library that is linked; and where README does not have the commands of the package's README.
+packaging/deb and the launcher at the top read the code.
+"""
+import os
+import re
+import sys
+
+sys.dont_write_bytecode = True
+
+from crates import below, table_of
+
+TOP = os.path.dirname(os.path.dirname(os.path.abspath(__file__)))
+CODE, MANUAL, CHANGES = 'crates/command_line/src/arguments.rt', 'packaging/music_daemon.1', 'CHANGELOG.md'
+COPYRIGHT, FIRST = 'packaging/debian/copyright', 'packaging/debian/README.Debian'
+LINE = re.compile(r'(?m)^pub const VERSION: &str = "(.*)";$')
+
+
+def read(path):
+    with open(os.path.join(TOP, path), encoding='utf-8') as file:
+        return file.read()
+
+
+def version():
+    """The version in the code."""
+    found = LINE.findall(read(CODE))
+    if len(found) != 1:
+        sys.exit('%s has not one line of the version' % CODE)
+    return found[0]
+
+
+def libraries():
+    """The toolchain's libraries that crates.txt names for the program and the crates below it."""
+    own = table_of(TOP)
+    lines = below(TOP, ['music_daemon']).values()
+    return sorted({name for line in lines for name in line.split(':')[1].split()} - set(own))
+
+
+def unnamed(text):
+    """The libraries that a copyright file does not name."""
+    named = re.findall(r'rattle/(\w+)(\*|/\*)', text)
+    return [library for library in libraries()
+            if not any(library.startswith(name) if ending == '*' else library == name for name, ending in named)]
+
+
+def faults():
+    wrong, number = [], version()
+    head = re.search(r'(?m)^\.TH MUSIC_DAEMON 1 "(.*?)" "music_daemon (.*?)"', read(MANUAL))
+    entry = re.search(r'(?m)^## (\S+) \((.*?)\)$', read(CHANGES))
+    if not head or head.group(2) != number:
+        wrong.append("%s: its head has not the code's version, %s" % (MANUAL, number))
+    if not entry or entry.group(1) != number:
+        wrong.append("%s: its newest entry is not of the code's version, %s" % (CHANGES, number))
+    if head and entry and head.group(1) != entry.group(2):
+        wrong.append('%s has the date %s, and %s has %s' % (MANUAL, head.group(1), CHANGES, entry.group(2)))
+    wrong += ['%s does not name %s' % (COPYRIGHT, library) for library in unnamed(read(COPYRIGHT))]
+    lines = read('README.md').split('\n')
+    wrong += ['README.md has not the command %s of %s' % (line.strip(), FIRST)
+              for line in read(FIRST).split('\n') if line.startswith('    ') and line not in lines]
+    return wrong
+
+
+def main():
+    wrong = faults()
+    print('\n'.join(wrong) or 'version %s; %d libraries have their licences' % (version(), len(libraries())))
+    return bool(wrong)
+
+
+if __name__ == '__main__':
+    sys.exit(main())
