@@ -1,7 +1,7 @@
 #!/bin/sh
 # Prints microseconds of commands over stored playlists and stickers, beside the call of a shelf in memory alone: a queue of
 # 16,384 entries is saved, loaded and its list emptied, and 10,000 stickers are looked through; then what parts of them take;
-# best of five.
+# best of three.
 # Usage: bench.sh [ROOT]     (ROOT is the repository's top folder; two folders up from here if left out)
 # It builds on a copy in a temporary folder. What the crates have proved is copied along; the rest is proved there first.
 set -eu

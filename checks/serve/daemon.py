@@ -125,8 +125,8 @@ class Process:
         if wait:
             self.wait_for_port()
 
-    def wait_for_port(self):
-        end = time.monotonic() + START
+    def wait_for_port(self, seconds=START):
+        end = time.monotonic() + seconds
         while time.monotonic() < end:
             if self.process.poll() is not None:
                 raise AssertionError('it ended with status %d: %s' % (self.process.returncode, self.errors()))
@@ -135,6 +135,7 @@ class Process:
                 return
             except OSError:
                 time.sleep(0.02)
+        self.kill()
         raise AssertionError('it does not listen')
 
     def client(self):

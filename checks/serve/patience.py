@@ -64,10 +64,10 @@ class Reader(Pacer):
 class Patient(Daemon):
     """A daemon whose outputs have patience, where it is a number."""
 
-    def __init__(self, program, folder, music, outputs, more='', wait=True):
+    def __init__(self, program, folder, music, outputs, more='', wait=True, rate=RATE):
         self.settings = os.path.join(folder, 'settings.toml')
         port = free_port()
-        lines = ['music = "%s"' % music, 'listen = "127.0.0.1:%d"' % port, 'rate = %d' % RATE, 'kill = true', more]
+        lines = ['music = "%s"' % music, 'listen = "127.0.0.1:%d"' % port, 'rate = %d' % rate, 'kill = true', more]
         for number, (path, patience) in enumerate(outputs):
             lines += ['[[output]]', 'name = "out%d"' % number, 'path = "%s"' % path]
             lines += ['patience = %s' % patience] * (patience is not None)

@@ -27,8 +27,9 @@ TABLES = [
 PUT = 'INSERT OR REPLACE INTO list (name, uris) VALUES (?1, ?2)'
 LIST = 'SELECT uris FROM list WHERE name = ?1'
 SET = 'INSERT OR REPLACE INTO note (kind, target, name, value) VALUES (?1, ?2, ?3, ?4)'
-# how often each is called (`query` is what `list` asks the port, without the shelf), and the wanted multiple of sqlite3's time in memory
-CALLS = {'put': 50, 'list': 200, 'query': 200, 'stickers': 10000}
+# how often each is called in memory and on a file, where each change waits for the disk (`query` is what `list` asks the port, without the shelf)
+CALLS = {'memory': {'put': 20, 'list': 100, 'query': 100, 'stickers': 10000}, 'file': {'put': 20, 'list': 100, 'query': 100, 'stickers': 500}}
+# the wanted multiple of sqlite3's time in memory
 WANTED = 3
 
 
@@ -124,8 +125,8 @@ def syncs(program, call, count):
 def main():
     program = sys.argv[1]
     print('%-8s %-10s %7s %12s %12s %12s %8s  %s' % ('', 'call', 'calls', 'us a call', 'command', 'library', 'times', 'wanted'))
-    for place in ('memory', 'file'):
-        for call, count in CALLS.items():
+    for place, calls in CALLS.items():
+        for call, count in calls.items():
             own = least(place, ours(program, call, count)) / count * 1e6
             by_command = least(place, command(call, count)) / count * 1e6
             by_library = least(place, library(call, count, 'FULL')) / count * 1e6
@@ -133,7 +134,7 @@ def main():
                   (place, call, count, own, by_command, by_library, own / by_library,
                    'within %d times' % WANTED if place == 'memory' else 'what the syncs cost'))
     print()
-    for call, count in (('put', 50), ('stickers', 1000)):
+    for call, count in (('put', 20), ('stickers', 500)):
         synced = least('file', library(call, count, 'FULL')) / count * 1e6
         unsynced = least('file', library(call, count, 'OFF')) / count * 1e6
         counted = '%.2f' % (syncs(program, call, count) / count) if shutil.which('strace') else 'no strace'

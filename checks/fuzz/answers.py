@@ -1,0 +1,79 @@
+"""The forms that answers and refusals have, and the shape of an answer: what is left of it without numbers and texts."""
+import re
+
+CODES = {1, 2, 3, 4, 5, 50, 51, 52, 53, 54, 55, 56}
+ACK = re.compile(r'ACK \[(\d+)@\d+\] \{([a-z_]*)\} \S')
+PAIR = re.compile(r'(?:\d+:)?[A-Za-z][A-Za-z_.-]*: ')
+GREETING = 'OK MPD 0.23.0'
+# the pairs whose values are words of the protocol
+WORDS = {'state', 'single', 'consume', 'changed', 'repeat', 'random', 'sticker', 'replay_gain_mode', 'outputenabled', 'command', 'tagtype'}
+KEYS = {'', 'music', 'listen', 'state', 'shelf', 'rate', 'kill', 'everyday', 'random_start', 'history', 'ring', 'output'}
+STEP = re.compile(r'! (?:bad|ok|none|stale|ended|refused [a-z ]+|job [\d a-z]+|feed [\d ]+|live [\d a-z]+|window \d+ \d+)$')
+
+# what the program says where it refuses to start
+STARTS = ['cannot read ', 'bad setting ', 'cannot open shelf$', 'cannot read folder ', 'too many songs$', 'cannot listen at ', 'write fault$', 'history full$',
+          'player limit reached$']
+REFUSAL = re.compile('music_daemon: (?:%s)' % '|'.join(STARTS))
+# A refusal repeats what the settings name, with its line breaks.
+NAMING = re.compile('music_daemon: (?:cannot read |bad setting |cannot listen at )')
+# what it says beside a good start
+REMARK = re.compile(r'music_daemon: (?:state: |\d+ songs|\d+ of \d+ files are at |the state with refused lines cannot be kept$)')
+
+
+class Fault(Exception):
+    """What a run did that it must not do. Two faults are alike where their kinds are."""
+
+    def __init__(self, kind, told):
+        super().__init__('%s: %s' % (kind, told) if told else kind)
+        self.kind = kind
+
+
+def check_answer_line(line):
+    """A line of an answer, or what is wrong with it is raised."""
+    if line in ('OK', 'list_OK', GREETING) or PAIR.match(line):
+        return
+    found = ACK.match(line)
+    if not found or int(found[1]) not in CODES:
+        raise Fault('no form of an answer', repr(line[:200]))
+
+
+def check_step_line(line):
+    """A line that a script prints."""
+    if line[:2] == '! ':
+        if not STEP.match(line):
+            raise Fault('no form of a step', repr(line[:200]))
+    elif re.match('[1-9] ', line):
+        if line[2:] != 'closed':
+            check_answer_line(line[2:])
+    else:
+        raise Fault('no form of a line', repr(line[:200]))
+
+
+def shape_of_refusal(text):
+    """What the program says on standard error, without the names and lines that it repeats."""
+    if text.startswith('bad setting '):
+        return text if text[len('bad setting '):] in KEYS else 'bad setting'
+    if text.startswith('state: '):
+        return 'state: ' + text.rpartition(': ')[2]
+    return ' '.join(text.split(' ')[:3]) + text.rpartition(', ')[2][:40] * (', ' in text)
+
+
+def shape_of(line):
+    """A line without what is another in each run."""
+    key, colon, value = line.partition(': ')
+    if key == 'music_daemon':
+        return 'said: ' + re.sub(r'\d+', '0', re.sub(r'".*"', '""', shape_of_refusal(value)))[:120]
+    word = key.split(' ')[-1]
+    if colon and re.fullmatch('[A-Za-z_]+', word) and word not in WORDS:
+        value = '0' if value.replace('.', '').isdigit() else ''
+    text = re.sub(r'".*"', '""', key + colon + value)
+    return re.sub(r'\d+', '0', text)[:120]
+
+
+def shapes_of(lines, of_pairs=False):
+    """The shapes of an answer: of each line, and of all together; of a script those of neighbours in place of the latter."""
+    shapes = [shape_of(line) for line in lines]
+    apart = [shape for number, shape in enumerate(shapes) if shape != shapes[number - 1] or number == 0]
+    if of_pairs:
+        return set(shapes) | set(zip(apart, apart[1:]))
+    return set(shapes) | {tuple(apart[:12])}

@@ -1,0 +1,308 @@
+"""The kinds of hostile inputs: how the program is given them, and what it may answer."""
+import itertools
+import os
+import re
+import shutil
+import subprocess
+import sys
+import time
+
+HERE = os.path.dirname(os.path.abspath(__file__))
+CHECKS = os.path.dirname(HERE)
+sys.path.insert(0, CHECKS)
+
+import rows
+from answers import NAMING, REFUSAL, REMARK, Fault, check_answer_line, check_step_line, shapes_of
+
+MARK = '9 ACK [5@0] {} unknown command "mark"'
+LIBRARY = ['! limit everyday 1', '! song a.wav 8000 Title=One Artist=Ann Date=2001', '! song b/c.wav 4000 "Title=It\'s \\"so\\"" Artist=Zo\u00eb',
+           '! song b/d.wav 12345 Artist=ann Album=First Genre=Folk', '! song e/f/g.wav 8 Title=One Comment=x']
+
+
+class Ended:
+    """How a run ended."""
+
+    def __init__(self, status, output, errors):
+        self.status, self.output, self.errors = status, output, errors
+
+    def lines(self):
+        return self.output.decode('utf-8', 'backslashreplace').split('\n')[:-1]
+
+    def error_lines(self):
+        return self.errors.decode('utf-8', 'backslashreplace').rstrip('\n').split('\n') if self.errors else []
+
+    def told(self):
+        return 'status %s, standard error %r' % (self.status, self.errors[-300:])
+
+
+class Program:
+    """The built program, and how many seconds of processor a run of it may take."""
+
+    def __init__(self, path, limit):
+        self.path, self.limit = path, limit
+
+    def run(self, words, folder, source=os.devnull):
+        """A run that reads a file; a fault where a signal or the limit ended it."""
+        with open(source, 'rb') as stdin:
+            process = subprocess.Popen([self.path, *words], cwd=folder, stdin=stdin, stdout=subprocess.PIPE, stderr=subprocess.PIPE)
+        output, errors = self.outcome(process)
+        ended = Ended(process.returncode, output, errors)
+        if ended.status < 0:
+            raise Fault('signal %d' % -ended.status, ended.told())
+        if ended.status > 1:
+            raise Fault('status %d' % ended.status, ended.told())
+        return ended
+
+    def outcome(self, process):
+        """What a run wrote. It has no end where it used the processor for that long, or only sleeps. One that waits for the processor has time."""
+        while True:
+            try:
+                return process.communicate(timeout=self.limit)
+            except subprocess.TimeoutExpired:
+                used = seconds_of(process.pid)
+                if used >= self.limit or is_asleep(process.pid):
+                    process.kill()
+                    process.communicate()
+                    raise Fault('no end', 'within %.0f s of processor' % used) from None
+
+
+def seconds_of(number):
+    """The processor time that a process used."""
+    with open('/proc/%d/stat' % number) as stat:
+        fields = stat.read().rpartition(')')[2].split()
+    return (int(fields[11]) + int(fields[12])) / os.sysconf('SC_CLK_TCK')
+
+
+def is_asleep(number):
+    """Whether each thread of a process waits for something, and none for the processor or a disk; three looks, a tenth of a second apart."""
+    for _ in range(3):
+        time.sleep(0.1)
+        for task in os.listdir('/proc/%d/task' % number):
+            with open('/proc/%d/task/%s/stat' % (number, task)) as stat:
+                if stat.read().rpartition(')')[2].split()[0] not in 'SZ':
+                    return False
+    return True
+
+
+def write(path, data):
+    with open(path, 'wb') as file:
+        file.write(data)
+
+
+def wave(frames, rate=8000):
+    size = len(frames)
+    head = b'WAVEfmt \x10\0\0\0\x01\0\x01\0' + rate.to_bytes(4, 'little') * 2 + b'\x01\0\x08\0data' + size.to_bytes(4, 'little')
+    return b'RIFF' + (len(head) + size).to_bytes(4, 'little') + head + frames
+
+
+def put_music(folder):
+    """Two songs, for the kinds that start the daemon."""
+    os.makedirs(os.path.join(folder, 'music', 'b'), exist_ok=True)
+    for name in ('a.wav', 'b/c.wav'):
+        write(os.path.join(folder, 'music', name), wave(b'\x80' * 800))
+
+
+def clear(folder, kept=('music',)):
+    """Takes away what a run left in its folder."""
+    for name in set(os.listdir(folder)) - set(kept):
+        path = os.path.join(folder, name)
+        shutil.rmtree(path) if os.path.isdir(path) and not os.path.islink(path) else os.remove(path)
+
+
+def check_start(ended):
+    """What a start with `--check` may say: one refusal and status 1, or what it found and remarks. Its lines."""
+    lines = ended.error_lines()
+    if ended.status == 0 and ended.output.startswith(b'music: ') and all(REMARK.match(line) for line in lines):
+        return ended.lines() + lines
+    rest = list(itertools.dropwhile(REMARK.match, lines))
+    if ended.status == 1 and not ended.output and rest and REFUSAL.match(rest[0]) and (len(rest) == 1 or NAMING.match(rest[0])):
+        return lines[:len(lines) - len(rest) + 1]
+    raise Fault('no refusal', ended.told())
+
+
+def files_in(folder, ending=''):
+    """The contents of a folder's files, in the order of their names."""
+    for name in sorted(os.listdir(folder)):
+        if name.endswith(ending):
+            with open(os.path.join(folder, name), 'rb') as file:
+                yield file.read()
+
+
+def row_scripts():
+    """The lines of each row, of those of the checks and of the worked ones."""
+    for folder in (rows.FOLDER, rows.WORKED):
+        for data in files_in(folder, '.row'):
+            lines = [line[2:] if line.startswith(b'> ') else rows.unescaped(line[3:]) for line in data.split(b'\n') if line.startswith((b'> ', b'>e '))]
+            yield b'\n'.join(lines) + b'\n'
+
+
+def client_lines():
+    """What clients say in the rows, each line once."""
+    return sorted({line[2:] for script in row_scripts() for line in script.split(b'\n') if re.match(rb'[1-9] .', line)})
+
+
+class Kind:
+    """Inputs of one kind: how many the program takes at once, and how long they may be."""
+    at_once, most_bytes, is_text, words = 1, 4096, True, ()
+
+    def permits(self, data):
+        return True
+
+    def mend(self, draw, data):
+        """A mutated input, perhaps with a part put right that else hides all others."""
+        return data
+
+    def seeds(self, folder):
+        """The inputs of the corpus."""
+        return files_in(folder)
+
+    def close(self, folder):
+        pass
+
+
+class Settings(Kind):
+    """A file of settings, by `serve --check`. A path has no slash, so that nothing outside the folder is named."""
+    name = 'settings'
+    words = [b'music', b'listen', b'state', b'shelf', b'rate', b'kill', b'everyday', b'random_start', b'history', b'ring', b'[[output]]', b'[output]',
+             b'name', b'path', b'enabled', b'patience', b' = ', b'\n', b'"""', b"'''", b'\\n', b'\\u00e9', b'\\U0010ffff', b'\\ud800', b'true',
+             b'false', b'0x10', b'1_000', b'inf', b'nan', b'1979-05-27T07:32:00Z', b'{', b'}', b'{ a = 1 }', b'[1, 2]', b'a.b', b'"a"."b"',
+             b'[::1]:0', b'localhost:0', b'127.0.0.1:0', b'0.0.0.0:0']
+
+    def permits(self, data):
+        return b'/' not in data and not re.search(rb'\\[uU]0*2[fF]', data)
+
+    def run(self, program, folder, inputs):
+        put_music(folder)
+        write(os.path.join(folder, 'settings.toml'), inputs[0])
+        try:
+            return [shapes_of(check_start(program.run(['serve', '--config', 'settings.toml', '--check'], folder)))]
+        finally:
+            clear(folder)
+
+
+class Wave(Kind):
+    """WAVE files, many in a folder, by `scan`."""
+    name, at_once, is_text, most_bytes = 'wave', 200, False, 4096
+    words = [b'RIFF', b'RIFX', b'RF64', b'WAVE', b'fmt ', b'data', b'LIST', b'INFO', b'INAM', b'IART', b'IPRD', b'ICRD', b'IGNR', b'ICMT', b'ITRK',
+             b'id3 ', b'ID3', b'fact', b'ds64', b'JUNK', b'bext', b'wavl', b'slnt', b'\x01\0\x01\0', b'\x01\0\x02\0', b'\xfe\xff\x02\0',
+             bytes.fromhex('0100000000001000800000aa00389b71')]
+    REFUSALS = {'NotRiff', 'NoFormat', 'Unsupported', 'NoData'}
+
+    def mend(self, draw, data):
+        if draw.randrange(2) and len(data) >= 12:
+            return b'RIFF' + (len(data) - 8).to_bytes(4, 'little') + b'WAVE' + data[12:]
+        return data
+
+    def run(self, program, folder, inputs):
+        songs = os.path.join(folder, 'songs')
+        os.makedirs(songs)
+        names = ['%04d.wav' % number for number in range(len(inputs))]
+        for name, data in zip(names, inputs):
+            write(os.path.join(songs, name), data)
+        try:
+            ended = program.run(['scan', '--rate', '8000', 'songs'], folder)
+        finally:
+            shutil.rmtree(songs)
+        found = self.found_in(ended)
+        if set(found) - set(names):
+            raise Fault('a file that is not there', repr(sorted(set(found) - set(names))[:3]))
+        for name, data in zip(names, inputs):
+            self.check_length(found.get(name, []), len(data))
+        return [shapes_of(found.get(name, [])) | {self.size_of(found.get(name, []))} for name in names]
+
+    def found_in(self, ended):
+        """The lines of each file: those of a song, or its refusal."""
+        if ended.status != 0:
+            raise Fault('status %d' % ended.status, ended.told())
+        found, name = {}, None
+        for line in ended.lines():
+            check_answer_line(line)
+            name = line[len('file: '):] if line.startswith('file: ') else name
+            found.setdefault(name, []).append(line)
+        for line in ended.error_lines():
+            name, _, refusal = line.partition(': ')
+            if name in found or refusal not in self.REFUSALS:
+                raise Fault('no refusal', repr(line[:200]))
+            found[name] = [refusal]
+        return found
+
+    def check_length(self, lines, size):
+        """A song is no longer than its bytes: a frame takes one at least."""
+        for line in lines:
+            if line.startswith('duration: ') and float(line.partition(': ')[2]) > size / 8000 + 0.001:
+                raise Fault('a song that is longer than its file', '%s of %d bytes' % (line, size))
+
+    def size_of(self, lines):
+        """How long a song is, roughly."""
+        return next(('length', int(8000 * float(line[10:])).bit_length()) for line in [*lines, 'duration: 0'] if line.startswith('duration: '))
+
+
+class Lines(Kind):
+    """Lines of a client that comes and goes, many in a script. A line of another client parts their answers."""
+    name, at_once, most_bytes = 'lines', 200, 4096
+    words = [b'command_list_begin', b'command_list_ok_begin', b'command_list_end', b'window', b'sort', b'position', b'group', b'"(', b')"', b'any',
+             b'modified-since', b'base']
+
+    def seeds(self, folder):
+        return [line for data in files_in(folder) for line in data.split(b'\n')[:-1]] + [line for line in client_lines() if len(line) <= self.most_bytes]
+
+    def script_of(self, data):
+        return [b'1 ' + data.replace(b'\n', b' '), b'! gone 1', b'9 mark']
+
+    def run(self, program, folder, inputs):
+        path = os.path.join(folder, 'script')
+        front = [line.encode() for line in LIBRARY] + [b'9 mark']
+        write(path, b'\n'.join(front + [line for data in inputs for line in self.script_of(data)]) + b'\n')
+        ended = program.run(['script'], folder, path)
+        os.remove(path)
+        if ended.status != 0 or ended.errors:
+            raise Fault('status %d' % ended.status, ended.told())
+        answers = [[]]
+        for line in ended.lines():
+            check_step_line(line)
+            if line == MARK:
+                answers.append([])
+            else:
+                answers[-1].append(line)
+        if len(answers) != len(inputs) + 2:
+            raise Fault('lines that were not answered', '%d of %d' % (len(inputs) + 2 - len(answers), len(inputs)))
+        return [shapes_of(lines) for lines in answers[1:-1]]
+
+
+class Filters(Lines):
+    """Filters, as a word of `find`, `search`, `count` and `list`."""
+    name = 'filters'
+    commands = [b'find %s', b'search %s', b'count %s', b'list album %s', b'findadd %s', b'find %s sort -date window 0:2', b'playlistfind %s']
+    words = [b'(', b')', b'(!', b' AND ', b'==', b'!=', b'=~', b'!~', b'contains', b'starts_with', b'eq_cs', b'eq_ci', b'!contains', b'!starts_with',
+             b'Artist', b'albumartist', b'any', b'file', b'base', b'modified-since', b'AudioFormat', b'prio', b"'", b'"', b"\\'", b'\\\\',
+             b'44100:16:2', b'2001-01-01T00:00:00Z', b'\xe2\x84\xaa', b'\xc4\xb0']
+
+    def seeds(self, folder):
+        found = [it[0] for line in client_lines() for it in [re.search(rb'\(.*\)', line)] if it]
+        return [line for data in files_in(folder) for line in data.split(b'\n')[:-1]] + [it for it in found if len(it) <= self.most_bytes]
+
+    def script_of(self, data):
+        word = b'"' + data.replace(b'\n', b' ').replace(b'\\', b'\\\\').replace(b'"', b'\\"') + b'"'
+        return super().script_of(self.commands[sum(data) % len(self.commands)] % word)
+
+
+class Scripts(Kind):
+    """Whole scripts."""
+    name, most_bytes = 'scripts', 8192
+    words = [b'! song', b'! limit', b'! gone 1', b'! scanned', b'! want', b'! have 1 1024', b'! failed 1', b'! in default', b'! turn 0 1024 0',
+             b'! window', b'! limit history 1', b'! limit max_queue 2', b'! limit max_version 1', b'! limit max_id 3', b'! limit max_cut 2',
+             b'! limit everyday 1', b'\n1 ', b'\n2 ', b'\n3 ', b'\n! ', b'\r\n']
+
+    def seeds(self, folder):
+        return [*files_in(folder), *files_in(os.path.join(CHECKS, '..', 'examples'), '.txt'), *row_scripts()]
+
+    def run(self, program, folder, inputs):
+        path = os.path.join(folder, 'script')
+        write(path, inputs[0])
+        ended = program.run(['script'], folder, path)
+        os.remove(path)
+        if ended.status != 0 or ended.errors:
+            raise Fault('status %d' % ended.status, ended.told())
+        for line in ended.lines():
+            check_step_line(line)
+        return [shapes_of(ended.lines()[:2000], of_pairs=True)]
