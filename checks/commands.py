@@ -1,98 +1,442 @@
 #!/usr/bin/env python3
-"""The list of commands in the manual, packaging/music_daemon.1, made from the tables of `mpd_command`.
+"""The lists of commands, made from the table commands.txt.
 
-    checks/commands.py              says whether the manual has the list as the tables make it
-    checks/commands.py --write      writes it there
+    checks/commands.py              says which list is not as the table makes it, and which row of a command is missing
+    checks/commands.py --write      writes the lists
 
-A command's form is what stands in backquotes at the front of its variant's doc, in the file of its group. Each name of the table
-`COMMANDS` has a variant, and no other. The names that are `ADDED` there, and more forms of a base command, are those of the everyday
-profile. The exit status is 1 where something differs.
+It writes
+- in `mpd_command`: the rows of each group's definitions, and what they import; the docs of the variants and the arms of their `drop`; the
+  names in byte order and where each letter begins (src/name.rt), which of them the everyday profile adds, and which tables are unfolded;
+- the rows of the base profile and of its proof (`command_laws`), and which subsystem tells of which answer (`notice_laws`);
+- the sessions of `worked_rows` that list the names; the manual's list; what the manual, README and docs/DIFFERENCES.md say is missing.
+
+Regions are found by their own text, so that a source has no mark of this script. One that differs only in its line breaks stays as it is.
+What a command does is written by hand, and so is what is proved of it: of these lists (`BY_HAND`) the script says which row is missing, and
+of the skeleton that checks/new_command writes, where it is still to be filled in.
+The exit status is 1 where something differs.
 """
+import glob
 import os
 import re
+import subprocess
 import sys
 
-TOP = os.path.dirname(os.path.dirname(os.path.abspath(__file__)))
-SOURCES = 'crates/mpd_command/src/%s.rt'
-# what the manual says of each group, and the files of its commands
-GROUPS = [
-    ('the library', ['database']),
-    ('the queue', ['queue']),
-    ('playback', ['playback']),
-    ('the player', ['status', 'options']),
-    ('stored playlists', ['playlists']),
-    ('stickers, which are texts that clients keep with a song or a stored playlist, such as a rating', ['sticker']),
-    ('messages between clients', ['messages']),
-    ('the outputs', ['outputs']),
-    ('partitions', ['partitions']),
-    ('the connection', ['connection']),
+sys.dont_write_bytecode = True
+
+from command_table import TABLE, TOP, Table, read, table
+
+NAME, NAMES, KNOWN = ('crates/mpd_command/' + it for it in ('src/name.rt', 'specs/Names.antt', 'proofs/Known.antt'))
+BASE, BASE_ROWS = 'crates/command_laws/specs/Base.antt', 'crates/command_laws/proofs/BaseRows.antt'
+TELLERS = 'crates/notice_laws/specs/Tellers.antt'
+EFFECTS = 'crates/player_state/src/effect.rt'
+ROWS = 'crates/worked_rows/data/%s.row'
+MANUAL, README, DIFFERENCES = 'packaging/music_daemon.1', 'README.md', 'docs/DIFFERENCES.md'
+EDITS = 'checks/edits/mpd_command/*.edit'
+NAME_COLUMNS, SPEC_COLUMNS, CODE_COLUMNS = 106, 130, 110
+# the words of rows, by the module that has them; those of Tables and Forms are read there
+MODULES = {
+    'mpd_text.specs.Answers.Number': {'number_of'}, 'mpd_text.specs.Answers.Range': {'range_of'}, 'mpd_text.specs.Answers.Millis': {'millis_of'},
+    'filters.specs.declared.expression.Test.TheVariants': {'Equals', 'Contains'},
+}
+# the lists of commands that a proof or a handler needs by hand: the group, which of its commands (all, or those that are told of), the file
+# and the definition
+BY_HAND = [
+    ('queue', 'all', 'crates/queue_laws/proofs/Edits.antt', 'all-good'),
+    ('options', 'all', 'crates/queue_laws/proofs/Options.antt', 'set-is-shown'),
+    ('outputs', 'all', 'crates/queue_laws/proofs/Outputs.antt', 'all-good'),
+    ('stickers', 'all', TELLERS, 'sticker_tellers'),
+    ('queue', 'told', 'crates/notice_laws/proofs/Queue.antt', 'same_queue_answer'),
+    ('queue', 'told', 'crates/notice_laws/proofs/Queue.antt', 'tells_playlist'),
+    ('status', 'told', 'crates/notice_laws/proofs/Queue.antt', 'status_is_told'),
+    ('options', 'told', 'crates/notice_laws/proofs/Clients.antt', 'options_are_told'),
+    ('outputs', 'told', 'crates/notice_laws/proofs/Clients.antt', 'outputs_are_told'),
+    ('messages', 'told', 'crates/notice_laws/proofs/Clients.antt', 'channels_are_told'),
+    ('partitions', 'told', 'crates/notice_laws/proofs/Clients.antt', 'partitions_are_told'),
+    ('database', 'told', 'crates/notice_laws/proofs/Library.antt', 'same_database'),
+    ('database', 'told', 'crates/notice_laws/proofs/Library.antt', 'tells_database'),
+    ('playlists', 'told', 'crates/notice_laws/proofs/Library.antt', 'playlists_are_told'),
 ]
-# the forms that the everyday profile adds to a command of the base
-ADDED = re.compile(r'tagtypes .')
-# what the manual says beside a form
-NOTES = {'kill': 'where the settings allow it; a script may not'}
-
-MANUAL = 'packaging/music_daemon.1'
-LIST = re.compile(r'^\.\\" The list of checks/commands\.py\n.*?^\.\\" Its end\n', re.M | re.S)
 
 
-def read(path):
-    with open(os.path.join(TOP, path), encoding='utf-8') as file:
-        return file.read()
+class Lost(Exception):
+    """A region that is not found."""
 
 
-def forms_of(group):
-    """The forms of a group's commands, in the order of their variants."""
-    enum = re.search(r'^pub enum \w+Command \{\n(.*?)^\}', read(SOURCES % group), re.M | re.S).group(1)
-    return re.findall(r'(?:\A|,\n)    /// `([^`]+)`', enum)
+# ---- regions of a text
+
+def words_of(text):
+    return text.replace('///', ' ').split()
 
 
-def names_in_table():
-    """The names of the table of `src/name.rt`, and those of them that the everyday profile adds."""
-    table, = re.findall(r'^const COMMANDS: [^\n]* \{\n(.*?)^\};', read(SOURCES % 'name'), re.M | re.S)
-    rows = re.findall(r'"(\w+)": (BASE|ADDED)', table)
-    return [name for name, _ in rows], [name for name, profile in rows if profile == 'ADDED']
+def put(text, pattern, new):
+    """The text with what the one group of a pattern finds written anew, where its words are others."""
+    found = list(re.finditer(pattern, text, re.M | re.S))
+    if len(found) != 1:
+        raise Lost('%s regions like %s' % (len(found) or 'no', pattern))
+    start, end = found[0].span(1)
+    return text if words_of(text[start:end]) == words_of(new) else text[:start] + new + text[end:]
 
 
-def shown(forms):
+def filled(items, columns, lead='    '):
+    """Items in lines that are as long as they may be."""
+    lines = [lead + items[0]]
+    for item in items[1:]:
+        if len(lines[-1]) + 1 + len(item) > columns:
+            lines.append(lead + item)
+        else:
+            lines[-1] += ' ' + item
+    return '\n'.join(lines)
+
+
+# ---- the names
+
+def unfolded(groups):
+    """The definitions of all tables, as attributes name them, by the names of their files."""
+    return ['crate::specs::%s::%s' % (group.spec, name) for group in by_spec(groups) for name in group.row_names()]
+
+
+def by_spec(groups):
+    return sorted(groups, key=lambda group: group.spec)
+
+
+def starts_of(made):
+    """How many names come before each letter, and before the character after `z`."""
+    return [sum(name < chr(code) for name in made.names()) for code in range(ord('a'), ord('z') + 2)]
+
+
+def written_edit(text, made):
+    """The wrong body by which the names of `d` begin one late."""
+    a, b, c, d, e, *_ = starts_of(made)
+    text = put(text, r'^old: ([^\n]*)\n', '%d, %d, %d, %d, %d,' % (a, b, c, d, e))
+    return put(text, r'^new: ([^\n]*)\n', '%d, %d, %d, %d, %d,' % (a, b, c, d + 1, e))
+
+
+def written_names(text, made):
+    """src/name.rt: the names, where each letter begins, and what is unfolded."""
+    commands = ['"%s": %s,' % (it.name, 'ADDED' if it.is_everyday else 'BASE') for it in made.named()]
+    starts = ['%d,' % start for start in starts_of(made)]
+    text = put(text, r'^const COMMANDS: [^\n]* \{\n(.*?)\n\};', filled(commands, NAME_COLUMNS))
+    text = put(text, r'^const STARTS: [^\n]*&\[\n(.*?)\n\];', filled(starts, CODE_COLUMNS))
+    for function in ('names', 'added', 'starts'):
+        first = ['crate::specs::Names::starts'] if function == 'starts' else []
+        words = ', '.join([*first, 'crate::specs::Names::all_names', *unfolded(made.groups)]) + ','
+        text = put(text, r'^#\[tactic\(auto, unfolding\(([^()\n]*)\)\)\]\n(?:pub )?fn %s\(' % function, words)
+    return text
+
+
+def written_everyday(text, made):
+    """specs/Names.antt: the names that the everyday profile adds."""
+    codes = ['codes "%s"' % name for name in made.everyday_names()]
+    return put(text, r'^everyday_names =\n(.*?)\n\n', filled([codes[0], *('∷ ' + it for it in codes[1:]), '∷ []'], SPEC_COLUMNS))
+
+
+def with_rows_used(text, groups):
+    """A proof that names the definitions of the tables of these groups."""
+    for group in groups:
+        names = ', '.join(['rows as %s_rows' % group.key, *group.row_names()[1:]])
+        text = put(text, r'^use Rattle\.mpd_command\.specs\.%s\.\{([^}\n]*)\}' % group.spec, names)
+    return text
+
+
+def unfolded_here(groups):
+    """The definitions of the tables of these groups, as a proof names them."""
+    return [word for group in by_spec(groups) for word in ['%s_rows' % group.key, *group.row_names()[1:]]]
+
+
+def written_known(text, made):
+    """proofs/Known.antt: the tables that it computes with."""
+    text = with_rows_used(text, made.groups)
+    words = ['all_names', *unfolded_here(made.groups)]
+    for proof, more in (('all-stand', ['starts']), ('starts-fit', ['starts']), ('added-named', [])):
+        text = put(text, r'^%s : [^\n]*\nunfolding ([^\n]*)\n' % proof, ' '.join(words + more))
+    return text
+
+
+# ---- the groups
+
+def defined_in(path):
+    return set(re.findall(r'^(?:abbrev |unfoldable )?pub (\w+) :', read(path), re.M))
+
+
+def imported(text, module, words):
+    """A file that imports these words of a module of definitions too."""
+    used = re.search(r'^((?:ghost )?use Rattle\.%s\.)\{([^}\n]*)\}' % re.escape(module), text, re.M)
+    has = [word.strip() for word in used.group(2).split(',')] if used else []
+    lacks = [word for word in dict.fromkeys(words) if word not in has]
+    if used and lacks:
+        return text[:used.end() - 1] + ''.join(', ' + word for word in lacks) + text[used.end() - 1:]
+    if lacks:
+        return re.sub(r'^use Rattle\.mpd_command', 'use Rattle.%s.{%s}\n\\g<0>' % (module, ', '.join(lacks)), text, count=1, flags=re.M)
+    return text
+
+
+def with_imports(text, words):
+    """A file of definitions that imports these words of rows too."""
+    modules = dict(MODULES)
+    modules['mpd_command.specs.Tables'] = defined_in('crates/mpd_command/specs/Tables.antt')
+    modules['command_arguments.specs.Forms'] = defined_in('crates/command_arguments/specs/Forms.antt')
+    own = set(re.findall(r'^(?:abbrev |unfoldable )?pub (\w+) :', text, re.M))
+    for module, known in modules.items():
+        text = imported(text, module, [word for word in words if word in known - own])
+    return text
+
+
+def written_rows(group):
+    def written(text, _made):
+        """specs/GROUP.antt: the rows of its tables, and what they import."""
+        names = group.row_names()
+        for at, rows in enumerate(group.rows):
+            behind = (names[at + 1] + (' set' if group.takes_set(at + 1) else '')) if at + 1 < len(names) else '[]'
+            lines = ['(codes "%s", %s)' % (command.name, command.row) for command in rows] + [behind]
+            pattern = r'^%s%s =\s(.*?)(?=\n\n|\s*\Z)' % (names[at], ' set' if group.takes_set(at) else '')
+            text = put(text, pattern, '    ' + '\n    ∷ '.join(lines))
+        return with_imports(text, re.findall(r'\w+', ' '.join(command.row for command in group.commands)))
+    return written
+
+
+def enum_in(text, name=r'\w+Command'):
+    """The name of an enum, and its variants with what each has."""
+    enum = re.search(r'^pub enum (%s) \{\n(.*?)^\}' % name, text, re.M | re.S)
+    return enum.group(1), re.findall(r'^    ([A-Z]\w*)(?:\((.*)\))?,$', enum.group(2), re.M)
+
+
+def arity(types):
+    """How many values a variant has: its types, without those inside of a type."""
+    while re.search(r'<[^<>]*>', types):
+        types = re.sub(r'<[^<>]*>', '', types)
+    return len([it for it in types.split(',') if it.strip()])
+
+
+def with_drop(text, name):
+    """A source whose enum has a `drop` that is written out."""
+    if 'impl Drop for %s {' % name not in text:
+        return text
+    values = [('%s::%s' % (name, variant), arity(types)) for variant, types in enum_in(text, name)[1]]
+    arms = ['%s(%s)' % (variant, ', '.join('_' * count)) if count else variant for variant, count in values]
+    return put(text, r'impl Drop for %s \{\n    fn drop\(self\) \{\n        match self \{\n +(.*?) => \{\}' % name, '\n            | '.join(arms))
+
+
+def written_source(group):
+    def written(text, _made):
+        """src/GROUP.rt: the docs of its variants, and the arms of its `drop`."""
+        for command in group.commands:
+            doc = filled(('/// ' + command.doc).split(' '), CODE_COLUMNS).replace('\n    ', '\n    /// ')
+            text = put(text, r'^((?: +///[^\n]*\n)+)(?= +%s(?:\(|,))' % command.variant, doc + '\n')
+        return with_drop(text, enum_in(text)[0])
+    return written
+
+
+def in_order(group):
+    """A group's commands in the order of their variants."""
+    order = [variant for variant, _ in enum_in(read(group.source))[1]]
+    return sorted(group.commands, key=lambda it: order.index(it.variant) if it.variant in order else len(order))
+
+
+# ---- the laws
+
+def predicate_of(group, text):
+    """The definition in Base.antt that says which commands of a group are the base profile's; none where all are."""
+    found = re.search(r'^abbrev pub (IsBase\w+) : %s → Type 0' % enum_in(read(group.source))[0], text, re.M)
+    return found and found.group(1)
+
+
+def written_base(text, made):
+    """command_laws/specs/Base.antt: which commands the base profile has, and with which values."""
+    for group in made.groups:
+        name = predicate_of(group, text)
+        if name:
+            values = [(it.pattern(group.key), it.keys.get('base', '⊥' if it.is_everyday else 'Unit {0}')) for it in in_order(group)]
+            text = put(text, r'^%s : [^\n]*\n((?:%s [^\n]*\n)+)' % ('abbrev pub ' + name, name), ''.join('%s %s = %s\n' % (name, *it) for it in values))
+    return text
+
+
+def proof_of(command, predicate):
+    """Why what a row reads in the base profile is the base profile's."""
+    if 'law' in command.keys:
+        return command.keys['law']
+    if command.is_everyday:
+        return 'none-there there'
+    if command.row.startswith('none '):
+        return 'alone %s _ words %s' % (predicate, 'refl' if 'base' in command.keys else 'tt')
+    return 'search mapped'
+
+
+def written_base_rows(text, made):
+    """command_laws/proofs/BaseRows.antt: a line for each row."""
+    base = read(BASE)
+    groups = [group for group in made.groups if predicate_of(group, base)]
+    text = with_rows_used(text, groups)
+    for group in groups:
+        commands = [command for rows in group.rows for command in rows]
+        lines = ['(λ words there. %s)  -- %s' % (proof_of(it, predicate_of(group, base)), it.name) for it in commands]
+        text = put(text, r'^%s : [^\n]*\nunfolding ([^\n]*)\n' % group.key, ' '.join(unfolded_here([group])))
+        text = put(text, r'^%s kill =\n(.*?⊙ tt)\n' % group.key, '    ' + '\n    ⊙ '.join(lines) + '\n    ⊙ tt')
+    return text
+
+
+def told_of(command):
+    """Which subsystems tell that its answer has changed."""
+    told = command.keys.get('told', '').split()
+    if not told:
+        return 'None'
+    return 'Some []' if told == ['nothing'] else 'Some (%s)' % ' ∷ '.join(told + ['[]'])
+
+
+def written_tellers(text, made):
+    """notice_laws/specs/Tellers.antt: first the commands that ask, then the others."""
+    for group in made.groups:
+        found = re.search(r'^abbrev pub (\w+_tellers) : %s →' % enum_in(read(group.source))[0], text, re.M)
+        if found and group.key != 'stickers':
+            commands = sorted(in_order(group), key=lambda it: told_of(it) == 'None')
+            lines = ''.join('%s %s = %s\n' % (found.group(1), it.pattern(group.key), told_of(it)) for it in commands)
+            text = put(text, r'^abbrev pub %s : [^\n]*\n((?:%s [^\n]*\n)+)' % (found.group(1), found.group(1)), lines)
+    subsystems = [word for group in made.groups for command in group.commands for word in command.keys.get('told', '').split() if word != 'nothing']
+    return imported(text, 'idle_notes.specs.declared.subsystem.Subsystem.TheVariants', subsystems)
+
+
+# ---- sessions and documents
+
+def written_session(names):
+    def written(text, made):
+        """A session of `worked_rows`: what `commands` answers, without `kill`, which a script may not run."""
+        found = [name for name in names(made) if name != 'kill']
+        text = re.sub(r'there are \d+ names', 'there are %d names' % len(found), text)
+        return put(text, r'^> 1 commands\n(?:< 1 OK MPD [^\n]*\n)?((?:< 1 command: \w+\n)+)', ''.join('< 1 command: %s\n' % it for it in found))
+    return written
+
+
+def base_names(made):
+    return [command.name for command in made.named() if not command.is_everyday]
+
+
+def shown(commands):
     """Forms as the manual's source has them."""
-    return ', '.join('\\fB%s\\fR%s' % (form.replace('-', '\\-'), ' (%s)' % NOTES[form] if form in NOTES else '') for form in forms)
+    notes = [' (%s)' % it.keys['note'] if 'note' in it.keys else '' for it in commands]
+    return ', '.join('\\fB%s\\fR%s' % (it.form.replace('-', '\\-'), note) for it, note in zip(commands, notes))
 
 
-def list_of():
-    """The manual's list, and the names of the commands in it."""
-    _, everyday = names_in_table()
-    lines, names, added = [], [], []
-    for title, files in GROUPS:
-        forms = [form for file in files for form in forms_of(file)]
-        names += dict.fromkeys(form.split()[0] for form in forms)
-        more = [form for form in forms if form.split()[0] in everyday or ADDED.match(form)]
-        added += more
-        lines.append('.IP \\(bu 2\n%s: %s' % (title, shown(form for form in forms if form not in more)))
-    base = '.\\" The list of checks/commands.py\nThe %d commands:\n%s.\n' % (len(names) - len(everyday), ';\n'.join(lines))
-    return base + '.PP\nWith\n.B everyday = true\nalso: %s.\n.\\" Its end\n' % shown(added), names
+def written_manual(text, made):
+    """The manual: the commands and their forms, and what is missing."""
+    parts, added = [], []
+    for group in made.groups:
+        if group.title:
+            parts.append((group.title, []))
+        parts[-1][1].extend(it for it in group.commands if not it.is_everyday)
+        added += [it for it in group.commands if it.is_everyday]
+    lines = ['.IP \\(bu 2\n%s: %s' % (title, shown(commands)) for title, commands in parts]
+    made_list = 'The %d commands:\n%s.\n.PP\nWith\n.B everyday = true\nalso: %s.\n' % (len(base_names(made)), ';\n'.join(lines), shown(added))
+    text = put(text, r'^\.\\" The list of checks/commands\.py\n(.*?)^\.\\" Its end\n', made_list)
+    return put(text, r'replay gain other than off;\n\.BR ([^\n]*) \.\n', ' ", " '.join(most_missed(made)))
+
+
+def most_missed(made):
+    return [name for name, is_missed in made.missing if is_missed]
+
+
+def written_readme(text, made):
+    return put(text, r'Even with it, ([^\n]*?) and the tags', ', '.join('`%s`' % name for name in most_missed(made)))
+
+
+def written_differences(text, made):
+    return put(text, r'^- \*\*Some commands are missing\*\*: ([^\n]*?)\.$', ', '.join('`%s`' % name for name, _ in made.missing))
+
+
+def lists(made):
+    """Each file that has a list, and the function that writes it."""
+    for group in made.groups:
+        yield group.definitions, written_rows(group)
+        yield group.source, written_source(group)
+    yield from ((NAME, written_names), (NAMES, written_everyday), (KNOWN, written_known), (EFFECTS, lambda text, _: with_drop(text, 'CommandEffect')))
+    yield from ((BASE, written_base), (BASE_ROWS, written_base_rows), (TELLERS, written_tellers))
+    yield 'checks/edits/mpd_command/starts-of-d-one-late.edit', written_edit
+    yield ROWS % 'everyday-commands', written_session(Table.names)
+    yield ROWS % 'commands-seventy-eight', written_session(base_names)
+    yield from ((MANUAL, written_manual), (README, written_readme), (DIFFERENCES, written_differences))
+
+
+# ---- what is written by hand
+
+def has_row(text, definition, variant):
+    renamed = re.search(r'Command\.TheVariants\.\{[^}]*\b%s as (\w+)' % variant, text)
+    variant = renamed.group(1) if renamed else variant
+    return re.search(r'^ *%s [^\n]*\b%s\b' % (re.escape(definition), variant), text, re.M)
+
+
+def wrong_by_hand(group):
+    """The rows of a group that are missing where they are written by hand."""
+    source, (enum, variants) = read(group.source), enum_in(read(group.source))
+    has, listed = {variant for variant, _ in variants}, {it.variant for it in group.commands}
+    yield from ('%s: %s has no variant %s' % (group.source, enum, it) for it in sorted(listed - has))
+    yield from ('%s: the variant %s is not in %s' % (group.source, it, TABLE) for it in sorted(has - listed))
+    names = [command.name for rows in group.rows for command in rows]
+    yield from ('%s: `read` has no row of %s' % (group.source, name) for name in names if '        "%s" => ' % name not in source)
+    places = [('all', 'crates/%s/specs/%s.antt' % (group.doing, group.spec), 'planned' if group.key == 'partitions' else 'result_of')]
+    places += [place[1:] for place in BY_HAND if place[0] == group.key]
+    for which, path, definition in places:
+        text = read(path)
+        asked = [it for it in group.commands if which == 'all' or told_of(it) != 'None']
+        yield from ('%s: `%s` has no row of %s' % (path, definition, it.variant) for it in asked if not has_row(text, definition, it.variant))
+
+
+def stale_edits():
+    """The edits of `mpd_command` whose text is no longer in its file, as where a list has grown."""
+    for path in sorted(glob.glob(os.path.join(TOP, EDITS))):
+        edit = read(path)
+        file, old = (re.search(r'(?m)^%s:(?: (.*)|$)' % key, edit) for key in ('file', 'old'))
+        if file and old and old.group(1) and old.group(1).strip() not in read('crates/mpd_command/' + file.group(1)):
+            yield '%s: its text is no longer in %s' % (os.path.relpath(path, TOP), file.group(1))
+
+
+def to_be_filled_in():
+    """Where the skeleton of a command says so still."""
+    for part in ('src/*.rt', 'specs/*.antt', 'proofs/*.antt', 'data/*.row'):
+        for path in sorted(glob.glob(os.path.join(TOP, 'crates', '*', part))):
+            yield from ('%s:%d: TODO' % (os.path.relpath(path, TOP), number) for number, line in enumerate(read(path).split('\n'), 1) if re.search(r'\bTODO\b', line))
+
+
+def differing(made):
+    """Each file with its text as the table makes it, where that differs; or why it has no such list."""
+    texts = {}
+    for path, written in lists(made):
+        texts.setdefault(path, read(path))
+        try:
+            texts[path] = written(texts[path], made)
+        except Lost as fault:
+            raise Lost('%s: %s' % (path, fault)) from None
+    return {path: text for path, text in texts.items() if text != read(path)}
 
 
 def faults():
-    """What differs between the variants, the table of names and the manual's list."""
-    made, names = list_of()
-    known, _ = names_in_table()
-    wrong = ['%s has no variant with its form' % name for name in known if name not in names]
-    wrong += ['%s is no command' % name for name in names if name not in known]
-    found = LIST.search(read(MANUAL))
-    if not found or found.group() != made:
-        wrong.append('%s does not list the commands so: checks/commands.py --write' % MANUAL)
-    return wrong
+    """What differs from the table, and what is missing."""
+    made = table()
+    wrong = made.wrong()
+    try:
+        wrong += ['%s does not list the commands of %s: checks/commands.py --write' % (path, TABLE) for path in differing(made)]
+    except Lost as fault:
+        wrong.append(str(fault))
+    for group in made.groups:
+        wrong += wrong_by_hand(group)
+    return wrong + list(stale_edits()) + list(to_be_filled_in())
+
+
+def write():
+    changed = differing(table())
+    for path, text in changed.items():
+        with open(os.path.join(TOP, path), 'w', encoding='utf-8') as file:
+            file.write(text)
+        print('wrote ' + path)
+    if any(path.startswith('crates/worked_rows/') for path in changed):
+        subprocess.run([os.path.join(TOP, 'checks', 'rows_total')], check=True)
 
 
 def main():
     if '--write' in sys.argv[1:]:
-        manual = read(MANUAL)
-        found = LIST.search(manual)
-        with open(os.path.join(TOP, MANUAL), 'w', encoding='utf-8') as file:
-            file.write(manual[:found.start()] + list_of()[0] + manual[found.end():])
+        try:
+            write()
+        except Lost as fault:
+            sys.exit(str(fault))
     wrong = faults()
-    print('\n'.join(wrong) or 'the manual lists the %d commands' % len(names_in_table()[0]))
+    print('\n'.join(wrong) or 'all lists are as %s makes them, of %d commands' % (TABLE, len(table().names())))
     return bool(wrong)
 
 

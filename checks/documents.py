@@ -7,7 +7,7 @@ It fails where
 - a word in backquotes stands nowhere in the code, the checks or the packaging (comments do not count), or in a crate's README neither in
   this crate nor in one that it stands on;
 - a call `Type::name` is named and no file has both the type and the name; a path is none of the repository;
-- a library of crates.txt has no README, or the manual's list of commands is not the one that the tables make;
+- a library of crates.txt has no README, or a list of commands is not as `checks/commands.py` makes it from commands.txt;
 - a drawing of docs/MAP.md is not as `checks/map.py` draws it, or the manual or CHANGELOG.md is not of the code's version (`checks/release.py`);
 - README's first screen, all before its first heading, has more than 25 lines of 100 columns.
 
@@ -31,7 +31,7 @@ PARTS = ('src', 'specs', 'proofs')
 BESIDE = ('checks', 'packaging', 'examples')
 BUILT = {'out', '__pycache__', '.git'}
 OTHERS = {
-    'MPD': {'connection_timeout', 'mixramp', 'listfiles'},
+    'MPD': {'connection_timeout'},
     'the toolchain': {'lemma', 'plant', 'dac8208d650f15bf', 'verdict', 'tidy'},
     'packages of Debian': {'alsa', 'sudo', 'xvfb'},
 }
@@ -84,7 +84,7 @@ def words_beside():
             found.update(WORD.findall(os.path.relpath(path, TOP)))
             if not path.endswith('.md') and path != os.path.abspath(__file__):
                 found.update(WORD.findall(read(path)))
-    for name in ('crates.txt', 'HANDLES', 'look', 'music_daemon', '.ci/run'):
+    for name in ('commands.txt', 'crates.txt', 'HANDLES', 'look', 'music_daemon', '.ci/run'):
         found.update(WORD.findall(name + ' ' + read(os.path.join(TOP, name))))
     for path in files_in('crates'):
         if '/data/' in path:

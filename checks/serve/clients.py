@@ -21,15 +21,15 @@ import time
 
 sys.dont_write_bytecode = True
 
+sys.path.append(os.path.dirname(os.path.dirname(os.path.abspath(__file__))))
+
+from command_table import table
 from daemon import Daemon, Pacer, Table, program_of, wave
 
-# What the daemon leaves out (README, "The settings that matter"): a client that sends such a request is refused there.
-LEFT_OUT = ('addtagid', 'albumart', 'binarylimit', 'clearmounts', 'cleartagid', 'config', 'decoders', 'getfingerprint', 'list album',
-            'listallinfo', 'listfiles', 'listmounts', 'listneighbors', 'mixrampdb', 'outputset', 'password', 'playlistfind',
-            'playlistsearch', 'rangeid', 'readcomments', 'readpicture', 'replay_gain_status', 'searchaddpl', 'stats', 'tagtypes ', 'urlhandlers', 'volume')
-# .. of which these are there with `everyday = true`
-EVERYDAY = ('albumart', 'decoders', 'list album', 'listallinfo', 'listmounts', 'playlistfind', 'playlistsearch', 'readcomments', 'readpicture',
-            'replay_gain_status', 'searchaddpl', 'stats', 'tagtypes ', 'urlhandlers', 'volume')
+# What the daemon leaves out, by the table of commands: a client that sends such a request is refused there.
+MISSING = {name for name, _ in table().missing} | {'clearmounts'}
+# .. and what is there with `everyday = true` alone: commands, and forms of other commands
+EVERYDAY, EVERYDAY_FORMS = set(table().everyday_names()), ('list album', 'tagtypes ')
 is_everyday = '--everyday' in sys.argv[1:]
 
 
@@ -93,7 +93,9 @@ class Proxy(threading.Thread):
 
 
 def is_left_out(request):
-    return request.replace('"', '').startswith(tuple(name for name in LEFT_OUT if not (is_everyday and name in EVERYDAY)))
+    request = request.replace('"', '')
+    name = request.split(' ')[0]
+    return name in MISSING or not is_everyday and (name in EVERYDAY or request.startswith(EVERYDAY_FORMS))
 
 
 def named_in(output):
