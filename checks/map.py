@@ -27,14 +27,14 @@ LINE = [
     (1, 'mpd_session', 'Session::turn', 'bytes are read, and unsent bytes written'),
     (2, 'mpd_text', 'Splitter::feed', 'bytes become lines'),
     (2, 'mpd_answers', 'Gatherer::take', 'a single line, or a whole command list'),
-    (2, 'mpd_answers', 'ask', ''),
+    (2, 'mpd_answers', 'ask', 'asks the player, and makes the answer'),
     (3, 'mpd_command', 'Request::of_line', 'a typed command, or the first refusal'),
-    (3, 'house', 'House::command', 'or `list`'),
+    (3, 'house', 'House::command', 'or `House::list`, for a command list'),
     '---- the lock is taken',
     (4, 'held_player', 'Held::command', 'a waiting notice goes in front of the reply'),
     (5, 'counted_player', 'Counted::apply', 'the event is counted for its seat'),
-    (6, 'partition', 'Partition::apply', 'a full window is folded; the store is asked'),
-    (7, 'queue_commands', 'run', 'or another group: what to do; nothing changes yet'),
+    (6, 'partition', 'Partition::apply', 'a full history window is folded; the playlist store is asked'),
+    (7, 'queue_commands', 'run', 'or another group: decides what to do; nothing changes yet'),
     (7, 'transitions', 'Transition::carry_out', 'the partition and the library change'),
     (7, 'idle_clients', 'notify_all', 'changes become pending, waiting clients are told'),
     '---- the lock is free',
@@ -49,25 +49,25 @@ FRAME = [
     (1, 'output_ring', 'Feeder::take', 'into the ring of each of these outputs'),
     '---- the ring: no lock, no waiting',
     (0, 'crew_steps', 'Draining::run', "an output's thread"),
-    (1, 'output_ring', 'Drainer::pop', 'into its hand, a batch'),
-    (1, 'house', 'House::turn', 'lock: reports fates; learns cut, enabled, paused'),
+    (1, 'output_ring', 'Drainer::pop', 'a batch of frames into its hand'),
+    (1, 'house', 'House::turn', 'lock: reports fates; learns the cut, and whether enabled, paused'),
     (1, 'output_ring', 'Drainer::write_out', 'each frame of the hand is written or discarded'),
     '---- the end',
     (0, 'crew', 'close', 'all threads are joined'),
     (1, 'house', 'House::settle_all', 'lock'),
-    (2, 'frame_ledger', 'settle', 'compares ring and books, and names a difference'),
+    (2, 'frame_ledger', 'settle', 'compares the ring with the frame counts, names a difference'),
 ]
 
-# What the lock holds: depth, crate, struct and its fields with what they are; None for what no contract speaks of.
+# What the lock holds: depth, crate, struct and its fields with what they are; None for a field that is only named.
 HELD = [
     (0, 'house', 'House', {'held': 'the lock', 'state_changed': None, 'notices_wait': None, 'scan_runs': None}),
     (1, 'held_player', 'Held', {
-        'core': 'the player with its notices, below', 'books': 'frames decoded, written, discarded',
-        'free': 'seats that nobody has', 'closed': 'all shares, once outputs are settled', 'alloc': None}),
+        'core': 'the player with its notices, below', 'books': 'how many frames were decoded, written, discarded',
+        'free': 'seats that nobody has', 'closed': "all threads' shares of these books, once the outputs are settled", 'alloc': None}),
     (2, 'held_player', 'Core', {'counted': 'the player, below', 'waiting': 'notices that are not delivered yet', 'changes': None}),
     (3, 'counted_player', 'Counted', {'partition': 'below', 'seats': 'how many events each counted seat made'}),
     (4, 'partition', 'Partition', {
-        'base': 'the state that the window begins at', 'history': 'the window of events', 'state': 'the present one, below',
+        'base': 'the state before the first event of the window', 'history': 'the window of events', 'state': 'the present state, below',
         'limit': 'how many events the window may have', 'bytes': None, 'alloc': None}),
     (5, 'partition', 'State', {
         'parts': 'each partition, below', 'openings': 'what a new partition starts with', 'library': 'the songs, and the scan', 'made': 'how many events each seat made', 'books': 'frames of each output',
@@ -311,7 +311,7 @@ def draw_held():
         lines += ['%s   %-11s %s' % ('   ' * depth, field, what) for field, what in told]
         beside = [field for field, what in fields.items() if not what]
         if beside:
-            lines.append('%s   beside them %s' % ('   ' * depth, ', '.join(beside)))
+            lines.append('%s   %-11s %s' % ('   ' * depth, 'others', ', '.join(beside)))
     return lines
 
 
