@@ -1,16 +1,21 @@
 -- What contracts see of a player whose events are counted.
-use Rattle.std.specs.Prelude.{ℕ, ◌≡◌, ◌<◌, Bool, true, false, List, [], ◌∷◌, Option, Some, None, is_some, ◌==◌, if◌then◌else◌, slice_index_or, length, Result, Ok, Err}
+use Rattle.std.specs.Prelude.{ℕ, ◌≡◌, ◌<◌, ◌==◌, Bool, true, false, List, [], ◌∷◌, Option, Some, None, Result, Ok, Err}
+use Rattle.std.specs.Prelude.{is_some, length, slice_index_or, if◌then◌else◌}
+use Rattle.std.specs.Global.{Vec}
 use Rattle.std.specs.List.{list_any}
+use Rattle.command_lists.specs.declared.word.ListForm.{ListForm}
+use Rattle.mpd_command.specs.declared.request.Request.{Request}
 use Rattle.mpd_text.specs.Songs.Song.{SongData}
 use Rattle.shelf.specs.Calls.{Call}
 use Rattle.shelf.specs.Maps.{Standing}
+use Rattle.shelf.specs.declared.traits.Shelf.{Ghosts}
 use Rattle.player_events.specs.declared.event.Event.{Event}
 use Rattle.transitions.specs.declared.shelf_calls.StoreReply.{StoreReply}
 use Rattle.player_events.specs.Outcomes.{OutcomeData}
-use Rattle.partition.specs.History.{Chronicle}
+use Rattle.partition.specs.History.{Chronicle, joined_by}
 use Rattle.partition.specs.Image.{Image, no_events}
 use Rattle.partition.specs.Legal.{IsPast}
-use Rattle.partition.specs.Lent.{question, writing}
+use Rattle.partition.specs.Lent.{RecordsOnce, Refuses, question, writing}
 use Rattle.parts.specs.Parts.{part_at}
 use Rattle.player_core.specs.declared.state.Playback.{Playback}
 use Rattle.player_core.specs.declared.state.Playback.TheVariants.{Play}
@@ -20,14 +25,21 @@ use Rattle.player_state.specs.declared.state.Part.{Part}
 use Rattle.transitions.specs.Shelves.{Serves}
 use Rattle.player_events.specs.Events.{with_store_reply}
 use Rattle.partition.specs.Step.{told}
+use Rattle.partition.specs.Steps.{entry}
 use Rattle.counted_player.specs.Seats.{SeatCount}
 use Rattle.song_queue.specs.State.{queue_of}
 use Rattle.song_queue.specs.declared.entry.Entry.{Entry}
-use Rattle.partition.specs.Lists.{Stop}
+use Rattle.partition.specs.Lists.{RunsList, Stop, StopsList}
+use Rattle.partition.specs.declared.partition.PartitionFault.{PartitionFault}
 
 -- how many events a seat made
 abbrev pub own_in : ℕ → Image → ℕ
 own_in seat i = slice_index_or i.shared.made seat 0
+
+-- A seat's count is the number of its events. Those of the house's own threads are not counted in their
+-- seats.
+abbrev pub IsCounted : SeatCount → Chronicle → Type 0
+IsCounted seat player = seat.number < 4 → own_in seat.number player.present ≡ seat.made
 
 -- the counts of the four seats of callers
 abbrev pub owns : List ℕ → List ℕ
@@ -59,6 +71,11 @@ is_playing _ = false
 abbrev pub any_plays : List Part → Bool
 any_plays parts = list_any (λ (p : Part). is_playing p.player.playback) parts
 
+-- of two values the first where a song is being played after some past, and the second where none is
+abbrev pub IsByPlaying : {T : Type 0} → T → T → T → Type 0
+IsByPlaying playing idle value =
+    (past : Chronicle) × IsPast past × (value ≡ (if any_plays past.present.parts then playing else idle))
+
 -- whether a scan was asked for that has not ended
 abbrev pub has_scan : Image → Bool
 has_scan i = is_some (running i.shared.library.scan)
@@ -89,6 +106,10 @@ done_in (Err stop) = stop.done
 abbrev pub MayFind : SeatCount → Chronicle → Type 0
 MayFind seat past = IsPast past × (seat.number < 4 → own_in seat.number past.present ≡ seat.made)
 
+-- an event of a seat that asks no shelf, and was told so, joined the history
+abbrev pub JoinsStep : Chronicle → Chronicle → SeatCount → Event → OutcomeData → Type 0
+JoinsStep before after seat event outcome = after ≡ joined_by before (entry seat.number event outcome)
+
 module _ {S : Type 0} (standing : S → Standing) (failed : S → S → Call → Type 0) where
   -- What the player of one thread answers to the event after some past that the caller may find, by what the
   -- lent shelf answered, which answered and changed as that past and the event say.
@@ -97,3 +118,30 @@ module _ {S : Type 0} (standing : S → Standing) (failed : S → S → Call →
       (past : Chronicle) × MayFind seat past
       × ((heard : StoreReply) × (outcome.answer ≡ (told past.present (with_store_reply event heard)).answer)
       × Serves standing failed old new (question past.present event) (writing past.present event heard) heard)
+
+-- the same with the lent shelf
+module _ {S : Type 0} (shelf : Ghosts S) where
+  -- an event of a seat joined the history, which is folded first where it is full; the lent shelf answered and
+  -- changed as the event says
+  abbrev pub JoinsEvent : Chronicle → Chronicle → S → S → SeatCount → Event → OutcomeData → Type 0
+  JoinsEvent before after old new seat event outcome =
+      RecordsOnce shelf.standing shelf.failed before after old new seat.number event outcome
+
+  -- what an event leaves that was refused
+  abbrev pub Fails : Chronicle → Chronicle → S → S → SeatCount → Event → PartitionFault → Type 0
+  Fails before after old new seat event fault =
+      Refuses shelf.standing shelf.failed before after old new seat.number event fault
+
+  -- what the player of one thread answers to the event after some past that the caller may find
+  abbrev pub AnswersEvent : S → S → SeatCount → Event → OutcomeData → Type 0
+  AnswersEvent old new seat event outcome = AnswersSomewhere shelf.standing shelf.failed old new seat event outcome
+
+  -- the requests of a client's list joined the history one after the other, each as an event of the seat
+  abbrev pub JoinsList : Chronicle → Chronicle → S → S → SeatCount → ℕ → ListForm → Vec Request → List OutcomeData → Type 0
+  JoinsList before after old new seat client form requests tolds =
+      RunsList shelf.standing shelf.failed before after old new seat.number client form requests.items tolds
+
+  -- those before the one that was refused did, and this is what that leaves
+  abbrev pub RefusesInList : Chronicle → Chronicle → S → S → SeatCount → ℕ → ListForm → Vec Request → Stop → Type 0
+  RefusesInList before after old new seat client form requests stop =
+      StopsList shelf.standing shelf.failed before after old new seat.number client form requests.items stop

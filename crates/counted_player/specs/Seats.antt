@@ -1,5 +1,5 @@
 -- What a contract sees of a seat.
-use Rattle.std.specs.Prelude.{ℕ, ◌≡◌, ◌+◌, ◌<◌, nat_lt, if◌then◌else◌}
+use Rattle.std.specs.Prelude.{ℕ, ◌≡◌, ◌+◌, ◌<◌, List, [], ◌∷◌, ◌++◌, nat_lt, if◌then◌else◌}
 use Rattle.counted_player.specs.declared.mark.Mark.{Mark}
 use Rattle.counted_player.specs.declared.mark.Mark.TheVariants.{First, Second, Third, Fourth, Crew}
 
@@ -10,6 +10,14 @@ pub record SeatCount : Type 0 where
 
 abbrev pub place : ℕ → ℕ → SeatCount
 place number made = record { number = number; made = made }
+
+-- a seat of a caller, with which no event was made yet
+abbrev pub IsUnused : SeatCount → Type 0
+IsUnused p = (p.number < 4) × (p.made ≡ 0)
+
+-- behind these seats those of the four callers, of which none made an event yet
+abbrev pub with_four_seats : List SeatCount → List SeatCount
+with_four_seats seats = (((seats ++ place 0 0 ∷ []) ++ place 1 0 ∷ []) ++ place 2 0 ∷ []) ++ place 3 0 ∷ []
 
 -- a seat after so many events more; those of the house's own threads are not counted in their seats
 abbrev pub after_events : SeatCount → ℕ → SeatCount

@@ -46,15 +46,16 @@ impl<L: Ledgers> Model for Counted<L> {
 }
 
 impl<L: Ledgers> Counted<L> {
-    ghost use Rattle.std.specs.Prelude.{◌≡◌, ◌+◌, ◌<◌, ◌↔◌, [], ◌∷◌, ◌++◌, None, true, false, IfErr, IfOk, OnErr, OnOk};
-    ghost use Rattle.partition.specs.History.{joined_by, with_room};
+    ghost use Rattle.std.specs.Prelude.{◌≡◌, [], ◌∷◌, None, false};
+    ghost use Rattle.std.specs.Prelude.{IfErr, IfOk, OnErr, OnOk};
+    ghost use Rattle.partition.specs.History.{with_room};
     ghost use Rattle.partition.specs.Legal.{IsPast};
-    ghost use Rattle.partition.specs.Lent.{Refuses, RecordsOnce};
-    ghost use Rattle.partition.specs.Lists.{RunsList, StopsList};
     ghost use Rattle.partition.specs.Step.{limit_of, told as told_of};
-    ghost use Rattle.partition.specs.Steps.{RefusesStep, entry};
+    ghost use Rattle.partition.specs.Steps.{RefusesStep};
     ghost use Rattle.player_events.specs.Events.{is_line};
-    ghost use Rattle.counted_player.specs.Counts.{any_plays, done_in, AnswersSomewhere, ArePlaces, IsFresh, has_scan, own_in, song_at};
+    ghost use Rattle.counted_player.specs.Counts.{any_plays, done_in, has_scan, song_at};
+    ghost use Rattle.counted_player.specs.Counts.{AnswersEvent, ArePlaces, Fails, IsCounted, IsFresh};
+    ghost use Rattle.counted_player.specs.Counts.{JoinsEvent, JoinsList, JoinsStep, RefusesInList};
     ghost use Rattle.counted_player.specs.Seats.{after_events};
 
     /// A player of which no seat made an event yet.
@@ -68,7 +69,7 @@ impl<L: Ledgers> Counted<L> {
 
     /// The caller's count is the number of its seat's events, and the value is a past's. Nothing changes.
     pub fn check(&mut self, seat: &mut Seat<L>)
-        ensures found { seat.old.number < 4 → own_in seat.old.number self.old.present ≡ seat.old.made }
+        ensures found { IsCounted seat.old self.old }
         ensures legal { IsPast self.old }
         ensures same { (self.new ≡ self.old) × (seat.new ≡ seat.old) }
     {
@@ -85,15 +86,15 @@ impl<L: Ledgers> Counted<L> {
         event: Event,
     ) -> Result<Outcome, PartitionFault>
         // The caller's count is the number of its seat's events, and the value that was found is a past's.
-        ensures found { seat.old.number < 4 → own_in seat.old.number self.old.present ≡ seat.old.made }
+        ensures found { IsCounted seat.old self.old }
         ensures legal { IsPast self.old }
         ensures base { OnOk result (self.new.base ≡ (with_room self.old).base) }
         ensures limit { self.new.limit ≡ self.old.limit }
-        ensures ok { IfOk result (RecordsOnce S.standing S.failed self.old self.new shelf.old shelf.new seat.old.number event) }
+        ensures ok { IfOk result (JoinsEvent S.Shelf self.old self.new shelf.old shelf.new seat.old event) }
         ensures made { OnOk result (seat.new ≡ after_events seat.old 1) }
         ensures seat { OnErr result (seat.new ≡ seat.old) }
-        ensures refused { IfErr result (Refuses S.standing S.failed self.old self.new shelf.old shelf.new seat.old.number event) }
-        ensures somewhere { IfOk result (AnswersSomewhere S.standing S.failed shelf.old shelf.new seat.old event) }
+        ensures refused { IfErr result (Fails S.Shelf self.old self.new shelf.old shelf.new seat.old event) }
+        ensures somewhere { IfOk result (AnswersEvent S.Shelf shelf.old shelf.new seat.old event) }
     {
         let Counted { partition, seats } = self;
         let _past = partition.history();
@@ -106,10 +107,10 @@ impl<L: Ledgers> Counted<L> {
     /// One event of a seat that is no line. It asks no shelf.
     pub fn step(&mut self, seat: &mut Seat<L>, event: Event) -> Result<Outcome, PartitionFault>
         requires step { is_line event ≡ false }
-        ensures found { seat.old.number < 4 → own_in seat.old.number self.old.present ≡ seat.old.made }
+        ensures found { IsCounted seat.old self.old }
         ensures legal { IsPast self.old }
         ensures told { IfOk result (λ outcome. outcome ≡ told_of self.old.present event) }
-        ensures player { IfOk result (λ outcome. self.new ≡ joined_by self.old (entry seat.old.number event outcome)) }
+        ensures player { IfOk result (JoinsStep self.old self.new seat.old event) }
         ensures within { OnOk result (limit_of seat.old.number self.old.present event ≡ None) }
         ensures made { OnOk result (seat.new ≡ after_events seat.old 1) }
         ensures seat { OnErr result (seat.new ≡ seat.old) }
@@ -132,10 +133,12 @@ impl<L: Ledgers> Counted<L> {
         form: ListForm,
         requests: Vec<Request>,
     ) -> Result<ListOutcome, ListFault>
-        ensures found { seat.old.number < 4 → own_in seat.old.number self.old.present ≡ seat.old.made }
+        ensures found { IsCounted seat.old self.old }
         ensures legal { IsPast self.old }
-        ensures ok { IfOk result (λ tolds. RunsList S.standing S.failed self.old self.new shelf.old shelf.new seat.old.number client form requests.items tolds) }
-        ensures err { IfErr result (λ stop. StopsList S.standing S.failed self.old self.new shelf.old shelf.new seat.old.number client form requests.items stop) }
+        ensures ok { IfOk result
+            (JoinsList S.Shelf self.old self.new shelf.old shelf.new seat.old client form requests) }
+        ensures err { IfErr result
+            (RefusesInList S.Shelf self.old self.new shelf.old shelf.new seat.old client form requests) }
         ensures books { self.new.present.shared.books ≡ self.old.present.shared.books }
         ensures made { seat.new ≡ after_events seat.old (done_in result) }
     {
@@ -180,8 +183,10 @@ impl<L: Ledgers> Counted<L> {
 
     /// Whether a song is being played in some partition.
     pub fn plays(&self) -> bool
-        ensures { result ≡ any_plays self.now.present.parts }
+        ensures plays { result ≡ any_plays self.now.present.parts }
+        ensures legal { IsPast self.now }
     {
+        let _past = self.partition.history();
         self.partition.parts().iter().any(|part| is_playing(part))
     }
 

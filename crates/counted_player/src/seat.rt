@@ -1,7 +1,8 @@
 //! Seats, and the books that count their events.
-ghost use Rattle.std.specs.Prelude.{◌≡◌, ◌+◌, ◌-◌, ◌<◌, ◌≤◌, ◌^◌, [], ◌∷◌, ◌++◌, slice_index, slice_set, vec_len, vec_capacity};
+ghost use Rattle.std.specs.Prelude.{◌≡◌, ◌+◌, ◌<◌, ◌≤◌, ◌^◌, [], ◌∷◌};
+ghost use Rattle.std.specs.Prelude.{slice_index, slice_set, vec_len, vec_capacity};
 ghost use Rattle.counted_player.specs.Ledgers.{IsAt};
-ghost use Rattle.counted_player.specs.Seats.{after_events, place};
+ghost use Rattle.counted_player.specs.Seats.{after_events, place, with_four_seats};
 
 use crate::ledgers::{First, Fourth, Ledgers, Second, Third};
 use crate::mark::Mark;
@@ -111,7 +112,7 @@ impl<L: Ledgers> SeatBooks<L> {
         requires fourth { IsAt L.names 3 fourth }
         requires room { vec_len free.old + 4 ≤ vec_capacity free.old }
         ensures books { result ≡ 0 ∷ 0 ∷ 0 ∷ 0 ∷ [] }
-        ensures free { free.new.items ≡ (((free.old.items ++ place 0 0 ∷ []) ++ place 1 0 ∷ []) ++ place 2 0 ∷ []) ++ place 3 0 ∷ [] }
+        ensures free { free.new.items ≡ with_four_seats free.old.items }
     {
         let (first, share) = first.open::<First<L>>();
         free.push_reserved(Seat {

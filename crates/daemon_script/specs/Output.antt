@@ -1,6 +1,7 @@
 -- What a whole run writes (this profile's script).
-use Rattle.std.specs.Prelude.{◌≡◌, ℕ, ◌+◌, ◌-◌, ◌^◌, min, List, [], ◌∷◌, ◌++◌, map, codes, Option, Some, None, option_map}
+use Rattle.std.specs.Prelude.{◌≡◌, ◌⊎◌, ℕ, ◌+◌, ◌-◌, ◌^◌, min, List, [], ◌∷◌, ◌++◌, map, codes, Option, Some, None, option_map}
 use Rattle.std.specs.Io.KnownBytes.{Appends, Consumes}
+use Rattle.counted_devices.specs.CallCounts.{HasFailed}
 use Rattle.counted_devices.specs.declared.call_counts.CallCounts.{CallCounts}
 use Rattle.mpd_text.specs.Lines.Cut.{split}
 use Rattle.mpd_text.specs.Lines.Split.{line_of}
@@ -60,6 +61,10 @@ WritesFront kind unread left old new =
 -- the device was called 2 ^ 32 times since, by a count that stays at its greatest value
 abbrev pub CalledTooOften : CallCounts → CallCounts → Type 0
 CalledTooOften old new = new.calls ≡ min (old.calls + 2 ^ 32) (2 ^ 64 - 1)
+
+-- the device failed since, or was called 2 ^ 32 times
+abbrev pub FailedOrTooOften : CallCounts → CallCounts → Type 0
+FailedOrTooOften old new = HasFailed old new ⊎ CalledTooOften old new
 
 -- what commands read of a player's trace, beside the same shelf
 abbrev pub seen_beside : Shelved Traced → Shelved Image

@@ -5,7 +5,7 @@ use Rattle.std.specs.Global.{Vec}
 use Rattle.command_lists.specs.declared.list.CommandList.{CommandList}
 use Rattle.daemon_script.specs.Kinds.{Shelved, images}
 use Rattle.daemon_script.specs.Pieces.{found_in}
-use Rattle.daemon_script.specs.Script.{LineRun, ScriptData, Shown, alone_run, asked_run, client_run, commands_run, connect_run, ending_of, found_first, found_then, line_run, lines_for, list_of, notices_by_number, notices_to, once_read, refusal, shown_client, too_large_run, with_list}
+use Rattle.daemon_script.specs.Script.{LineRun, ScriptData, Shown, alone_run, asked_run, client_run, commands_run, connect_run, ending_of, event_line, found_first, found_then, line_run, lines_for, list_of, notices_by_number, notices_to, once_read, refusal, scan_result, shown_client, shown_of, shows_window, too_large_run, with_list}
 use Rattle.idle_clients.specs.declared.notices.Notice.{Notice}
 use Rattle.partition.specs.Lists.{Stop, answers_of, stop_text}
 use Rattle.player_events.specs.Outcomes.{OutcomeData}
@@ -56,9 +56,29 @@ run_line set player list number line memory = line_run images set player list nu
 abbrev pub run_list : CommandSet → Shelved Image → ℕ → CommandList → Memory → LineRun (Shelved Image)
 run_list set player number commands memory = commands_run images set player number commands memory
 
+-- a line of a script
+abbrev pub run_shown : ScriptData (Shelved Image) → Option (List ℕ) → Memory → Shown (Shelved Image)
+run_shown script line memory = shown_of images script line memory
+
+-- the step that ends the scan
+abbrev pub run_scanned : ScriptData (Shelved Image) → Memory → Shown (Shelved Image)
+run_scanned script memory = event_line images script (scan_result script) memory
+
+-- the step that shows what the history holds
+abbrev pub run_window : ScriptData (Shelved Image) → Shown (Shelved Image)
+run_window script = shows_window images script script.player
+
+-- a client's line in a script that has no player yet
+abbrev pub run_first : ScriptData (Shelved Image) → ℕ → List ℕ → Memory → Shown (Shelved Image)
+run_first script number line memory = shown_client images script None number line memory
+
 -- a client's line in a script
 abbrev pub run_client : ScriptData (Shelved Image) → ℕ → List ℕ → Memory → Shown (Shelved Image)
 run_client script number line memory = shown_client images script script.player number line memory
+
+-- the line of a client that is there, in no list
+abbrev pub run_alone : CommandSet → Shelved Image → ℕ → List ℕ → Memory → LineRun (Shelved Image)
+run_alone set player number line memory = alone_run images set player number line memory
 
 -- a client's line, by what the code says of its run
 abbrev pub run_of : CommandSet → Shelved Image → Option CommandList → ℕ → List ℕ → code_run.LineRun → LineRun (Shelved Image)

@@ -1,9 +1,11 @@
 //! Client lines, and the lines that they print.
-ghost use Rattle.daemon_script.specs.Printing.{IsFoundByRefused, LeavesList, LeavesPlayer, PrintsRun, WasConnected, asking, closing_list, connecting, run_line, run_of};
+ghost use Rattle.daemon_script.specs.Printing.{IsFoundByRefused, LeavesList, LeavesPlayer, PrintsRun};
+ghost use Rattle.daemon_script.specs.Printing.{WasConnected, asking, closing_list, connecting, run_line};
+ghost use Rattle.daemon_script.specs.Printing.{run_alone, run_of};
 ghost use Rattle.std.specs.Prelude.{◌≡◌, ◌++◌, None, Some, is_none, false, IfOk, OnOk};
-ghost use Rattle.daemon_script.specs.Kinds.{images};
 ghost use Rattle.daemon_script.specs.Pieces.{found_by, found_in};
-ghost use Rattle.daemon_script.specs.Script.{Enough, alone_run, fault_for, found_first, found_then, label, client_run, lines_for, notice_lines, notices_for, reply_for, told_for};
+ghost use Rattle.daemon_script.specs.Script.{Enough, fault_for, found_first, found_then, label, client_run};
+ghost use Rattle.daemon_script.specs.Script.{lines_for, notice_lines, notices_for, reply_for, told_for};
 
 use crate::lists::run_commands;
 use crate::memory::Memory;
@@ -37,7 +39,8 @@ pub(crate) fn run_line(
 ) -> Result<LineRun, AllocError>
     ensures player { IfOk result (LeavesPlayer (run_of set player.old list.old number line.now) player.new) }
     ensures list { IfOk result (LeavesList (run_of set player.old list.old number line.now) list.new) }
-    ensures text { IfOk result (PrintsRun (run_of set player.old list.old number line.now) shown.old shown.new) }
+    ensures text { IfOk result (PrintsRun (run_of set player.old list.old number line.now)
+        shown.old shown.new) }
     ensures connected { IfOk result (WasConnected (run_of set player.old list.old number line.now)) }
     // Where its client's connect is refused, an open list stays.
     ensures kept { IfOk result (λ ran. ran.connected ≡ false → list.new ≡ list.old) }
@@ -67,7 +70,8 @@ fn connect(
 ) -> Result<Option<Memory>, AllocError>
     ensures player { IfOk result (LeavesPlayer (connecting player.old number) player.new) }
     ensures text { IfOk result (PrintsRun (connecting player.old number) shown.old shown.new) }
-    ensures connected { IfOk result (λ refused. is_none refused ≡ (connecting player.old number refused).connected) }
+    ensures connected { IfOk result (λ refused. is_none refused
+        ≡ (connecting player.old number refused).connected) }
 {
     match player.apply(Event::Connect(number)) {
         Ok(greeting) => {
@@ -102,9 +106,11 @@ fn run_connected_line(
     line: &str,
     shown: &mut Vec<u8>,
 ) -> Result<Memory, AllocError>
-    ensures player { IfOk result (LeavesPlayer (run_line set player.old list.old number line.now) player.new) }
+    ensures player { IfOk result (LeavesPlayer (run_line set player.old list.old number line.now)
+        player.new) }
     ensures list { IfOk result (LeavesList (run_line set player.old list.old number line.now) list.new) }
-    ensures text { IfOk result (PrintsRun (run_line set player.old list.old number line.now) shown.old shown.new) }
+    ensures text { IfOk result (PrintsRun (run_line set player.old list.old number line.now)
+        shown.old shown.new) }
     ensures connects { IfOk result (λ memory. found_first memory ≡ Enough) }
 {
     if list.is_too_large_with(Some(line)) {
@@ -171,8 +177,8 @@ fn run_line_alone(
     line: &str,
     shown: &mut Vec<u8>,
 ) -> Result<Memory, AllocError>
-    ensures player { IfOk result (LeavesPlayer (alone_run images set player.old number line.now) player.new) }
-    ensures text { IfOk result (PrintsRun (alone_run images set player.old number line.now) shown.old shown.new) }
+    ensures player { IfOk result (LeavesPlayer (run_alone set player.old number line.now) player.new) }
+    ensures text { IfOk result (PrintsRun (run_alone set player.old number line.now) shown.old shown.new) }
     ensures connects { IfOk result (λ memory. found_first memory ≡ Enough) }
 {
     let Ok(request) = Request::of_line(alloc, line, set) else {

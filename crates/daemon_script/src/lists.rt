@@ -1,9 +1,12 @@
 //! Command lists that have ended, and the lines that they print.
-ghost use Rattle.daemon_script.specs.Printing.{LeavesPlayer, Prints, PrintsRun, list_lines, notices_in_turn, run_list, stopped_lines, whole_answer_of};
-ghost use Rattle.std.specs.Prelude.{◌≡◌, ℕ, ◌++◌, ◌∷◌, [], map, string_bytes, IfOk, OnErr, OnOk};
+ghost use Rattle.daemon_script.specs.Printing.{LeavesPlayer, Prints, PrintsRun, list_lines, notices_in_turn};
+ghost use Rattle.daemon_script.specs.Printing.{run_list, stopped_lines, whole_answer_of};
+ghost use Rattle.std.specs.Prelude.{◌≡◌, ℕ, ◌++◌, ◌∷◌, [], map, string_bytes, IfOk, OnErr};
+ghost use Rattle.std.specs.Prelude.{OnOk};
 ghost use Rattle.std.specs.List.{flat_map};
 ghost use Rattle.daemon_script.specs.Pieces.{stopped_at as stopped_at_lem};
-ghost use Rattle.daemon_script.specs.Script.{end_of as end_of_lem, notices_by_number, notices_to, Enough, found_at, found_first, read_of, request_in as request_in_lem};
+ghost use Rattle.daemon_script.specs.Script.{end_of as end_of_lem, notices_by_number, notices_to, Enough};
+ghost use Rattle.daemon_script.specs.Script.{found_at, found_first, read_of, request_in as request_in_lem};
 
 use crate::client_lines::{push_lines, push_notice};
 use crate::memory::Memory;
@@ -82,7 +85,8 @@ fn push_request(
     requests: &mut Vec<Request>,
     line: &ListLine,
 ) -> Result<(), AllocError>
-    ensures ok { OnOk result (requests.new.items ≡ requests.old.items ++ request_in_lem set line.now ∷ []) }
+    ensures ok { OnOk result (requests.new.items
+        ≡ requests.old.items ++ request_in_lem set line.now ∷ []) }
     ensures err { OnErr result (requests.new.items ≡ requests.old.items) }
 {
     let request = request_in(alloc, set, line)?;

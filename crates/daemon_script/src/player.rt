@@ -48,7 +48,12 @@ impl Model for Player {
 
     ghost coded = { Prim.hlevel (codes, finite.code) };
 
-    ghost view = { λ p. record { player = p.partition.present; shelf = contents_of p.shelf; window = length p.partition.window; most = p.partition.limit } };
+    ghost view = { λ p. record {
+      player = p.partition.present;
+      shelf = contents_of p.shelf;
+      window = length p.partition.window;
+      most = p.partition.limit;
+    } };
 }
 
 impl Player {
@@ -85,7 +90,8 @@ impl Player {
         ensures player { OnOk result (self.new ≡ images.after self.old event) }
         ensures left { IfErr result (λ fault. self.new ≡ images.left self.old fault) }
         ensures within { OnOk result (refusal images self.old event Enough ≡ None) }
-        ensures refused { IfErr result (λ fault. refusal images self.old event (found_by fault) ≡ Some fault) }
+        ensures refused { IfErr result (λ fault.
+            refusal images self.old event (found_by fault) ≡ Some fault) }
     {
         self.partition.apply(SEAT, &mut self.shelf, event)
     }

@@ -1,11 +1,13 @@
 //! Whole runs of a script.
-ghost use Rattle.std.specs.Prelude.{◌≡◌, ◌⊎◌, ◌≤◌, ◌+◌, ◌^◌, OnOk, OnErr, IfErr, IfSome, IsErrOf, IsSome, Some, []};
+ghost use Rattle.std.specs.Prelude.{◌≡◌, ◌≤◌, ◌+◌, ◌^◌, OnOk, OnErr, IfErr, IfSome};
+ghost use Rattle.std.specs.Prelude.{IsErrOf, IsSome, Some, []};
 ghost use Rattle.std.specs.Io.KnownBytes.{Appends};
 ghost use Rattle.mpd_text.specs.Lines.Cut.{split_from};
 ghost use Rattle.counted_devices.specs.CallCounts.{HasFailed, NoFewer};
 ghost use Rattle.mpd_text.specs.Lines.Split.{views};
 ghost use Rattle.daemon_script.specs.Kinds.{images, traces};
-ghost use Rattle.daemon_script.specs.Output.{WritesOutput, WritesAll, WritesFront, AppendsFront, CalledTooOften};
+ghost use Rattle.daemon_script.specs.Output.{WritesOutput, WritesAll, WritesFront, AppendsFront};
+ghost use Rattle.daemon_script.specs.Output.{FailedOrTooOften};
 ghost use Rattle.daemon_script.specs.Pieces.{ShowsLines, ShowsPiece};
 ghost use Rattle.daemon_script.specs.Script.{opening_script};
 
@@ -56,14 +58,19 @@ pub fn run_script<R: Source, W: Sink>(
     writer: &mut W,
 ) -> Result<(), ScriptFault>
     // What is written is the output for the input, by what its lines found of memory.
-    ensures ok { OnOk result (IfSome (R.remaining reader.old) (WritesOutput traces (W.contents writer.old) (W.contents writer.new))) }
+    ensures ok { OnOk result (IfSome (R.remaining reader.old)
+        (WritesOutput traces (W.contents writer.old) (W.contents writer.new))) }
     // After a read fault it is the whole output for what was read, and else a front of it.
-    ensures read { IsErrOf result ScriptFault.ReadFault → WritesAll traces (R.remaining reader.old) (R.remaining reader.new) (W.contents writer.old) (W.contents writer.new) }
-    ensures front { OnErr result (WritesFront traces (R.remaining reader.old) (R.remaining reader.new) (W.contents writer.old) (W.contents writer.new)) }
+    ensures read { IsErrOf result ScriptFault.ReadFault → WritesAll traces
+        (R.remaining reader.old) (R.remaining reader.new) (W.contents writer.old) (W.contents writer.new) }
+    ensures front { OnErr result (WritesFront traces
+        (R.remaining reader.old) (R.remaining reader.new) (W.contents writer.old) (W.contents writer.new)) }
     // A fault of a device comes only where it failed, or was read 2 ^ 32 times.
-    ensures read_fault { IsErrOf result ScriptFault.ReadFault → HasFailed (R.call_counts reader.old) (R.call_counts reader.new) ⊎ CalledTooOften (R.call_counts reader.old) (R.call_counts reader.new) }
+    ensures read_fault { IsErrOf result ScriptFault.ReadFault
+        → FailedOrTooOften (R.call_counts reader.old) (R.call_counts reader.new) }
     ensures few_calls { (R.call_counts reader.new).calls ≤ (R.call_counts reader.old).calls + 2 ^ 32 }
-    ensures write_fault { IsErrOf result ScriptFault.WriteFault → HasFailed (W.call_counts writer.old) (W.call_counts writer.new) }
+    ensures write_fault { IsErrOf result ScriptFault.WriteFault
+        → HasFailed (W.call_counts writer.old) (W.call_counts writer.new) }
 {
     runs_are_traced();
     let mut splitter = Splitter::new(alloc);
@@ -81,12 +88,17 @@ fn run_pieces<R: Source, W: Sink>(
 ) -> Result<(), ScriptFault>
     requires splitter { splitter.old ≡ Some [] }
     requires script { script.old ≡ opening_script }
-    ensures ok { OnOk result (IfSome (R.remaining reader.old) (WritesOutput images (W.contents writer.old) (W.contents writer.new))) }
-    ensures read { IsErrOf result ScriptFault.ReadFault → WritesAll images (R.remaining reader.old) (R.remaining reader.new) (W.contents writer.old) (W.contents writer.new) }
-    ensures front { OnErr result (WritesFront images (R.remaining reader.old) (R.remaining reader.new) (W.contents writer.old) (W.contents writer.new)) }
-    ensures read_fault { IsErrOf result ScriptFault.ReadFault → HasFailed (R.call_counts reader.old) (R.call_counts reader.new) ⊎ CalledTooOften (R.call_counts reader.old) (R.call_counts reader.new) }
+    ensures ok { OnOk result (IfSome (R.remaining reader.old)
+        (WritesOutput images (W.contents writer.old) (W.contents writer.new))) }
+    ensures read { IsErrOf result ScriptFault.ReadFault → WritesAll images
+        (R.remaining reader.old) (R.remaining reader.new) (W.contents writer.old) (W.contents writer.new) }
+    ensures front { OnErr result (WritesFront images
+        (R.remaining reader.old) (R.remaining reader.new) (W.contents writer.old) (W.contents writer.new)) }
+    ensures read_fault { IsErrOf result ScriptFault.ReadFault
+        → FailedOrTooOften (R.call_counts reader.old) (R.call_counts reader.new) }
     ensures few_calls { (R.call_counts reader.new).calls ≤ (R.call_counts reader.old).calls + 2 ^ 32 }
-    ensures write_fault { IsErrOf result ScriptFault.WriteFault → HasFailed (W.call_counts writer.old) (W.call_counts writer.new) }
+    ensures write_fault { IsErrOf result ScriptFault.WriteFault
+        → HasFailed (W.call_counts writer.old) (W.call_counts writer.new) }
 {
     any_cut();
     let mut shown = Vec::new(alloc);
@@ -117,7 +129,8 @@ fn show_piece(
     shown: &mut Vec<u8>,
 ) -> Result<(), ScriptFault>
     requires { IsSome splitter.old }
-    ensures shows { OnOk result (ShowsPiece splitter.old piece.now script.old script.new shown.old.items shown.new.items) }
+    ensures shows { OnOk result (ShowsPiece splitter.old piece.now
+        script.old script.new shown.old.items shown.new.items) }
     ensures next { OnOk result (splitter.new ≡ (split_from splitter.old piece.now).next) }
     ensures fault { IfErr result (λ fault. fault ≡ ScriptFault.NoMemory) }
 {
@@ -133,7 +146,8 @@ fn show_piece(
 
 /// Runs lines one after the other, and appends what they print.
 fn show_lines(script: &mut Script, lines: &[Line], shown: &mut Vec<u8>) -> Result<(), AllocError>
-    ensures { OnOk result (ShowsLines script.old script.new (views lines.now) shown.old.items shown.new.items) }
+    ensures { OnOk result (ShowsLines script.old script.new (views lines.now)
+        shown.old.items shown.new.items) }
 {
     for line in lines {
         script.show(line, shown)?;

@@ -1,12 +1,18 @@
 //! A script: what it collects, and its player.
-ghost use Rattle.daemon_script.specs.Printing.{IsRead, Leaves, LeavesLists, LeavesPlayer, Prints, PrintsBy, PrintsRun, WasConnected, run_client, run_in};
-ghost use Rattle.std.specs.Prelude.{◌≡◌, ◌<◌, ◌≤◌, ◌++◌, length, false, codes, None, Some, IfOk, OnOk, if◌then◌else◌};
+ghost use Rattle.daemon_script.specs.Printing.{IsRead, Leaves, LeavesLists, LeavesPlayer, Prints, PrintsBy};
+ghost use Rattle.daemon_script.specs.Printing.{PrintsRun, WasConnected, run_client, run_first, run_in};
+ghost use Rattle.daemon_script.specs.Printing.{run_scanned, run_shown, run_window};
+ghost use Rattle.std.specs.Prelude.{◌≡◌, ◌<◌, ◌≤◌, ◌++◌, length, false, codes, None};
+ghost use Rattle.std.specs.Prelude.{Some, IfOk, OnOk, if◌then◌else◌};
 ghost use Rattle.mpd_text.specs.Lines.Split.{view as view_of_line};
 ghost use Rattle.song_db.specs.Library.{in_byte_order, is_twice_named};
 ghost use Rattle.daemon_script.specs.Kinds.{Shelved, images, one_output as one_output_lem};
 ghost use Rattle.partition.specs.Image.{Image};
 ghost use Rattle.daemon_script.specs.Pieces.{found_by};
-ghost use Rattle.daemon_script.specs.Script.{no_lists as no_lists_lem, client_run, with_list, opening_script, shown_of, step_line, collect_line, gone_line, event_line, found_then, job_event as job_event_lem, named_line, scan_result, lowers, shown_client, shows_window, ScriptData, refusal_text, has_uri as has_uri_lem};
+ghost use Rattle.daemon_script.specs.Script.{no_lists as no_lists_lem, client_run, with_list, opening_script};
+ghost use Rattle.daemon_script.specs.Script.{step_line, collect_line, gone_line, event_line, found_then};
+ghost use Rattle.daemon_script.specs.Script.{job_event as job_event_lem, named_line, lowers, ScriptData};
+ghost use Rattle.daemon_script.specs.Script.{refusal_text, has_uri as has_uri_lem};
 
 use crate::client_lines::{LineRun, push_fault, push_notices, run_line};
 use crate::memory::Memory;
@@ -68,7 +74,13 @@ impl Model for Script {
 
     ghost coded = { Prim.hlevel (codes, finite.code) };
 
-    ghost view = { λ s. record { limits = s.limits; commands = s.commands; songs = s.songs.items; lists = s.lists; player = s.player } };
+    ghost view = { λ s. record {
+      limits = s.limits;
+      commands = s.commands;
+      songs = s.songs.items;
+      lists = s.lists;
+      player = s.player;
+    } };
 
     ghost invariant = { λ s. IsScript s.limits s.songs.items };
 }
@@ -97,8 +109,9 @@ impl Script {
     /// Runs a line, and appends what it prints. An `Err` says that there was no room to append.
     #[tactic(auto, unfolding(crate::specs::Script::shown_of))]
     pub(crate) fn show(&mut self, line: &Line, shown: &mut Vec<u8>) -> Result<Memory, AllocError>
-        ensures script { IfOk result (Leaves (shown_of images self.old (view_of_line line.now)) self.new) }
-        ensures text { IfOk result (PrintsBy (shown_of images self.old (view_of_line line.now)) shown.old shown.new) }
+        ensures script { IfOk result (Leaves (run_shown self.old (view_of_line line.now)) self.new) }
+        ensures text { IfOk result (PrintsBy (run_shown self.old (view_of_line line.now))
+            shown.old shown.new) }
     {
         let Line::Text(text) = line else {
             return push_bad(shown);
@@ -184,8 +197,8 @@ impl Script {
 
     /// The scan that runs ends, once the player is there, with all songs that were collected.
     fn end_scan(&mut self, shown: &mut Vec<u8>) -> Result<Memory, AllocError>
-        ensures script { IfOk result (Leaves (event_line images self.old (scan_result self.old)) self.new) }
-        ensures text { IfOk result (PrintsBy (event_line images self.old (scan_result self.old)) shown.old shown.new) }
+        ensures script { IfOk result (Leaves (run_scanned self.old) self.new) }
+        ensures text { IfOk result (PrintsBy (run_scanned self.old) shown.old shown.new) }
     {
         if self.player.is_none() {
             return push_bad(shown);
@@ -236,8 +249,8 @@ impl Script {
 
     /// Appends what the history holds, once the player is there.
     fn show_window(&self, shown: &mut Vec<u8>) -> Result<Memory, AllocError>
-        ensures script { (shows_window images self.now self.now.player).script ≡ self.now }
-        ensures text { OnOk result (Prints shown.old shown.new (shows_window images self.now self.now.player).text) }
+        ensures script { (run_window self.now).script ≡ self.now }
+        ensures text { OnOk result (Prints shown.old shown.new (run_window self.now).text) }
         ensures memory { IfOk result (λ memory. memory ≡ Memory.Ample) }
     {
         let Some(player) = &self.player else {
@@ -283,8 +296,8 @@ impl Script {
     ) -> Result<Memory, AllocError>
         requires client { number < 10 }
         requires first { self.old.player ≡ None }
-        ensures script { IfOk result (Leaves (shown_client images self.old None number line.now) self.new) }
-        ensures text { IfOk result (PrintsBy (shown_client images self.old None number line.now) shown.old shown.new) }
+        ensures script { IfOk result (Leaves (run_first self.old number line.now) self.new) }
+        ensures text { IfOk result (PrintsBy (run_first self.old number line.now) shown.old shown.new) }
     {
         let Ok(mut player) = self.opened() else {
             push_fault(self.alloc, shown, number, "", PartitionFault::NoMemory)?;
@@ -319,7 +332,8 @@ impl Script {
 
     /// A player over the songs so far.
     fn opened(&self) -> Result<Player, AllocError>
-        ensures { IfOk result (λ player. player ≡ images.opens self.now.limits (in_byte_order self.now.songs)) }
+        ensures { IfOk result (λ player. player
+            ≡ images.opens self.now.limits (in_byte_order self.now.songs)) }
     {
         let library = Library {
             songs: collected(self.alloc, &self.songs)?,
@@ -382,8 +396,10 @@ fn run_listed_line(
 ) -> Result<LineRun, AllocError>
     requires { number < 10 }
     ensures player { IfOk result (LeavesPlayer (run_in set player.old lists.old number line.now) player.new) }
-    ensures lists { IfOk result (LeavesLists (run_in set player.old lists.old number line.now) number lists.old lists.new) }
-    ensures text { IfOk result (PrintsRun (run_in set player.old lists.old number line.now) shown.old shown.new) }
+    ensures lists { IfOk result (LeavesLists (run_in set player.old lists.old number line.now)
+        number lists.old lists.new) }
+    ensures text { IfOk result (PrintsRun (run_in set player.old lists.old number line.now)
+        shown.old shown.new) }
     ensures connected { IfOk result (WasConnected (run_in set player.old lists.old number line.now)) }
     ensures kept { IfOk result (λ ran. ran.connected ≡ false → lists.new ≡ lists.old) }
 {

@@ -1,23 +1,19 @@
 -- The free seats and the books of a new house.
-use Rattle.std.proofs.Common.{◌≡◌, ℕ, zero, suc, ◌<◌, List, [], ◌∷◌, ◌++◌, refl, ap, sym, subst, ◌∙◌, arith}
+use Rattle.std.proofs.Common.{◌≡◌, ℕ, zero, suc, ◌<◌, List, [], ◌∷◌, refl, ap, sym, subst, ◌∙◌, arith}
 use Rattle.std.specs.Prelude.{All, slice_index_or}
-use Rattle.counted_player.specs.Seats.{SeatCount, place}
-
--- a seat of a caller that made no event
-abbrev pub IsFree : SeatCount → Type 0
-IsFree s = (s.number < 4) × (s.made ≡ 0)
+use Rattle.counted_player.specs.Seats.{IsUnused, SeatCount, place, with_four_seats}
 
 abbrev four : List SeatCount
 four = place 0 0 ∷ place 1 0 ∷ place 2 0 ∷ place 3 0 ∷ []
 
-free_at : (k : ℕ) (d : SeatCount) → k < 4 → IsFree (slice_index_or four k d)
+free_at : (k : ℕ) (d : SeatCount) → k < 4 → IsUnused (slice_index_or four k d)
 free_at zero d low = (omega arith, refl)
 free_at (suc zero) d low = (omega arith, refl)
 free_at (suc (suc zero)) d low = (omega arith, refl)
 free_at (suc (suc (suc zero))) d low = (omega arith, refl)
 free_at (suc (suc (suc (suc k)))) d low = absurd (omega (arith, low))
 
-pub free_seats : (items before : List SeatCount) → before ≡ [] → items ≡ (((before ++ place 0 0 ∷ []) ++ place 1 0 ∷ []) ++ place 2 0 ∷ []) ++ place 3 0 ∷ [] → All IsFree items
+pub free_seats : (items before : List SeatCount) → before ≡ [] → items ≡ with_four_seats before → All IsUnused items
 free_seats items before none are =
-    let is : items ≡ four = are ∙ ap (λ (l : List SeatCount). (((l ++ place 0 0 ∷ []) ++ place 1 0 ∷ []) ++ place 2 0 ∷ []) ++ place 3 0 ∷ []) none in
-    subst (All IsFree) (sym is) free_at
+    let is : items ≡ four = are ∙ ap with_four_seats none in
+    subst (All IsUnused) (sym is) free_at

@@ -1,5 +1,5 @@
 -- Command lists under one taking of the lock.
-use Rattle.std.specs.Prelude.{ℕ, ◌≡◌, ◌⊎◌, List, [], Option, map, slice_index_or}
+use Rattle.std.specs.Prelude.{ℕ, ◌≡◌, ◌⊎◌, List, [], ◌++◌, Option, map, slice_index_or}
 use Rattle.std.specs.Global.{Vec}
 use Rattle.std.specs.List.{flat_map}
 use Rattle.command_lists.specs.declared.word.ListForm.{ListForm}
@@ -7,6 +7,7 @@ use Rattle.mpd_command.specs.Requests.{name_in}
 use Rattle.mpd_command.specs.declared.request.Request.{Request}
 use Rattle.shelf.specs.Calls.{Call}
 use Rattle.shelf.specs.Maps.{Standing}
+use Rattle.shelf.specs.declared.traits.Shelf.{Ghosts}
 use Rattle.idle_clients.specs.declared.notices.Notice.{Notice}
 use Rattle.partition.specs.declared.partition.PartitionFault.TheVariants.{NoMemory}
 use Rattle.player_events.specs.Outcomes.{OutcomeData}
@@ -14,6 +15,8 @@ use Rattle.partition.specs.History.{Chronicle}
 use Rattle.partition.specs.Lists.{RunsList, Stop, StopsList}
 use Rattle.counted_player.specs.Counts.{MayFind}
 use Rattle.counted_player.specs.Seats.{SeatCount}
+use Rattle.held_player.specs.Views.{View}
+use Rattle.held_player.specs.Waiting.{waiting_after_all}
 
 -- what a command list is answered with: its client's waiting notice, and what each of its events told
 pub record HandedList : Type 0 where
@@ -54,3 +57,38 @@ module _ {S : Type 0} (standing : S → Standing) (failed : S → S → Call →
 
   abbrev pub StopsIn : S → S → SeatCount → ℕ → ListForm → Vec Request → Stop → Type 0
   StopsIn old new seat client form requests stop = StopsListSomewhere old new seat client form requests.items stop
+
+-- the notices that wait once a list of this client was answered: its first is handed out, and those that the
+-- commands made come after the others
+abbrev pub WaitAfterList : ℕ → List Notice → List Notice → HandedList → Type 0
+WaitAfterList client old new handed = new ≡ waiting_after_all client old handed.tolds
+
+-- the notices that wait once a list stopped: those of the commands before come after the others
+abbrev pub WaitAfterStop : List Notice → List Notice → Stop → Type 0
+WaitAfterStop old new stop = new ≡ old ++ notices_in stop.tolds
+
+-- the same with the lent shelf
+module _ {S : Type 0} (shelf : Ghosts S) where
+  -- what the player of one thread tells at all commands of a list, after some past that the caller may find
+  abbrev pub TellsAll : S → S → SeatCount → ℕ → ListForm → Vec Request → List OutcomeData → Type 0
+  TellsAll old new seat client form requests tolds =
+      TellsList shelf.standing shelf.failed old new seat client form requests tolds
+
+  -- the same of what a client is handed
+  abbrev pub HandsAll : S → S → SeatCount → ℕ → ListForm → Vec Request → HandedList → Type 0
+  HandsAll old new seat client form requests handed = TellsAll old new seat client form requests handed.tolds
+
+  -- what the player of one thread tells at the commands before one that is refused there
+  abbrev pub StopsAmid : S → S → SeatCount → ℕ → ListForm → Vec Request → Stop → Type 0
+  StopsAmid old new seat client form requests stop =
+      StopsIn shelf.standing shelf.failed old new seat client form requests stop
+
+  -- the commands of a client's list joined the history, and this is what it is handed
+  abbrev pub JoinsAll : View → View → S → S → SeatCount → ℕ → ListForm → Vec Request → HandedList → Type 0
+  JoinsAll before after old new seat client form requests handed =
+      RunsList shelf.standing shelf.failed before.player after.player old new seat.number client form requests.items handed.tolds
+
+  -- those before the one that was refused did, or the list stopped before it was begun
+  abbrev pub JoinsSome : View → View → S → S → SeatCount → ℕ → ListForm → Vec Request → Stop → Type 0
+  JoinsSome before after old new seat client form requests stop =
+      StopsHere shelf.standing shelf.failed before.player after.player old new seat.number client form requests.items stop

@@ -1,11 +1,12 @@
 -- What the house is told beside lines and frames.
-use Rattle.std.specs.Prelude.{ℕ, List, Option, Some, None}
+use Rattle.std.specs.Prelude.{ℕ, ◌≡◌, List, ◌++◌, Option, Some, None}
 use Rattle.held_player.specs.declared.news.News.{News}
 use Rattle.held_player.specs.declared.news.News.TheVariants as news
 use Rattle.held_player.specs.Waiting.{of_others}
 use Rattle.player_events.specs.declared.event.Event.{Event}
 use Rattle.player_events.specs.declared.event.Event.TheVariants.{Connect, Disconnect, ScanQuestion, ScanResult, Want, Failed}
 use Rattle.idle_clients.specs.declared.notices.Notice.{Notice}
+use Rattle.player_events.specs.Outcomes.{OutcomeData}
 
 -- the event that a piece of news is
 abbrev pub event_of : News → Event
@@ -28,3 +29,7 @@ kept_without (Some client) waiting = of_others client waiting
 
 abbrev pub kept_at : News → List Notice → List Notice
 kept_at piece waiting = kept_without (gone_at (event_of piece)) waiting
+
+-- the notices that wait once a piece of news was told so: those that are kept, and then those that it made
+abbrev pub WaitAfterNews : News → List Notice → List Notice → OutcomeData → Type 0
+WaitAfterNews piece old new told = new ≡ kept_at piece old ++ told.notices

@@ -1,5 +1,5 @@
 -- What one event leaves of the player, of its books of frames and of the notices that wait.
-use Rattle.std.specs.Prelude.{ℕ, ◌≡◌, ◌+◌, ◌<◌, ◌≤◌, ◌^◌, ◌++◌, List, length, sum, vec_len, vec_capacity}
+use Rattle.std.specs.Prelude.{ℕ, ◌≡◌, ◌+◌, ◌<◌, ◌≤◌, ◌^◌, ◌++◌, List, Result, IfErr, IfOk, length, sum, vec_len, vec_capacity}
 use Rattle.std.specs.Global.{Vec}
 use Rattle.command_lists.specs.declared.word.ListForm.{ListForm}
 use Rattle.shelf.specs.declared.traits.Shelf.{Ghosts}
@@ -57,15 +57,15 @@ module _ {L : Type 0} where
 
 -- the same with the lent shelf
 module _ {S : Type 0} (shelf : Ghosts S) {L : Type 0} where
-  -- a line of a client joined the history, which is folded first where it is full
-  abbrev pub JoinsLine : Core L → Core L → S → S → SeatCount → ℕ → Request → Handed → Type 0
-  JoinsLine before after old new seat client request handed =
-      RecordsOnce shelf.standing shelf.failed before.counted after.counted old new seat.number (line_of client request) handed.told
+  -- a line of a client that was answered joined the history, which is folded first where it is full
+  abbrev pub JoinsLine : Core L → Core L → S → S → SeatCount → ℕ → Request → Result Handed PartitionFault → Type 0
+  JoinsLine before after old new seat client request answer = IfOk answer
+      (λ handed. RecordsOnce shelf.standing shelf.failed before.counted after.counted old new seat.number (line_of client request) handed.told)
 
-  -- it was refused
-  abbrev pub StopsAt : Core L → Core L → S → S → SeatCount → ℕ → Request → PartitionFault → Type 0
-  StopsAt before after old new seat client request fault =
-      Stops shelf.standing shelf.failed before.counted after.counted old new seat.number (line_of client request) fault
+  -- what a line of a client leaves that was refused
+  abbrev pub StopsAt : Core L → Core L → S → S → SeatCount → ℕ → Request → Result Handed PartitionFault → Type 0
+  StopsAt before after old new seat client request answer = IfErr answer
+      (Stops shelf.standing shelf.failed before.counted after.counted old new seat.number (line_of client request))
 
   -- a command list ran
   abbrev pub RunsHere : Core L → Core L → S → S → SeatCount → ℕ → ListForm → Vec Request → List OutcomeData → Type 0

@@ -1,7 +1,10 @@
 -- What contracts see of what the lock holds, and what a caller learns who cannot see it.
-use Rattle.std.specs.Prelude.{ℕ, ◌≡◌, ◌⊎◌, ◌+◌, ◌<◌, ◌≤◌, ◌^◌, Bool, true, false, List, [], Option, None, sum}
+use Rattle.std.specs.Prelude.{ℕ, ◌≡◌, ◌⊎◌, ◌+◌, ◌<◌, ◌≤◌, ◌^◌, Bool, true, false, List, [], ◌++◌, Option, None, Result}
+use Rattle.std.specs.Prelude.{IfErr, IfOk, sum}
+use Rattle.std.specs.declared.sync.ledger.Share.{Share}
 use Rattle.shelf.specs.Calls.{Call}
 use Rattle.shelf.specs.Maps.{Standing}
+use Rattle.shelf.specs.declared.traits.Shelf.{Ghosts}
 use Rattle.player_events.specs.declared.event.Event.{Event}
 use Rattle.player_events.specs.declared.event.Event.TheVariants.{Have, Line, OutputTurn}
 use Rattle.player_events.specs.declared.event.LogEntry.{LogEntry}
@@ -21,6 +24,8 @@ use Rattle.frame_ledger.specs.declared.books.OutputShares.{OutputShares}
 use Rattle.mpd_command.specs.declared.request.Request.{Request}
 use Rattle.output_ring.specs.declared.frames.Fates.{Fates}
 use Rattle.transitions.specs.declared.asked.Stand.TheVariants.{Alone}
+use Rattle.held_player.specs.declared.player.Core.{Core}
+use Rattle.held_player.specs.Waiting.{waiting_after}
 
 -- the player with its history; the notices that wait to be handed out; the books of frames; whether the
 -- outputs were settled, whose last fates then stand in the books of written and discarded frames, though no
@@ -32,10 +37,25 @@ pub record View : Type 0 where
   pub is_settled : Bool
   pub free : ℕ
 
+-- what contracts see of a player with its notices, beside these books, settled or not, and so many free seats
+abbrev pub seen : {L : Type 0} → Core L → FrameBooks → Bool → ℕ → View
+seen core books is_settled free = record {
+  player = core.counted;
+  waiting = core.waiting.items;
+  books = books;
+  is_settled = is_settled;
+  free = free;
+}
+
 -- what a line of a client is answered with: its waiting notice, and what its event told
 pub record Handed : Type 0 where
   pub front : Option Notice
   pub told : OutcomeData
+
+-- the notices that wait once a line of this client was answered: its first is handed out, and those that the
+-- event made come after the others
+abbrev pub WaitAfterLine : ℕ → List Notice → List Notice → Handed → Type 0
+WaitAfterLine client old new handed = new ≡ waiting_after client old handed.told
 
 -- an entry of the history
 abbrev pub entry : ℕ → Event → OutcomeData → LogEntry
@@ -61,6 +81,14 @@ JoinsAs before after seat event = Joins before after seat event (told before.pre
 abbrev pub notices_at : Chronicle → Event → List Notice
 notices_at player event = (told player.present event).notices
 
+-- an event is told what the player of one thread tells at it
+abbrev pub IsToldAs : View → Event → OutcomeData → Type 0
+IsToldAs view event outcome = outcome ≡ told view.player.present event
+
+-- the notices that the player of one thread makes at an event wait after the others
+abbrev pub WaitsForAfter : View → View → Event → Type 0
+WaitsForAfter before after event = after.waiting ≡ before.waiting ++ notices_at before.player event
+
 -- the frames that were written, and those that were discarded, are no fewer than before
 abbrev pub CountsOn : FrameBooks → FrameBooks → Type 0
 CountsOn old new = (sum old.written ≤ sum new.written) × (sum old.discarded ≤ sum new.discarded)
@@ -80,6 +108,10 @@ JoinsTurn before after seat output fates failed told = Joins before.player after
 -- an event of a seat passes no limit
 abbrev pub IsWithinLimits : View → SeatCount → Event → Type 0
 IsWithinLimits view seat event = limit_of seat.number view.player.present event ≡ None
+
+-- while the outputs are not settled, the books are the player's
+abbrev pub HasBooksOfPlayer : View → Type 0
+HasBooksOfPlayer view = view.is_settled ≡ false → view.books ≡ view.player.present.shared.books
 
 -- the same books, settled or not, and as many free seats
 abbrev pub KeepsBooks : View → View → Type 0
@@ -104,6 +136,10 @@ GrowAsBooks old new books books' =
     (new.written.amount + sum books.written ≡ old.written.amount + sum books'.written)
     × (new.discarded.amount + sum books.discarded ≡ old.discarded.amount + sum books'.discarded)
 
+-- a share of so many decoded frames grows by as much as their book
+abbrev pub GrowsAsDecoded : ℕ → ℕ → FrameBooks → FrameBooks → Type 0
+GrowsAsDecoded share share' books books' = share' + sum books.decoded ≡ share + sum books'.decoded
+
 -- all is as it was, but that a full window may have been folded
 abbrev pub IsUnchangedOrFolded : Chronicle → Chronicle → Type 0
 IsUnchangedOrFolded before after = (after ≡ before) ⊎ (after ≡ with_room before)
@@ -113,9 +149,9 @@ IsUnchangedOrFolded before after = (after ≡ before) ⊎ (after ≡ with_room b
 abbrev pub IsRefusedFor : Chronicle → ℕ → Event → PartitionFault → Type 0
 IsRefusedFor before seat event fault = ((fault ≡ HistoryFull) × (is_full before ≡ true)) ⊎ MayRefuse (limit_of seat before.present event) fault
 
--- the same of the turn of an output
-abbrev pub IsTurnRefused : View → SeatCount → Event → PartitionFault → Type 0
-IsTurnRefused view seat event fault = IsRefusedFor view.player seat.number event fault
+-- the same of an event of a seat
+abbrev pub IsEventRefused : View → SeatCount → Event → PartitionFault → Type 0
+IsEventRefused view seat event fault = IsRefusedFor view.player seat.number event fault
 
 -- what the player of one thread tells at the event after some past that the caller may find
 abbrev pub TellsSomewhere : SeatCount → Event → OutcomeData → Type 0
@@ -134,6 +170,10 @@ FeedsSomewhere seat place number frames told_of share_before share_after =
 
 abbrev pub FeedsShare : SeatCount → ℕ → ℕ → ℕ → ℕ → ℕ → OutcomeData → Type 0
 FeedsShare seat place number frames share_before share_after told = FeedsSomewhere seat place number frames told share_before share_after
+
+-- the same of the share itself
+abbrev pub Feeds : {D : Type 0} → SeatCount → ℕ → ℕ → ℕ → Share D → Share D → OutcomeData → Type 0
+Feeds seat place number frames old new told = FeedsShare seat place number frames old.amount new.amount told
 
 module _ {S : Type 0} (standing : S → Standing) (failed : S → S → Call → Type 0) where
   -- What an event leaves that was refused: before it was begun, for want of memory, all is as it was; else
@@ -166,3 +206,25 @@ module _ {S : Type 0} (standing : S → Standing) (failed : S → S → Call →
 
   abbrev pub StopsLine : View → View → S → S → SeatCount → ℕ → Request → PartitionFault → Type 0
   StopsLine before after old new seat client request fault = Stops before.player after.player old new seat.number (line_of client request) fault
+
+-- the same with the lent shelf
+module _ {S : Type 0} (shelf : Ghosts S) where
+  -- what the player of one thread answers to a client's line after some past that the caller may find
+  abbrev pub AnswersCaller : S → S → SeatCount → ℕ → Request → Handed → Type 0
+  AnswersCaller old new seat client request handed =
+      AnswersClient shelf.standing shelf.failed old new seat client request handed
+
+  -- why such a line may be refused after some past that the caller may find, and what that leaves
+  abbrev pub StopsCaller : S → S → SeatCount → ℕ → Request → PartitionFault → Type 0
+  StopsCaller old new seat client request fault =
+      StopsClient shelf.standing shelf.failed old new seat client request fault
+
+  -- a line of a client that was answered joined the history, which is folded first where it is full
+  abbrev pub Hears : View → View → S → S → SeatCount → ℕ → Request → Result Handed PartitionFault → Type 0
+  Hears before after old new seat client request answer = IfOk answer
+      (λ handed. AnswersLine shelf.standing shelf.failed before after old new seat client request handed.told)
+
+  -- what a line of a client leaves that was refused
+  abbrev pub Fails : View → View → S → S → SeatCount → ℕ → Request → Result Handed PartitionFault → Type 0
+  Fails before after old new seat client request answer = IfErr answer
+      (StopsLine shelf.standing shelf.failed before after old new seat client request)

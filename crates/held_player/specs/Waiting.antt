@@ -1,5 +1,5 @@
 -- The notices that wait to be handed out.
-use Rattle.std.specs.Prelude.{ℕ, ◌+◌, ◌≤◌, Bool, not, ◌==◌, List, [], ◌∷◌, ◌++◌, length, vec_len, vec_capacity, Option, Some, None, if◌then◌else◌}
+use Rattle.std.specs.Prelude.{ℕ, ◌≡◌, ◌+◌, ◌≤◌, Bool, not, ◌==◌, List, [], ◌∷◌, ◌++◌, length, map, vec_len, vec_capacity, Option, Some, None, if◌then◌else◌}
 use Rattle.std.specs.Global.{Vec}
 use Rattle.std.specs.List.{filter, flat_map}
 use Rattle.idle_clients.specs.declared.notices.Notice.{Notice}
@@ -10,6 +10,10 @@ is_for client notice = notice.client == client
 
 abbrev pub is_for_another : ℕ → Notice → Bool
 is_for_another client notice = not (is_for client notice)
+
+-- whom notices are for, in their order
+abbrev pub clients_of : List Notice → List ℕ
+clients_of notices = map (λ notice. notice.client) notices
 
 -- the first notice of the client
 abbrev pub first_for : ℕ → List Notice → Option Notice
@@ -35,3 +39,7 @@ waiting_after_all client waiting tolds = without_first client waiting ++ flat_ma
 -- there is room for more notices
 abbrev pub HasRoomFor : Vec Notice → List Notice → Type 0
 HasRoomFor waiting notices = vec_len waiting + length notices ≤ vec_capacity waiting
+
+-- there is no less room than before: as many notices may wait, and no more of them do
+abbrev pub KeepsRoom : Vec Notice → Vec Notice → Type 0
+KeepsRoom old new = (vec_capacity new ≡ vec_capacity old) × (vec_len new ≤ vec_len old)

@@ -12,7 +12,6 @@ use mpd_command::Request;
 use partition::{Partition, PartitionFault};
 use player_events::{Event, Logged};
 use shelf::Shelf;
-use song_db::SharedSong;
 use std::alloc::{AllocError, Global};
 use std::marker::Model;
 use std::sync::ledger::{Blank, Share};
@@ -58,9 +57,10 @@ impl<L: Ledgers> Drop for Held<L> {
 }
 
 impl<L: Ledgers> Model for Held<L> {
-    ghost use Rattle.std.specs.Prelude.{◌≡◌, ◌<◌, All, None, is_some, vec_len};
+    ghost use Rattle.std.specs.Prelude.{◌≡◌, All, None, is_some, vec_len};
+    ghost use Rattle.counted_player.specs.Seats.{IsUnused};
     ghost use Rattle.held_player.specs.Settling.{HaveAllOutputs, numbers_in};
-    ghost use Rattle.held_player.specs.Views.{View};
+    ghost use Rattle.held_player.specs.Views.{View, seen};
 
     ghost Value = { View };
 
@@ -70,28 +70,31 @@ impl<L: Ledgers> Model for Held<L> {
 
     ghost coded = { Prim.hlevel (codes, filter.the_row.coded) };
 
-    ghost view = { λ h. record { player = h.core.counted; waiting = h.core.waiting.items; books = numbers_in h.books; is_settled = is_some h.closed; free = vec_len h.free } };
+    ghost view = { λ h. seen h.core (numbers_in h.books) (is_some h.closed) (vec_len h.free) };
 
     ghost invariant = { λ h. (h.books.decoded ≡ h.core.counted.present.shared.books.decoded)
         × (h.closed ≡ None → h.books.written ≡ h.core.counted.present.shared.books.written)
         × (h.closed ≡ None → h.books.discarded ≡ h.core.counted.present.shared.books.discarded)
         × HaveAllOutputs (numbers_in h.books)
-        × All (λ s. (s.number < 4) × (s.made ≡ 0)) h.free.items };
+        × All IsUnused h.free.items };
 }
 
 impl<L: Ledgers> Held<L> {
-    ghost use Rattle.std.specs.Prelude.{◌≡◌, ◌+◌, ◌-◌, ◌<◌, ◌↔◌, [], ◌∷◌, ◌++◌, None, true, false, IfErr, IfOk, IfSome, IsErr, OnErr, OnOk, map};
+    ghost use Rattle.std.specs.Prelude.{◌≡◌, ◌-◌, ◌↔◌, [], false};
+    ghost use Rattle.std.specs.Prelude.{IfErr, IfOk, IfSome, IsErr, OnErr, OnOk};
     ghost use Rattle.frame_ledger.specs.Shares.{HasAllParts, HasNoFrames};
-    ghost use Rattle.held_player.specs.Views.{AnswersClient, AnswersLine, IsRefusedFor, IsUnchangedOrFolded, IsUnwritten, Joins, JoinsAs, KeepsBooks, StopsLine, TellsSomewhere, notices_at, opened};
+    ghost use Rattle.held_player.specs.Views.{AnswersCaller, Fails, HasBooksOfPlayer, Hears};
+    ghost use Rattle.held_player.specs.Views.{IsEventRefused, IsToldAs, IsUnchangedOrFolded, IsUnwritten};
+    ghost use Rattle.held_player.specs.Views.{IsWithinLimits, Joins, JoinsAs, KeepsBooks, TellsSomewhere};
+    ghost use Rattle.held_player.specs.Views.{WaitAfterLine, WaitsForAfter, opened};
     ghost use Rattle.held_player.specs.Blanks.{AreFor};
     ghost use Rattle.partition.specs.History.{with_room};
     ghost use Rattle.partition.specs.Legal.{IsPast};
-    ghost use Rattle.partition.specs.Step.{limit_of, told as told_of};
     ghost use Rattle.player_events.specs.declared.event.Event.TheVariants.{End};
-    ghost use Rattle.held_player.specs.News.{event_of, kept_at};
-    ghost use Rattle.counted_player.specs.Seats.{after_events};
-    ghost use Rattle.counted_player.specs.Counts.{ArePlaces, IsFresh, any_plays, has_scan, own_in, song_at};
-    ghost use Rattle.held_player.specs.Waiting.{first_for, without_first, waiting_after};
+    ghost use Rattle.held_player.specs.News.{WaitAfterNews, event_of};
+    ghost use Rattle.counted_player.specs.Seats.{IsUnused, after_events};
+    ghost use Rattle.counted_player.specs.Counts.{IsCounted, IsFresh};
+    ghost use Rattle.held_player.specs.Waiting.{clients_of, first_for, without_first};
 
     /// A player of which no seat made an event yet, with the four seats that callers are given.
     pub fn open(
@@ -135,7 +138,7 @@ impl<L: Ledgers> Held<L> {
     ///
     /// [`NoSeat`] where all four are given.
     pub fn seat(&mut self) -> Result<Seat<L>, NoSeat>
-        ensures seat { IfOk result (λ s. (s.number < 4) × (s.made ≡ 0)) }
+        ensures seat { IfOk result IsUnused }
         ensures err { IsErr result ↔ (self.old.free ≡ 0) }
         ensures given { OnOk result (self.new ≡ record self.old { free = self.old.free - 1 }) }
         ensures same { OnErr result (self.new ≡ self.old) }
@@ -152,7 +155,7 @@ impl<L: Ledgers> Held<L> {
         ensures window { result.now ≡ self.now.player.window }
         ensures legal { IsPast self.now.player }
         ensures decoded { self.now.books.decoded ≡ self.now.player.present.shared.books.decoded }
-        ensures books { self.now.is_settled ≡ false → self.now.books ≡ self.now.player.present.shared.books }
+        ensures books { HasBooksOfPlayer self.now }
     {
         let _is_open = self.closed.is_none();
         self.core.counted.history()
@@ -173,18 +176,18 @@ impl<L: Ledgers> Held<L> {
     ) -> Result<Answered, PartitionFault>
         // The caller's count is the number of its seat's events, and the value that the lock found is a
         // past's.
-        ensures found { seat.old.number < 4 → own_in seat.old.number self.old.player.present ≡ seat.old.made }
+        ensures found { IsCounted seat.old self.old.player }
         ensures legal { IsPast self.old.player }
 
         // The reply, the world after it and what became of the lent shelf are the one-thread player's.
         ensures base { OnOk result (self.new.player.base ≡ (with_room self.old.player).base) }
         ensures limit { self.new.player.limit ≡ self.old.player.limit }
-        ensures ok { IfOk result (λ a. AnswersLine S.standing S.failed self.old self.new shelf.old shelf.new seat.old client request a.told) }
+        ensures ok { Hears S.Shelf self.old self.new shelf.old shelf.new seat.old client request result }
 
         // The client's notice is handed out, and those that the event made wait.
         ensures front { IfOk result (λ a. a.front ≡ first_for client self.old.waiting) }
         ensures own { IfOk result (λ a. IfSome a.front (λ notice. notice.client ≡ client)) }
-        ensures waiting { IfOk result (λ a. self.new.waiting ≡ waiting_after client self.old.waiting a.told) }
+        ensures waiting { IfOk result (WaitAfterLine client self.old.waiting self.new.waiting) }
         ensures kept { OnErr result (self.new.waiting ≡ self.old.waiting) }
 
         // It is one event more of the seat, and brings no frames.
@@ -193,11 +196,11 @@ impl<L: Ledgers> Held<L> {
         ensures books { KeepsBooks self.old self.new }
 
         // A fault changes nothing but a fold.
-        ensures refused { IfErr result (StopsLine S.standing S.failed self.old self.new shelf.old shelf.new seat.old client request) }
+        ensures refused { Fails S.Shelf self.old self.new shelf.old shelf.new seat.old client request result }
         ensures unchanged { OnErr result (IsUnchangedOrFolded self.old.player self.new.player) }
         ensures unwritten { OnErr result (IsUnwritten S.standing S.failed shelf.old shelf.new) }
 
-        ensures somewhere { IfOk result (AnswersClient S.standing S.failed shelf.old shelf.new seat.old client request) }
+        ensures somewhere { IfOk result (AnswersCaller S.Shelf shelf.old shelf.new seat.old client request) }
     {
         self.core.hear_line(seat, shelf, client, request)
     }
@@ -208,17 +211,17 @@ impl<L: Ledgers> Held<L> {
     ///
     /// As [`Held::command`].
     pub fn notice(&mut self, seat: &mut Seat<L>, news: News) -> Result<Reported, PartitionFault>
-        ensures found { seat.old.number < 4 → own_in seat.old.number self.old.player.present ≡ seat.old.made }
+        ensures found { IsCounted seat.old self.old.player }
         ensures legal { IsPast self.old.player }
-        ensures told { IfOk result (λ told. told ≡ told_of self.old.player.present (event_of news)) }
+        ensures told { IfOk result (IsToldAs self.old (event_of news)) }
         ensures player { IfOk result (Joins self.old.player self.new.player seat.old.number (event_of news)) }
-        ensures within { OnOk result (limit_of seat.old.number self.old.player.present (event_of news) ≡ None) }
-        ensures waiting { IfOk result (λ told. self.new.waiting ≡ kept_at news self.old.waiting ++ told.notices) }
+        ensures within { OnOk result (IsWithinLimits self.old seat.old (event_of news)) }
+        ensures waiting { IfOk result (WaitAfterNews news self.old.waiting self.new.waiting) }
         ensures kept { OnErr result (self.new.waiting ≡ self.old.waiting) }
         ensures made { OnOk result (seat.new ≡ after_events seat.old 1) }
         ensures seat { OnErr result (seat.new ≡ seat.old) }
         ensures books { KeepsBooks self.old self.new }
-        ensures refused { IfErr result (λ fault. IsRefusedFor self.old.player seat.old.number (event_of news) fault) }
+        ensures refused { IfErr result (IsEventRefused self.old seat.old (event_of news)) }
         ensures unchanged { OnErr result (IsUnchangedOrFolded self.old.player self.new.player) }
         ensures somewhere { IfOk result (λ told. TellsSomewhere seat.old (event_of news) told) }
     {
@@ -231,48 +234,32 @@ impl<L: Ledgers> Held<L> {
     ///
     /// As [`Held::command`].
     pub fn end(&mut self, seat: &mut Seat<L>) -> Result<(), PartitionFault>
-        ensures found { seat.old.number < 4 → own_in seat.old.number self.old.player.present ≡ seat.old.made }
+        ensures found { IsCounted seat.old self.old.player }
         ensures legal { IsPast self.old.player }
         ensures player { OnOk result (JoinsAs self.old.player self.new.player seat.old.number End) }
-        ensures within { OnOk result (limit_of seat.old.number self.old.player.present End ≡ None) }
-        ensures waiting { OnOk result (self.new.waiting ≡ self.old.waiting ++ notices_at self.old.player End) }
+        ensures within { OnOk result (IsWithinLimits self.old seat.old End) }
+        ensures waiting { OnOk result (WaitsForAfter self.old self.new End) }
         ensures kept { OnErr result (self.new.waiting ≡ self.old.waiting) }
         ensures made { OnOk result (seat.new ≡ after_events seat.old 1) }
         ensures seat { OnErr result (seat.new ≡ seat.old) }
         ensures books { KeepsBooks self.old self.new }
-        ensures refused { IfErr result (λ fault. IsRefusedFor self.old.player seat.old.number End fault) }
+        ensures refused { IfErr result (IsEventRefused self.old seat.old End) }
         ensures unchanged { OnErr result (IsUnchangedOrFolded self.old.player self.new.player) }
     {
         let _told = self.core.take_step(seat, Event::End)?;
         Ok(())
     }
 
-    /// Whether the daemon has ended.
-    pub fn has_ended(&self) -> bool
-        ensures ended { result ≡ self.now.player.present.shared.ended }
-        ensures legal { IsPast self.now.player }
+    /// The player, to be asked what is no event.
+    pub fn player(&self) -> &Counted<L>
+        ensures { result.now ≡ self.now.player }
     {
-        self.core.counted.has_ended()
+        &self.core.counted
     }
 
     /// How often something changed that a thread at rest is woken for.
     pub fn changes(&self) -> u64 {
         self.core.changes
-    }
-
-    /// Whether a scan was asked for that has not ended.
-    pub fn scans(&self) -> bool
-        ensures scan { result ≡ has_scan self.now.player.present }
-        ensures legal { IsPast self.now.player }
-    {
-        self.core.counted.scans()
-    }
-
-    /// Whether a song is being played in some partition.
-    pub fn plays(&self) -> bool
-        ensures { result ≡ any_plays self.now.player.present.parts }
-    {
-        self.core.counted.plays()
     }
 
     /// Whether a notice waits for a client.
@@ -284,25 +271,9 @@ impl<L: Ledgers> Held<L> {
 
     /// The clients that notices wait for, in the order of the notices.
     pub fn addressees(&self, alloc: Global) -> Result<Vec<u32>, AllocError>
-        ensures { IfOk result (λ clients. clients.items ≡ map (λ notice. notice.client) self.now.waiting) }
+        ensures { IfOk result (λ clients. clients.items ≡ clients_of self.now.waiting) }
     {
         addressees(alloc, &self.core.waiting)
-    }
-
-    /// Of sixteen numbers those of a partition. It is no event.
-    pub fn places(&self) -> [bool; 16]
-        ensures places { ArePlaces result self.now.player.present }
-        ensures legal { IsPast self.now.player }
-    {
-        self.core.counted.places()
-    }
-
-    /// The song of the entry that has this id in the present queue of the partition of a number. It is no event.
-    pub fn song(&self, place: u8, id: u32) -> Result<Option<SharedSong>, AllocError>
-        ensures song { IfOk result (λ song. song ≡ song_at place id self.now.player.present) }
-        ensures legal { IsPast self.now.player }
-    {
-        self.core.counted.song(place, id)
     }
 
     /// The client's waiting notice, which is taken out. It is no event and takes no memory.

@@ -11,16 +11,16 @@ use shelf::Shelf;
 
 impl<L: Ledgers> Held<L> {
     ghost use Rattle.held_player.specs.Views.{KeepsBooks};
-    ghost use Rattle.std.specs.Prelude.{◌≡◌, ◌<◌, ◌++◌, length, IfErr, IfOk, IfSome};
+    ghost use Rattle.std.specs.Prelude.{◌≡◌, length, IfErr, IfOk, IfSome};
     ghost use Rattle.partition.specs.Legal.{IsPast};
-    ghost use Rattle.partition.specs.Lists.{RunsList};
-    ghost use Rattle.held_player.specs.Lists.{StopsHere, notices_in, StopsIn, TellsList};
+    ghost use Rattle.held_player.specs.Lists.{HandsAll, JoinsAll, JoinsSome, StopsAmid};
+    ghost use Rattle.held_player.specs.Lists.{WaitAfterList, WaitAfterStop};
     ghost use Rattle.counted_player.specs.Seats.{after_events};
-    ghost use Rattle.counted_player.specs.Counts.{own_in};
-    ghost use Rattle.held_player.specs.Waiting.{first_for, waiting_after_all};
+    ghost use Rattle.counted_player.specs.Counts.{IsCounted};
+    ghost use Rattle.held_player.specs.Waiting.{first_for};
 
-    /// The commands of a client's list, side by side in the history, up to the first that ends the list. The
-    /// client's waiting notice is handed out in front of the answers.
+    /// The commands of a client's list, one after the other in the history with no other event between them,
+    /// up to the first that ends the list. The client's waiting notice is handed out in front of the answers.
     ///
     /// # Errors
     ///
@@ -34,19 +34,21 @@ impl<L: Ledgers> Held<L> {
         form: ListForm,
         requests: Vec<Request>,
     ) -> Result<AnsweredList, ListFault>
-        ensures found { seat.old.number < 4 → own_in seat.old.number self.old.player.present ≡ seat.old.made }
+        ensures found { IsCounted seat.old self.old.player }
         ensures legal { IsPast self.old.player }
-        ensures ok { IfOk result (λ a. RunsList S.standing S.failed self.old.player self.new.player shelf.old shelf.new seat.old.number client form requests.items a.tolds) }
-        ensures err { IfErr result (λ stop. StopsHere S.standing S.failed self.old.player self.new.player shelf.old shelf.new seat.old.number client form requests.items stop) }
+        ensures ok { IfOk result
+            (JoinsAll S.Shelf self.old self.new shelf.old shelf.new seat.old client form requests) }
+        ensures err { IfErr result
+            (JoinsSome S.Shelf self.old self.new shelf.old shelf.new seat.old client form requests) }
         ensures front { IfOk result (λ a. a.front ≡ first_for client self.old.waiting) }
         ensures own { IfOk result (λ a. IfSome a.front (λ notice. notice.client ≡ client)) }
-        ensures waiting { IfOk result (λ a. self.new.waiting ≡ waiting_after_all client self.old.waiting a.tolds) }
-        ensures kept { IfErr result (λ stop. self.new.waiting ≡ self.old.waiting ++ notices_in stop.tolds) }
+        ensures waiting { IfOk result (WaitAfterList client self.old.waiting self.new.waiting) }
+        ensures kept { IfErr result (WaitAfterStop self.old.waiting self.new.waiting) }
         ensures made { IfOk result (λ a. seat.new ≡ after_events seat.old (length a.tolds)) }
         ensures done { IfErr result (λ stop. seat.new ≡ after_events seat.old stop.done) }
         ensures books { KeepsBooks self.old self.new }
-        ensures somewhere { IfOk result (λ a. TellsList S.standing S.failed shelf.old shelf.new seat.old client form requests a.tolds) }
-        ensures stopped { IfErr result (StopsIn S.standing S.failed shelf.old shelf.new seat.old client form requests) }
+        ensures somewhere { IfOk result (HandsAll S.Shelf shelf.old shelf.new seat.old client form requests) }
+        ensures stopped { IfErr result (StopsAmid S.Shelf shelf.old shelf.new seat.old client form requests) }
     {
         let core = &mut self.core;
         let before = core.counted.wake_fingerprint();

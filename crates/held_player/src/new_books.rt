@@ -1,7 +1,8 @@
 //! The books and seats of a new house.
 ghost use Rattle.held_player.specs.Settling.{AreNumbersOf};
 ghost use Rattle.frame_ledger.specs.Shares.{HasAllParts, HasNoFrames};
-ghost use Rattle.std.specs.Prelude.{◌≡◌, ◌<◌, [], ◌∷◌, All, IfOk, vec_len};
+ghost use Rattle.std.specs.Prelude.{◌≡◌, [], ◌∷◌, All, IfOk, vec_len};
+ghost use Rattle.counted_player.specs.Seats.{IsUnused};
 ghost use Rattle.held_player.specs.Blanks.{AreFor};
 ghost use Rattle.player_state.specs.Outputs.{empty_books};
 
@@ -28,7 +29,7 @@ pub(crate) fn new_books<L: Ledgers>(
 ) -> Result<NewBooks<L>, AllocError>
     requires blanks { AreFor L.names blanks }
     ensures seats { IfOk result (λ n. n.seats ≡ 0 ∷ 0 ∷ 0 ∷ 0 ∷ []) }
-    ensures free { IfOk result (λ n. All (λ s. (s.number < 4) × (s.made ≡ 0)) n.free.items × (vec_len n.free ≡ 4)) }
+    ensures free { IfOk result (λ n. All IsUnused n.free.items × (vec_len n.free ≡ 4)) }
     ensures books { IfOk result (λ n. AreNumbersOf n.books empty_books) }
     ensures parts { IfOk result (λ n. HasAllParts n.shares.decoded.parts n.shares.outputs) }
     ensures amounts { IfOk result (λ n. HasNoFrames n.shares.decoded.amount n.shares.outputs) }

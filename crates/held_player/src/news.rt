@@ -16,8 +16,8 @@ pub enum News {
     AsksToScan,
     /// The library that a scan found; one that failed found none.
     Scanned(Option<SharedDb>, u64),
-    /// The decoder wants a job of the partition of this number; of which of eight outputs the feeder still owes
-    /// frames of an earlier one.
+    /// The decoder wants a job of the partition of this number; of which of eight outputs the feeder still
+    /// owes frames of an earlier one.
     Wants(u8, [bool; 8]),
     /// The song of a partition's job, of this number, could not be read, or where this is so, that of its
     /// partner in a fade.

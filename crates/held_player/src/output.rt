@@ -14,17 +14,19 @@ use std::sync::ledger::Share;
 
 impl<L: Ledgers> Held<L> {
     ghost use Rattle.frame_ledger.specs.Shares.{HasAllParts, KeepsParts};
-    ghost use Rattle.std.specs.Prelude.{◌≡◌, ◌+◌, ◌<◌, ◌≤◌, ◌++◌, [], None, true, false, sum, IfErr, IfOk, OnErr, OnOk, vec_len, vec_capacity};
+    ghost use Rattle.std.specs.Prelude.{◌≡◌, ◌<◌, ◌≤◌, ◌++◌, [], true, false};
+    ghost use Rattle.std.specs.Prelude.{IfErr, IfOk, OnErr, OnOk, vec_len, vec_capacity};
     ghost use Rattle.partition.specs.Legal.{IsPast};
-    ghost use Rattle.partition.specs.Step.{limit_of, told as told_of};
     ghost use Rattle.player_events.specs.declared.event.Event.TheVariants.{Have};
     ghost use Rattle.counted_player.specs.Seats.{after_events};
     ghost use Rattle.held_player.specs.Settling.{AreSumsOf, SettlesInTurn, settled_books};
-    ghost use Rattle.held_player.specs.Views.{IsRefusedFor, IsUnchangedOrFolded, GrowAsBooks, KeepsDecoded, KeepsFates, turn_of, JoinsFed, JoinsTurn, IsWithinLimits, IsTurnRefused};
-    ghost use Rattle.counted_player.specs.Counts.{own_in};
+    ghost use Rattle.held_player.specs.Views.{GrowAsBooks, GrowsAsDecoded, IsEventRefused, IsToldAs};
+    ghost use Rattle.held_player.specs.Views.{IsUnchangedOrFolded, IsWithinLimits, JoinsFed, JoinsTurn};
+    ghost use Rattle.held_player.specs.Views.{KeepsDecoded, KeepsFates, turn_of};
+    ghost use Rattle.counted_player.specs.Counts.{IsCounted};
 
-    /// Frames of a partition's job were decoded. Where they are not stale, they are for the outputs that the report
-    /// names: their books and the share grow by them.
+    /// Frames of a partition's job were decoded. Where they are not stale, they are for the outputs that the
+    /// report names: their books and the share grow by them.
     ///
     /// # Errors
     ///
@@ -38,11 +40,11 @@ impl<L: Ledgers> Held<L> {
         share: &mut Share<Decoded<L>>,
     ) -> Result<Reported, PartitionFault>
         requires { 0 < share.old.parts }
-        ensures found { seat.old.number < 4 → own_in seat.old.number self.old.player.present ≡ seat.old.made }
+        ensures found { IsCounted seat.old self.old.player }
         ensures legal { IsPast self.old.player }
-        ensures told { IfOk result (λ told. told ≡ told_of self.old.player.present (Have place number frames)) }
+        ensures told { IfOk result (IsToldAs self.old (Have place number frames)) }
         ensures player { IfOk result (JoinsFed self.old self.new seat.old (Have place number frames)) }
-        ensures within { OnOk result (limit_of seat.old.number self.old.player.present (Have place number frames) ≡ None) }
+        ensures within { OnOk result (IsWithinLimits self.old seat.old (Have place number frames)) }
         ensures waiting { IfOk result (λ told. self.new.waiting ≡ self.old.waiting ++ told.notices) }
         ensures kept { OnErr result (self.new.waiting ≡ self.old.waiting) }
         ensures made { OnOk result (seat.new ≡ after_events seat.old 1) }
@@ -51,10 +53,10 @@ impl<L: Ledgers> Held<L> {
         ensures given { self.old.books.decoded ≡ self.old.player.present.shared.books.decoded }
         ensures decoded { self.new.books.decoded ≡ self.new.player.present.shared.books.decoded }
         ensures fates { KeepsFates self.old self.new }
-        ensures share { share.new.amount + sum self.old.books.decoded ≡ share.old.amount + sum self.new.books.decoded }
+        ensures share { GrowsAsDecoded share.old.amount share.new.amount self.old.books self.new.books }
         ensures parts { share.new.parts ≡ share.old.parts }
         ensures same { OnErr result ((self.new.books ≡ self.old.books) × (share.new ≡ share.old)) }
-        ensures refused { IfErr result (IsRefusedFor self.old.player seat.old.number (Have place number frames)) }
+        ensures refused { IfErr result (IsEventRefused self.old seat.old (Have place number frames)) }
         ensures unchanged { OnErr result (IsUnchangedOrFolded self.old.player self.new.player) }
     {
         let told = self
@@ -80,9 +82,9 @@ impl<L: Ledgers> Held<L> {
         shares: &mut OutputShares<Written<L>, Discarded<L>>,
     ) -> Result<Reported, PartitionFault>
         requires { (0 < shares.old.written.parts) × (0 < shares.old.discarded.parts) }
-        ensures found { seat.old.number < 4 → own_in seat.old.number self.old.player.present ≡ seat.old.made }
+        ensures found { IsCounted seat.old self.old.player }
         ensures legal { IsPast self.old.player }
-        ensures told { IfOk result (λ told. told ≡ told_of self.old.player.present (turn_of output told_fates failed)) }
+        ensures told { IfOk result (IsToldAs self.old (turn_of output told_fates failed)) }
         ensures player { IfOk result (JoinsTurn self.old self.new seat.old output told_fates failed) }
         ensures within { OnOk result (IsWithinLimits self.old seat.old (turn_of output told_fates failed)) }
         ensures waiting { IfOk result (λ told. self.new.waiting ≡ self.old.waiting ++ told.notices) }
@@ -96,7 +98,7 @@ impl<L: Ledgers> Held<L> {
         ensures shares { GrowAsBooks shares.old shares.new self.old.books self.new.books }
         ensures parts { KeepsParts shares.old shares.new }
         ensures same { OnErr result ((self.new.books ≡ self.old.books) × (shares.new ≡ shares.old)) }
-        ensures refused { IfErr result (IsTurnRefused self.old seat.old (turn_of output told_fates failed)) }
+        ensures refused { IfErr result (IsEventRefused self.old seat.old (turn_of output told_fates failed)) }
         ensures unchanged { OnErr result (IsUnchangedOrFolded self.old.player self.new.player) }
     {
         show_open(&mut self.closed, &mut shares.written);

@@ -6,8 +6,9 @@ ghost use Rattle.player_events.specs.Events.{is_line};
 ghost use Rattle.counted_player.specs.Counts.{MayFind};
 ghost use Rattle.counted_player.specs.Seats.{after_events};
 ghost use Rattle.held_player.specs.News.{gone_at};
-ghost use Rattle.held_player.specs.Player.{BooksFollow, CanCount, HasRoomForAll, JoinsLine, KeepsBase, KeepsFrames, LeavesShelf, StopsAt, WaitsAfter, WaitsAfterLine};
-ghost use Rattle.held_player.specs.Views.{AnswersClient, IsRefusedFor, IsUnchangedOrFolded, Joins};
+ghost use Rattle.held_player.specs.Player.{BooksFollow, CanCount, HasRoomForAll, JoinsLine, KeepsBase};
+ghost use Rattle.held_player.specs.Player.{KeepsFrames, LeavesShelf, StopsAt, WaitsAfter, WaitsAfterLine};
+ghost use Rattle.held_player.specs.Views.{AnswersCaller, IsRefusedFor, IsUnchangedOrFolded, Joins};
 ghost use Rattle.held_player.specs.Waiting.{first_for};
 
 use crate::answered::{Answered, Reported};
@@ -70,7 +71,7 @@ impl<L: Ledgers> Core<L> {
         ensures found { MayFind seat.old self.old.counted }
         ensures base { OnOk result (KeepsBase self.old self.new) }
         ensures limit { self.new.counted.limit ≡ self.old.counted.limit }
-        ensures ok { IfOk result (JoinsLine S.Shelf self.old self.new shelf.old shelf.new seat.old client request) }
+        ensures ok { JoinsLine S.Shelf self.old self.new shelf.old shelf.new seat.old client request result }
         ensures front { IfOk result (λ a. a.front ≡ first_for client self.old.waiting.items) }
         ensures own { IfOk result (λ a. IfSome a.front (λ notice. notice.client ≡ client)) }
         ensures waiting { IfOk result (WaitsAfterLine self.old self.new client) }
@@ -78,10 +79,10 @@ impl<L: Ledgers> Core<L> {
         ensures made { OnOk result (seat.new ≡ after_events seat.old 1) }
         ensures seat { OnErr result (seat.new ≡ seat.old) }
         ensures books { KeepsFrames self.old.counted self.new.counted }
-        ensures refused { IfErr result (StopsAt S.Shelf self.old self.new shelf.old shelf.new seat.old client request) }
+        ensures err { StopsAt S.Shelf self.old self.new shelf.old shelf.new seat.old client request result }
         ensures unchanged { OnErr result (IsUnchangedOrFolded self.old.counted self.new.counted) }
         ensures unwritten { OnErr result (LeavesShelf S.Shelf shelf.old shelf.new) }
-        ensures somewhere { IfOk result (AnswersClient S.standing S.failed shelf.old shelf.new seat.old client request) }
+        ensures somewhere { IfOk result (AnswersCaller S.Shelf shelf.old shelf.new seat.old client request) }
     {
         let heard = StoreReply {
             read: Read::Nothing,
@@ -144,8 +145,8 @@ fn gone_by(event: &Event) -> Option<u32>
     }
 }
 
-/// Whether threads at rest are woken whatever the event changes: frames that are fed wake the outputs, and the
-/// end wakes all.
+/// Whether threads at rest are woken whatever the event changes: frames that are fed wake the outputs, and
+/// the end wakes all.
 fn wakes_always(event: &Event) -> bool {
     matches!(event, Event::Have(_, _, _) | Event::End)
 }

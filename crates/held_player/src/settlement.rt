@@ -13,7 +13,8 @@
 //! book that a step was wrong; neither can be hidden by a count that was kept twice by the same hand.
 ghost use Rattle.std.specs.Prelude.{◌≡◌, ◌<◌, ◌≤◌, [], None, vec_len, vec_capacity};
 ghost use Rattle.frame_ledger.specs.Shares.{HasAllParts, KeepsParts};
-ghost use Rattle.held_player.specs.Settling.{AreSumsOf, HaveAllOutputs, SettlesInTurn, SettlesRing, numbers_in, settled_books, with_fates};
+ghost use Rattle.held_player.specs.Settling.{AreSumsOf, HaveAllOutputs, SettlesInTurn, SettlesRing};
+ghost use Rattle.held_player.specs.Settling.{numbers_in, settled_books, with_fates};
 
 use crate::all_shares::AllShares;
 use crate::ended_ring::EndedRing;

@@ -1,8 +1,9 @@
 //! The notices that wait to be handed out.
-ghost use Rattle.std.specs.Prelude.{◌≡◌, ◌+◌, ◌≤◌, ◌++◌, IfOk, IfSome, length, map, vec_len, vec_capacity};
+ghost use Rattle.std.specs.Prelude.{◌≡◌, ◌+◌, ◌≤◌, ◌++◌};
+ghost use Rattle.std.specs.Prelude.{IfOk, IfSome, length, vec_len, vec_capacity};
 ghost use Rattle.held_player.specs.Lists.{notices_in};
 ghost use Rattle.held_player.specs.News.{kept_without};
-ghost use Rattle.held_player.specs.Waiting.{first_for, without_first, of_others};
+ghost use Rattle.held_player.specs.Waiting.{KeepsRoom, clients_of, first_for, without_first, of_others};
 
 use idle_clients::Notice;
 use player_events::Outcome;
@@ -13,7 +14,7 @@ pub(crate) fn take_first(notices: &mut Vec<Notice>, client: u32) -> Option<Notic
     ensures first { result ≡ first_for client notices.old.items }
     ensures own { IfSome result (λ notice. notice.client ≡ client) }
     ensures others { notices.new.items ≡ without_first client notices.old.items }
-    ensures room { (vec_capacity notices.new ≡ vec_capacity notices.old) × (vec_len notices.new ≤ vec_len notices.old) }
+    ensures room { KeepsRoom notices.old notices.new }
 {
     for i in 0..notices.len() {
         if notices[i].client == client {
@@ -25,7 +26,7 @@ pub(crate) fn take_first(notices: &mut Vec<Notice>, client: u32) -> Option<Notic
 
 /// The clients that notices are for, in the order of the notices.
 pub(crate) fn addressees(alloc: Global, notices: &[Notice]) -> Result<Vec<u32>, AllocError>
-    ensures { IfOk result (λ clients. clients.items ≡ map (λ notice. notice.client) notices.now) }
+    ensures { IfOk result (λ clients. clients.items ≡ clients_of notices.now) }
 {
     notices.iter().map(|notice| notice.client).collect(alloc)
 }
@@ -54,7 +55,7 @@ pub(crate) fn put_each(notices: &mut Vec<Notice>, outcomes: &[Outcome])
 /// Drops the notices of the client.
 fn drop_all(notices: &mut Vec<Notice>, client: u32)
     ensures others { notices.new.items ≡ of_others client notices.old.items }
-    ensures room { (vec_capacity notices.new ≡ vec_capacity notices.old) × (vec_len notices.new ≤ vec_len notices.old) }
+    ensures room { KeepsRoom notices.old notices.new }
 {
     notices.retain(|n| n.client != client);
 }
@@ -62,7 +63,7 @@ fn drop_all(notices: &mut Vec<Notice>, client: u32)
 /// Drops the notices of a client that goes, if one goes.
 pub(crate) fn drop_gone(notices: &mut Vec<Notice>, gone: Option<u32>)
     ensures others { notices.new.items ≡ kept_without gone notices.old.items }
-    ensures room { (vec_capacity notices.new ≡ vec_capacity notices.old) × (vec_len notices.new ≤ vec_len notices.old) }
+    ensures room { KeepsRoom notices.old notices.new }
 {
     if let Some(client) = gone {
         drop_all(notices, client);

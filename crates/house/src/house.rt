@@ -1,16 +1,20 @@
 //! The house: one lock, which any thread with a seat takes.
 ghost use Rattle.frame_ledger.specs.Shares.{HasAllParts, HasNoFrames, KeepsParts};
-ghost use Rattle.std.specs.Prelude.{◌≡◌, ◌↔◌, ◌+◌, ◌<◌, ◌≤◌, [], false, IfErr, IfOk, IfSome, OnErr, OnOk, length, vec_len, vec_capacity};
+ghost use Rattle.std.specs.Prelude.{◌≡◌, ◌↔◌, ◌<◌, ◌≤◌, [], false, if◌then◌else◌};
+ghost use Rattle.std.specs.Prelude.{IfErr, IfOk, IfSome, OnErr, OnOk, length, vec_len, vec_capacity};
 ghost use Rattle.held_player.specs.Blanks.{AreFor};
 ghost use Rattle.partition.specs.History.{Chronicle};
 ghost use Rattle.partition.specs.Legal.{IsPast};
 ghost use Rattle.player_events.specs.declared.event.Event.TheVariants.{End, Have};
-ghost use Rattle.held_player.specs.Lists.{StopsIn, TellsList};
+ghost use Rattle.held_player.specs.Lists.{HandsAll, StopsAmid};
 ghost use Rattle.held_player.specs.News.{event_of};
-ghost use Rattle.counted_player.specs.Seats.{after_events};
+ghost use Rattle.held_player.specs.Player.{LeavesShelf};
+ghost use Rattle.counted_player.specs.Seats.{IsUnused, after_events};
 ghost use Rattle.held_player.specs.Settling.{ClosesBooks};
-ghost use Rattle.counted_player.specs.Counts.{ArePlacesSomewhere, HasScanSomewhere, IsFresh, IsSongSomewhere, has_scan};
-ghost use Rattle.held_player.specs.Views.{IsUnwritten, RefusesSomewhere, TellsSomewhere, AnswersClient, StopsClient, turn_of, FeedsShare};
+ghost use Rattle.counted_player.specs.Counts.{ArePlacesSomewhere, HasScanSomewhere, IsFresh};
+ghost use Rattle.counted_player.specs.Counts.{IsByPlaying, IsSongSomewhere, has_scan};
+ghost use Rattle.held_player.specs.Views.{AnswersCaller, Feeds, RefusesSomewhere, StopsCaller};
+ghost use Rattle.held_player.specs.Views.{TellsSomewhere, turn_of};
 
 use command_lists::ListForm;
 use counted_player::{Decoded, Discarded, Ledgers, NoSeat, Seat, Written};
@@ -90,7 +94,7 @@ impl<L: Ledgers> House<L> {
     ///
     /// [`NoSeat`] where all four are given.
     pub fn seat(&self, rt: &impl Wait) -> Result<Seat<L>, NoSeat>
-        ensures { IfOk result (λ s. (s.number < 4) × (s.made ≡ 0)) }
+        ensures { IfOk result IsUnused }
     {
         self.held.lock(rt).seat()
     }
@@ -111,9 +115,9 @@ impl<L: Ledgers> House<L> {
         request: Request,
     ) -> Result<Answered, PartitionFault>
         ensures made { OnOk result (seat.new ≡ after_events seat.old 1) }
-        ensures fault { OnErr result ((seat.new ≡ seat.old) × IsUnwritten S.standing S.failed shelf.old shelf.new) }
-        ensures refused { IfErr result (StopsClient S.standing S.failed shelf.old shelf.new seat.old client request) }
-        ensures somewhere { IfOk result (AnswersClient S.standing S.failed shelf.old shelf.new seat.old client request) }
+        ensures fault { OnErr result ((seat.new ≡ seat.old) × LeavesShelf S.Shelf shelf.old shelf.new) }
+        ensures refused { IfErr result (StopsCaller S.Shelf shelf.old shelf.new seat.old client request) }
+        ensures somewhere { IfOk result (AnswersCaller S.Shelf shelf.old shelf.new seat.old client request) }
         ensures front { IfOk result (λ a. IfSome a.front (λ notice. notice.client ≡ client)) }
     {
         let (mut held, before) = self.take(rt);
@@ -138,9 +142,9 @@ impl<L: Ledgers> House<L> {
     ) -> Result<AnsweredList, ListFault>
         ensures made { IfOk result (λ a. seat.new ≡ after_events seat.old (length a.tolds)) }
         ensures done { IfErr result (λ stop. seat.new ≡ after_events seat.old stop.done) }
-        ensures somewhere { IfOk result (λ a. TellsList S.standing S.failed shelf.old shelf.new seat.old client form requests a.tolds) }
+        ensures somewhere { IfOk result (HandsAll S.Shelf shelf.old shelf.new seat.old client form requests) }
         ensures front { IfOk result (λ a. IfSome a.front (λ notice. notice.client ≡ client)) }
-        ensures stopped { IfErr result (StopsIn S.standing S.failed shelf.old shelf.new seat.old client form requests) }
+        ensures stopped { IfErr result (StopsAmid S.Shelf shelf.old shelf.new seat.old client form requests) }
     {
         let (mut held, before) = self.take(rt);
         let told = held.list(seat, shelf, client, form, requests);
@@ -161,8 +165,8 @@ impl<L: Ledgers> House<L> {
     ) -> Result<Reported, PartitionFault>
         ensures made { OnOk result (seat.new ≡ after_events seat.old 1) }
         ensures fault { OnErr result (seat.new ≡ seat.old) }
-        ensures refused { IfErr result (λ fault. RefusesSomewhere seat.old (event_of news) fault) }
-        ensures somewhere { IfOk result (λ told. TellsSomewhere seat.old (event_of news) told) }
+        ensures refused { IfErr result (RefusesSomewhere seat.old (event_of news)) }
+        ensures somewhere { IfOk result (TellsSomewhere seat.old (event_of news)) }
     {
         let (mut held, before) = self.take(rt);
         let told = held.notice(seat, news);
@@ -203,8 +207,8 @@ impl<L: Ledgers> House<L> {
     ) -> Result<Reported, PartitionFault>
         requires { 0 < share.old.parts }
         ensures made { OnOk result (seat.new ≡ after_events seat.old 1) }
-        ensures refused { IfErr result (λ fault. RefusesSomewhere seat.old (Have place number frames) fault) }
-        ensures somewhere { IfOk result (FeedsShare seat.old place number frames share.old.amount share.new.amount) }
+        ensures refused { IfErr result (RefusesSomewhere seat.old (Have place number frames)) }
+        ensures somewhere { IfOk result (Feeds seat.old place number frames share.old share.new) }
         ensures parts { share.new.parts ≡ share.old.parts }
         ensures fault { OnErr result ((seat.new ≡ seat.old) × (share.new ≡ share.old)) }
     {
@@ -267,7 +271,7 @@ impl<L: Ledgers> House<L> {
     pub fn end(&self, rt: &impl Wait, seat: &mut Seat<L>) -> Result<(), PartitionFault>
         ensures made { OnOk result (seat.new ≡ after_events seat.old 1) }
         ensures fault { OnErr result (seat.new ≡ seat.old) }
-        ensures refused { IfErr result (λ fault. RefusesSomewhere seat.old End fault) }
+        ensures refused { IfErr result (RefusesSomewhere seat.old End) }
     {
         let ended = self.held.lock(rt).end(seat);
         self.ring(Rung {
@@ -285,35 +289,40 @@ impl<L: Ledgers> House<L> {
     pub fn places(&self, rt: &impl Wait) -> [bool; 16]
         ensures { ArePlacesSomewhere result }
     {
-        self.held.lock(rt).places()
+        self.held.lock(rt).player().places()
     }
 
-    /// The song of the entry that has this id in the present queue of the partition of a number. It is no event.
+    /// The song of the entry that has this id in the present queue of the partition of a number. It is no
+    /// event.
     ///
-    /// A hint: the answer may be older than what the caller did since. But an id is given once, so that an older
-    /// answer names the same song, or none.
+    /// A hint: the answer may be older than what the caller did since. But an id is given once, so that an
+    /// older answer names the same song, or none.
     pub fn song(&self, rt: &impl Wait, place: u8, id: u32) -> Result<Option<SharedSong>, AllocError>
         ensures { IfOk result (IsSongSomewhere place id) }
     {
-        self.held.lock(rt).song(place, id)
+        self.held.lock(rt).player().song(place, id)
     }
 
     /// Whether the daemon has ended. It is no event.
     ///
-    /// A hint: the answer may be older than what the caller did since. But an end is for ever, so that a yes is
-    /// never too old, and a no costs the caller one more look.
+    /// A hint: the answer may be older than what the caller did since. But an end is for ever, so that a yes
+    /// is never too old, and a no costs the caller one more look.
     pub fn has_ended(&self, rt: &impl Wait) -> bool
         ensures { (past : Chronicle) × IsPast past × (result ≡ past.present.shared.ended) }
     {
-        self.held.lock(rt).has_ended()
+        self.held.lock(rt).player().has_ended()
     }
 
-    /// Rests until something changed since the house had changed so often, but no longer than a time: one while a
-    /// song is played, and another while none is. Answers how often it has changed by then.
+    /// Rests until something changed since the house had changed so often, but no longer than a time: one
+    /// while a song is played, and another while none is. Answers how often it has changed by then. It is no
+    /// event, and changes nothing.
     ///
     /// What changes is what a thread has something to do for
-    /// ([`Reported::changes`](held_player::Reported::changes)): which partitions there are, in each whether and
-    /// what is played and which outputs are enabled, frames that are fed, and the end.
+    /// ([`Reported::changes`](held_player::Reported::changes)): which partitions there are, in each whether
+    /// and what is played and which outputs are enabled, frames that are fed, and the end.
+    ///
+    /// A hint: the answer may be older than what others did since, and that a change ends the rest is tested.
+    /// A thread that rested too short or too long then asks by an event, which is answered of the present.
     pub fn rest<R: Wait + Clock>(
         &self,
         rt: &R,
@@ -321,8 +330,7 @@ impl<L: Ledgers> House<L> {
         while_playing: Duration,
         while_idle: Duration,
     ) -> u64 {
-        let plays = self.held.lock(rt).plays();
-        let most = if plays { while_playing } else { while_idle };
+        let most = self.longest_rest(rt, while_playing, while_idle);
         let (held, _is_late) = self.state_changed.wait_timeout_while(
             rt,
             self.held.lock(rt),
@@ -332,6 +340,22 @@ impl<L: Ledgers> House<L> {
         held.changes()
     }
 
+    /// How long a thread rests at most: one time where a song is played, and another where none is.
+    ///
+    /// A hint: the answer may be older than what the caller did since. A thread that rests too long for it is
+    /// woken by the change.
+    fn longest_rest(
+        &self,
+        rt: &impl Wait,
+        while_playing: Duration,
+        while_idle: Duration,
+    ) -> Duration
+        ensures { IsByPlaying while_playing while_idle result }
+    {
+        let plays = self.held.lock(rt).player().plays();
+        time_by(plays, while_playing, while_idle)
+    }
+
     /// Waits until a notice waits for a client, the daemon ends, or the time is up, and says whether a notice
     /// waits.
     pub fn await_notice<R: Wait + Clock>(&self, rt: &R, most: Duration) -> bool {
@@ -339,13 +363,13 @@ impl<L: Ledgers> House<L> {
             rt,
             self.held.lock(rt),
             most,
-            |held| !held.has_notices() && !held.has_ended(),
+            |held| !held.has_notices() && !held.player().has_ended(),
         );
         held.has_notices()
     }
 
-    /// Waits until a scan was asked for that has not ended, the daemon ends, or the time is up, and says whether
-    /// there is such a scan.
+    /// Waits until a scan was asked for that has not ended, the daemon ends, or the time is up, and says
+    /// whether there is such a scan.
     ///
     /// A hint: the scanner then asks by an event, which is answered of the present.
     pub fn await_scan<R: Wait + Clock>(&self, rt: &R, most: Duration) -> bool
@@ -355,9 +379,9 @@ impl<L: Ledgers> House<L> {
             rt,
             self.held.lock(rt),
             most,
-            |held| !held.scans() && !held.has_ended(),
+            |held| !held.player().scans() && !held.player().has_ended(),
         );
-        held.scans()
+        held.player().scans()
     }
 
     /// Takes the lock. With it comes how often what it holds had changed.
@@ -388,6 +412,13 @@ impl<L: Ledgers> House<L> {
     }
 }
 
+/// One time while a song is played, and another while none is.
+fn time_by(plays: bool, while_playing: Duration, while_idle: Duration) -> Duration
+    ensures { result ≡ (if plays then while_playing else while_idle) }
+{
+    if plays { while_playing } else { while_idle }
+}
+
 /// What is rung where the house had changed so often before a step.
 fn rung_since<L: Ledgers>(held: &Held<L>, before: u64) -> Rung
     ensures notices { (result.notices_wait ≡ false) ↔ (held.now.waiting ≡ []) }
@@ -396,6 +427,6 @@ fn rung_since<L: Ledgers>(held: &Held<L>, before: u64) -> Rung
     Rung {
         state_changed: held.changes() != before,
         notices_wait: held.has_notices(),
-        scan_runs: held.scans(),
+        scan_runs: held.player().scans(),
     }
 }

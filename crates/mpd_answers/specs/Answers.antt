@@ -1,6 +1,7 @@
 -- What the player of one thread may answer to what a client asks for (MPD protocol reference, Responses and
 -- Command lists).
-use Rattle.std.specs.Prelude.{◌≡◌, ◌⊎◌, ◌<◌, ◌≤◌, ◌+◌, ℕ, Bool, List, [], length, map, take, codes, Option, Some, None}
+use Rattle.std.specs.Prelude.{◌≡◌, ◌⊎◌, ◌<◌, ◌≤◌, ◌+◌, ℕ, Bool, List, [], ◌∷◌, ◌++◌, Option, Some, None}
+use Rattle.std.specs.Prelude.{codes, length, map, take}
 use Rattle.command_lists.specs.Lists.{LineData}
 use Rattle.command_lists.specs.declared.list.CommandList.{CommandList}
 use Rattle.command_lists.specs.declared.list.ListLine.{ListLine}
@@ -58,6 +59,10 @@ read_lines set lines = map (λ line. read_line set (line_of_list line)) lines
 abbrev pub IsRead : List ListLine → CommandSet → List Request → Option ℕ → Type 0
 IsRead lines set requests None = requests ≡ read_lines set lines
 IsRead lines set requests (Some place) = (requests ≡ take place (read_lines set lines)) × (place < length lines)
+
+-- the request of a line of a list stands after the others
+abbrev pub AddsRead : CommandSet → List Request → List Request → ListLine → Type 0
+AddsRead set old new line = new ≡ old ++ read_list_line set line ∷ []
 
 -- what stands after the answers of a list where all succeed: `OK`; or that there was no memory to read the
 -- line at this place

@@ -4,9 +4,11 @@ use Rattle.mpd_text.specs.Answers.Answer.{ack_line}
 use Rattle.partition.specs.Lists.{fault_text, next_after, stop_text, text_with}
 use Rattle.mpd_answers.specs.declared.owed.Owed.{Owed}
 use Rattle.mpd_answers.specs.declared.owed.Owed.TheVariants as owed
-use Rattle.mpd_answers.specs.Answers.{Answers, Caller, list_end}
+use Rattle.mpd_answers.specs.Answers.{Answers, Caller, caller, list_end}
 use Rattle.mpd_answers.specs.Output.{IsOwed}
-use Rattle.mpd_answers.specs.Requests.{Asking}
+use Rattle.mpd_answers.specs.Requests.{Asking, Single, Whole}
+use Rattle.command_lists.specs.Lists.{LineData}
+use Rattle.command_lists.specs.declared.list.CommandList.{CommandList}
 use Rattle.mpd_answers.specs.declared.asker.Asker.{Asker}
 use Rattle.transitions.specs.declared.reply.Next.{Next}
 use Rattle.transitions.specs.declared.reply.Next.TheVariants.{Goes, Waits}
@@ -14,6 +16,9 @@ use Rattle.held_player.specs.Lists.{HandedList}
 use Rattle.held_player.specs.Views.{Handed}
 use Rattle.shelf.specs.Calls.{Call}
 use Rattle.shelf.specs.Maps.{Standing}
+use Rattle.shelf.specs.declared.traits.Shelf.{Ghosts}
+use Rattle.counted_player.specs.Seats.{SeatCount}
+use Rattle.partition.specs.declared.partition.PartitionFault.{PartitionFault}
 use Rattle.mpd_answers.specs.Notices.{notice_bytes, notice_text}
 
 -- the answer to a line, and that to a list, after the notice that waited
@@ -62,3 +67,19 @@ Grows old new = (more : List ℕ) × (new ≡ old ++ more)
 abbrev pub IsOwedFor : {S : Type 0} → (S → Standing) → (S → S → Call → Type 0) → Asker → Caller S → Asking → Owed → Caller S → Type 0
 IsOwedFor standing failed asker before one owed after =
     IsOwed (Answers standing failed asker) before one (owed_bytes owed) (next_by owed) after
+
+-- the same, where the caller had this seat and this shelf before, and those after
+abbrev pub Owes : {S : Type 0} → Ghosts S → Asker → SeatCount → S → Asking → Owed → SeatCount → S → Type 0
+Owes shelf asker seat old one owed seat' new =
+    IsOwedFor shelf.standing shelf.failed asker (caller seat old) one owed (caller seat' new)
+
+-- the same of a line that is in no list, and of a whole list
+abbrev pub OwesLine : {S : Type 0} → Ghosts S → Asker → SeatCount → S → LineData → Owed → SeatCount → S → Type 0
+OwesLine shelf asker seat old line owed seat' new = Owes shelf asker seat old (Single line) owed seat' new
+
+abbrev pub OwesList : {S : Type 0} → Ghosts S → Asker → SeatCount → S → CommandList → Owed → SeatCount → S → Type 0
+OwesList shelf asker seat old list owed seat' new = Owes shelf asker seat old (Whole list) owed seat' new
+
+-- the line that says why a command made no event stands after other bytes
+abbrev pub AddsFault : List ℕ → List ℕ → List ℕ → PartitionFault → Type 0
+AddsFault old new command fault = new ≡ old ++ ack_line 52 0 command (fault_text fault)

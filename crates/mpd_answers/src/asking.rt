@@ -1,9 +1,9 @@
 //! What a session asks the house.
-ghost use Rattle.std.specs.Prelude.{◌≡◌, ◌++◌, ◌∷◌, [], IfOk, OnErr, OnOk};
+ghost use Rattle.std.specs.Prelude.{◌≡◌, IfOk, OnErr, OnOk};
 ghost use Rattle.std.specs.Option.{option_copied};
-ghost use Rattle.mpd_answers.specs.Answers.{IsRead, caller, read_line as read_line_of, read_list_line};
-ghost use Rattle.mpd_answers.specs.Owing.{IsOwedFor};
-ghost use Rattle.mpd_answers.specs.Requests.{Single, Whole, asking_of};
+ghost use Rattle.mpd_answers.specs.Answers.{AddsRead, IsRead, read_line as read_line_of};
+ghost use Rattle.mpd_answers.specs.Owing.{Owes, OwesLine, OwesList};
+ghost use Rattle.mpd_answers.specs.Requests.{asking_of};
 
 use crate::asker::Asker;
 use crate::gatherer::{ClientRequest, text_of};
@@ -28,8 +28,7 @@ pub fn ask<L: Ledgers, S: Shelf, R: Wait>(
     asker: Asker,
     asked: &ClientRequest,
 ) -> Owed
-    ensures { IsOwedFor S.standing S.failed asker (caller seat.old shelf.old)
-        (asking_of asked.now) result (caller seat.new shelf.new) }
+    ensures { Owes S.Shelf asker seat.old shelf.old (asking_of asked.now) result seat.new shelf.new }
 {
     match asked {
         ClientRequest::Single(line) => ask_line(
@@ -56,8 +55,7 @@ fn ask_line<L: Ledgers, S: Shelf, R: Wait>(
     asker: Asker,
     line: Option<&str>,
 ) -> Owed
-    ensures { IsOwedFor S.standing S.failed asker (caller seat.old shelf.old)
-        (Single (option_copied line.entry)) result (caller seat.new shelf.new) }
+    ensures { OwesLine S.Shelf asker seat.old shelf.old (option_copied line.entry) result seat.new shelf.new }
 {
     let Ok(request) = read_line(alloc, asker.commands, line) else {
         return Owed::LineFault("", PartitionFault::NoMemory);
@@ -79,8 +77,7 @@ fn ask_list<L: Ledgers, S: Shelf, R: Wait>(
     asker: Asker,
     list: &CommandList,
 ) -> Owed
-    ensures { IsOwedFor S.standing S.failed asker (caller seat.old shelf.old)
-        (Whole list.now) result (caller seat.new shelf.new) }
+    ensures { OwesList S.Shelf asker seat.old shelf.old list.now result seat.new shelf.new }
 {
     let lines = list.lines.items();
     if lines.is_empty() {
@@ -127,7 +124,7 @@ fn push_request(
     requests: &mut Vec<Request>,
     line: &ListLine,
 ) -> Result<(), AllocError>
-    ensures ok { OnOk result (requests.new.items ≡ requests.old.items ++ read_list_line set line.now ∷ []) }
+    ensures ok { OnOk result (AddsRead set requests.old.items requests.new.items line.now) }
     ensures err { OnErr result (requests.new.items ≡ requests.old.items) }
 {
     let text = match line {

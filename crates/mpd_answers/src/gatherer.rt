@@ -37,7 +37,8 @@ impl Model for Gatherer {
 }
 
 impl Gatherer {
-    ghost use Rattle.std.specs.Prelude.{◌≡◌, ◌+◌, ◌⊎◌, [], None, false, length, OnOk, OnErr, IfOk, IfSome};
+    ghost use Rattle.std.specs.Prelude.{◌≡◌, ◌+◌, ◌⊎◌, [], None, false};
+    ghost use Rattle.std.specs.Prelude.{IfOk, IfSome, OnErr, OnOk, length};
     ghost use Rattle.mpd_text.specs.Lines.Split.{views};
     ghost use Rattle.mpd_answers.specs.Requests.{Within, TakesFirst, is_over as is_over_in};
 

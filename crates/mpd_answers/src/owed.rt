@@ -1,11 +1,9 @@
 //! What a session owes its client and has not yet put after its unsent bytes, for want of memory.
 ghost use Rattle.std.specs.Prelude.{◌≡◌, ◌++◌, false, IfOk, OnErr, OnOk};
-ghost use Rattle.mpd_text.specs.Answers.Answer.{ack_line};
-ghost use Rattle.partition.specs.Lists.{fault_text};
 ghost use Rattle.mpd_answers.specs.Answers.{list_end};
 ghost use Rattle.mpd_answers.specs.Notices.{notice_bytes, notice_text};
-ghost use Rattle.mpd_answers.specs.Owing.{Grows, line_bytes, list_bytes, next_by, owed_bytes, waits_after};
-ghost use Rattle.mpd_answers.specs.Owing.{is_nothing as is_nothing_lem};
+ghost use Rattle.mpd_answers.specs.Owing.{AddsFault, Grows, line_bytes, list_bytes, next_by, owed_bytes};
+ghost use Rattle.mpd_answers.specs.Owing.{is_nothing as is_nothing_lem, waits_after};
 
 use held_player::{Answered, AnsweredList};
 use idle_clients::Notice;
@@ -190,8 +188,7 @@ fn push_fault(
     fault: PartitionFault,
     bytes: &mut Vec<u8>,
 ) -> Result<(), AllocError>
-    ensures ok { OnOk result
-        (bytes.new.items ≡ bytes.old.items ++ ack_line 52 0 command.now (fault_text fault)) }
+    ensures ok { OnOk result (AddsFault bytes.old.items bytes.new.items command.now fault) }
     ensures err { OnErr result (bytes.new.items ≡ bytes.old.items) }
 {
     let mut answer = Answer::new(alloc);

@@ -28,6 +28,10 @@ EndsByReader _ old new = HearsOn old new
 abbrev pub NeverFails : CallCounts → CallCounts → Type 0
 NeverFails old new = new.failures ≡ old.failures
 
+-- a session that stays open had no call of its writer fail
+abbrev pub StaysSound : Option End → CallCounts → CallCounts → Type 0
+StaysSound ended old new = ended ≡ None → NeverFails old new
+
 -- Nothing more is written to a session's client.
 abbrev pub is_given_up : Option End → Bool
 is_given_up (Some Unsent) = true

@@ -196,6 +196,10 @@ StaysClosed old written new written' = (new.pending ≡ old.pending) × (new.end
 abbrev pub IsWithinLimits : Held → Type 0
 IsWithinLimits held = (held.pending.next ≢ None) × (is_over held.pending.list ≡ false) × (length held.unsent ≤ 16777216)
 
+-- a session that was closed asks its reader no more
+abbrev pub ReadsNoMore : Held → CallCounts → CallCounts → Type 0
+ReadsNoMore held old new = held.ended ≢ None → new ≡ old
+
 -- an open session that has run all lines that came
 abbrev pub HasRunAll : Held → Type 0
 HasRunAll held = (held.ended ≡ None) × (held.pending.lines ≡ []) × (held.pending.piece ≡ [])
@@ -319,6 +323,10 @@ ReadsInto old unread new unread' = ReadsOn (held_of old) unread (held_of new) un
 -- a session is closed for its writer's fault only where it was before, or where that failed
 abbrev pub FailsAsItsWriter : Conversation → Conversation → CallCounts → CallCounts → Type 0
 FailsAsItsWriter old new calls calls' = new.ended ≡ Some WriteFault → (old.ended ≡ Some WriteFault) ⊎ HasFailedSince calls calls'
+
+-- a write ends a session for its writer's fault only where it was ended for that before, or the writer failed
+abbrev pub FailsOnlyBy : Bool → Option End → Option End → Type 0
+FailsOnlyBy failed old new = new ≡ Some WriteFault → (old ≡ Some WriteFault) ⊎ (failed ≡ true)
 
 -- a read of nothing may end a session, by its peer or by a fault
 abbrev pub EndsWithoutBytes : ℕ → Option End → Type 0

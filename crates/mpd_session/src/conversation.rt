@@ -10,8 +10,8 @@
 //! for the next turn: a line is run once, whatever becomes of its answer. No more is read while lines wait,
 //! and no more is run while the client takes too little, so one that asks and never reads costs a bounded
 //! piece of memory, and is closed.
-ghost use Rattle.std.specs.Prelude.{◌≡◌, ◌≢◌, ◌++◌, ◌<◌, ◌≤◌, ◌+◌, ◌⊎◌, [], length, take, map};
-ghost use Rattle.std.specs.Prelude.{Some, None, true, false, OnOk, OnErr, IfOk, is_ok};
+ghost use Rattle.std.specs.Prelude.{◌≡◌, ◌≢◌, ◌<◌, ◌≤◌, ◌+◌, ◌⊎◌, []};
+ghost use Rattle.std.specs.Prelude.{Some, None, true, false, OnOk, OnErr, IfOk, is_ok, length, map, take};
 ghost use Rattle.std.specs.Io.KnownBytes.{Appends, Consumes};
 ghost use Rattle.mpd_text.specs.Lines.Split.{views, line_of};
 ghost use Rattle.mpd_text.specs.Lines.Cut.{split_from};
@@ -20,10 +20,10 @@ ghost use Rattle.mpd_answers.specs.Owing.{is_nothing, waits_after};
 ghost use Rattle.mpd_answers.specs.Requests.{is_over};
 ghost use Rattle.mpd_session.specs.declared.end.End.{End};
 ghost use Rattle.counted_devices.specs.CallCounts.{HasFailed};
-ghost use Rattle.mpd_session.specs.Devices.{EndsByReader, NeverFails, ReadEnds, WritesOut};
+ghost use Rattle.mpd_session.specs.Devices.{EndsByReader, NeverFails, ReadEnds, StaysSound, WritesOut};
 ghost use Rattle.mpd_session.specs.Devices.{is_given_up as is_given_up_lem};
 ghost use Rattle.mpd_session.specs.Sessions.{Blames, BlamesNone, BlamesReader, BlamesWriter, HasFailedSince};
-ghost use Rattle.mpd_session.specs.Sessions.{EndsByWrite, EndsForLongLine, EndsWithoutBytes};
+ghost use Rattle.mpd_session.specs.Sessions.{EndsByWrite, EndsForLongLine, EndsWithoutBytes, FailsOnlyBy};
 ghost use Rattle.mpd_session.specs.Sessions.{FailsAsItsWriter, HasMore, HasNoLongLine, HasPiece, StopsShort};
 ghost use Rattle.mpd_session.specs.Sessions.{KeepsAllButRead, KeepsAllButSplit, KeepsAllButTold, ReadsInto};
 ghost use Rattle.mpd_session.specs.Sessions.{Runs, Says, Sends, TellsOf, Turns};
@@ -114,8 +114,7 @@ impl Conversation {
             (I.call_counts reader.old) (I.call_counts reader.new)
             (O.call_counts writer.old) (O.call_counts writer.new) }
         ensures reader { EndsByReader self.new.ended (I.call_counts reader.old) (I.call_counts reader.new) }
-        ensures sound { self.new.ended ≡ None →
-            NeverFails (O.call_counts writer.old) (O.call_counts writer.new) }
+        ensures sound { StaysSound self.new.ended (O.call_counts writer.old) (O.call_counts writer.new) }
     {
         self.settle()?;
         self.tell(rt, house)?;
@@ -232,8 +231,7 @@ impl Conversation {
         ensures all { OnOk result (self.new.ended ≡ None → self.new.lines.items ≡ []) }
         ensures calm { (O.call_counts writer.old).failures ≤ (O.call_counts writer.new).failures }
         ensures blamed { BlamesWriter self.new.ended (O.call_counts writer.old) (O.call_counts writer.new) }
-        ensures sound { self.new.ended ≡ None →
-            NeverFails (O.call_counts writer.old) (O.call_counts writer.new) }
+        ensures sound { StaysSound self.new.ended (O.call_counts writer.old) (O.call_counts writer.new) }
     {
         while self.has_work() {
             self.step(rt, house, seat, shelf)?;
@@ -309,8 +307,7 @@ impl Conversation {
         ensures failed { FailsAsItsWriter self.old self.new
             (O.call_counts writer.old) (O.call_counts writer.new) }
         ensures calm { (O.call_counts writer.old).failures ≤ (O.call_counts writer.new).failures }
-        ensures sound { self.new.ended ≡ None →
-            NeverFails (O.call_counts writer.old) (O.call_counts writer.new) }
+        ensures sound { StaysSound self.new.ended (O.call_counts writer.old) (O.call_counts writer.new) }
         ensures writes { WritesOut self.new.ended self.new.unsent
             (O.call_counts writer.old) (O.call_counts writer.new) }
     {
@@ -426,7 +423,7 @@ fn end_after(ended: Option<End>, failed: bool, left: &[u8]) -> Option<End>
     ensures stays { result ≡ None → ended ≡ None }
     ensures few { result ≡ None → length left.now ≤ 16777216 }
     ensures end { EndsByWrite ended result left.now }
-    ensures failed { result ≡ Some End.WriteFault → (ended ≡ Some End.WriteFault) ⊎ (failed ≡ true) }
+    ensures failed { FailsOnlyBy failed ended result }
     ensures fails { failed ≡ true → ended ≡ None → result ≡ Some End.WriteFault }
 {
     if ended.is_some() {

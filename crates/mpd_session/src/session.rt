@@ -39,10 +39,11 @@ impl Model for Session {
 impl Session {
     ghost use Rattle.std.specs.Prelude.{◌≡◌, ◌≢◌, None, Ok, false, IfOk};
     ghost use Rattle.mpd_answers.specs.Answers.{Answers};
-    ghost use Rattle.mpd_session.specs.Devices.{EndsByReader, NeverFails};
+    ghost use Rattle.mpd_session.specs.Devices.{EndsByReader, StaysSound};
     ghost use Rattle.mpd_session.specs.Ends.{TellsEnd};
     ghost use Rattle.mpd_session.specs.Sessions.{Blames, GoesOnUnlessShort, HasRunAll, IsWithinLimits};
-    ghost use Rattle.mpd_session.specs.Sessions.{StaysClosed, Turns, WritesAll, new_session, side};
+    ghost use Rattle.mpd_session.specs.Sessions.{ReadsNoMore, StaysClosed, Turns, WritesAll, new_session};
+    ghost use Rattle.mpd_session.specs.Sessions.{side};
     ghost use Rattle.mpd_session.specs.Sessions.{has_unsent as has_unsent_lem, may_wait as may_wait_lem};
 
     /// The session of a client that the player let in, and what it was greeted with. Nothing was read, and
@@ -128,9 +129,8 @@ impl Session {
             (O.call_counts writer.old) (O.call_counts writer.new) }
         ensures reader { self.old.held.ended ≡ None → EndsByReader self.new.held.ended
             (I.call_counts reader.old) (I.call_counts reader.new) }
-        ensures unread { self.old.held.ended ≢ None → I.call_counts reader.new ≡ I.call_counts reader.old }
-        ensures sound { self.new.held.ended ≡ None →
-            NeverFails (O.call_counts writer.old) (O.call_counts writer.new) }
+        ensures unread { ReadsNoMore self.old.held (I.call_counts reader.old) (I.call_counts reader.new) }
+        ensures sound { StaysSound self.new.held.ended (O.call_counts writer.old) (O.call_counts writer.new) }
         ensures writes { self.old.held.ended ≢ None →
             WritesAll self.new (O.call_counts writer.old) (O.call_counts writer.new) }
     {

@@ -27,7 +27,8 @@ impl Model for Unsent {
 }
 
 impl Unsent {
-    ghost use Rattle.std.specs.Prelude.{◌≡◌, ◌≤◌, ◌++◌, drop, length, false, IfOk, OnErr, OnOk};
+    ghost use Rattle.std.specs.Prelude.{◌≡◌, ◌≤◌, ◌++◌, drop, false, length, IfOk};
+    ghost use Rattle.std.specs.Prelude.{OnErr, OnOk};
     ghost use Rattle.mpd_answers.specs.Owing.{is_nothing, owed_bytes};
 
     pub(crate) fn of(alloc: Global, bytes: &[u8]) -> Result<Unsent, AllocError>

@@ -1,7 +1,9 @@
 -- What went into a ring, and what came out (this profile's).
-use Rattle.std.specs.Prelude.{ℕ, ◌≡◌, List, ◌++◌, nat_lt, replicate, if◌then◌else◌}
+use Rattle.std.specs.Prelude.{ℕ, ℤ, ◌≡◌, List, ◌++◌, nat_lt, replicate, if◌then◌else◌}
 use Rattle.rtrb.specs.Ring.{sent, received, known_items, known_free, IsPair, all_sent, IsFinishedOf, Finishes, SameProducer, SameConsumer}
 use Rattle.rtrb.specs.Ends.{SameRing}
+use mathlib.Core.List.{IsPrefix}
+use Rattle.output_ring.specs.Frames.{with_cut}
 use Rattle.output_ring.specs.Runs.{cuts_of, paired}
 use Rattle.output_ring.specs.declared.frames.CutFrame.{CutFrame}
 use Rattle.output_ring.specs.declared.inlet.Inlet.{Inlet}
@@ -23,6 +25,14 @@ popped_from o = paired (cuts_of (received o.runs)) (received o.frames)
 -- the frames that are known to be in the ring: those whose run is known
 abbrev pub known_in : Outlet → List CutFrame
 known_in o = paired (replicate o.rest o.cut ++ cuts_of (known_items o.runs)) (known_items o.frames)
+
+-- these frames of one run came out, behind all before
+abbrev pub ComeOut : Outlet → Outlet → List (List ℤ) → Type 0
+ComeOut old new frames = popped_from new ≡ popped_from old ++ with_cut new.cut frames
+
+-- what was known to be in the ring is these frames of one run, and then frames that are known now
+abbrev pub WereKnown : Outlet → Outlet → List (List ℤ) → Type 0
+WereKnown old new frames = IsPrefix (known_in old) (with_cut new.cut frames ++ known_in new)
 
 -- with the token, every frame that went in
 abbrev pub end_sent : InletEnd → List CutFrame

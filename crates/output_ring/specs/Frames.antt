@@ -1,5 +1,5 @@
 -- Frames, and what becomes of them at an output (this profile's).
-use Rattle.std.specs.Prelude.{Result, Ok, Err, ℕ, ℤ, ◌≡◌, ◌+◌, ◌<◌, ◌==◌, Bool, ◌&&◌, ◌||◌, List, ◌++◌, Option, length, map, take, drop, filter, nat_le, nat_lt}
+use Rattle.std.specs.Prelude.{Result, Ok, Err, ℕ, ℤ, ◌≡◌, ◌+◌, ◌<◌, ◌≤◌, ◌==◌, Bool, ◌&&◌, ◌||◌, List, ◌++◌, Option, length, map, take, drop, filter, nat_le, nat_lt}
 use Rattle.std.specs.List.{flat_map}
 use Rattle.std.specs.Io.KnownBytes.{Appends}
 use Rattle.pcm_mix.specs.Layouts.{frame_bytes}
@@ -34,6 +34,14 @@ is_since_move live item = nat_le live.cut.moves item.cut.moves
 abbrev pub heard : Live → List CutFrame → List (List ℤ)
 heard live items = map (λ item. item.frame) (filter (is_heard live) items)
 
+-- no frame is heard of a block that was accepted before the output was last moved
+abbrev pub HearsSinceMove : Live → List CutFrame → Type 0
+HearsSinceMove live items = heard live items ≡ heard live (filter (is_since_move live) items)
+
+-- of frames of one cut those that are written, in order
+abbrev pub heard_run : Live → Cut → List (List ℤ) → List (List ℤ)
+heard_run live cut frames = heard live (with_cut cut frames)
+
 -- the frames that came into the slots after the first `held`
 abbrev pub came_into : List (List ℤ) → ℕ → ℕ → List (List ℤ)
 came_into slots held count = take count (drop held slots)
@@ -62,6 +70,14 @@ no_fates = fates 0 0
 
 abbrev pub no_totals : Totals
 no_totals = record { written = 0; discarded = 0; torn = 0 }
+
+-- how many frames were written or discarded
+abbrev pub settled : Totals → ℕ
+settled totals = totals.written + totals.discarded
+
+-- the fates are among those of the totals
+abbrev pub AreAmong : Fates → Totals → Type 0
+AreAmong f totals = (f.written ≤ totals.written) × (f.discarded ≤ totals.discarded)
 
 -- the sums of both
 abbrev pub both : Fates → Fates → Fates

@@ -2,7 +2,7 @@
 use Rattle.std.specs.Prelude.{ℕ, ℤ, ◌≡◌, ◌+◌, ◌-◌, ◌^◌, ◌<◌, ◌≤◌, Bool, false, List, [], ◌++◌, take, drop, length, IfSome}
 use mathlib.Core.List.{IsPrefix}
 use Rattle.output_ring.specs.Ends.{sent_in, room_in, popped_from, known_in, end_sent, ArePair, ArePairAfter, IsTokenOf, SameInlet, SameOutlet}
-use Rattle.output_ring.specs.Frames.{fates, heard, no_fates, no_totals, with_cut}
+use Rattle.output_ring.specs.Frames.{both, fates, heard, no_fates, no_totals, with_cut}
 use Rattle.output_ring.specs.Runs.{cuts_of, paired}
 use Rattle.output_ring.specs.declared.frames.CutFrame.{CutFrame}
 use Rattle.output_ring.specs.declared.frames.Fates.{Fates}
@@ -80,6 +80,14 @@ heard_of live d = heard live (hand_of d)
 abbrev pub hand_fates : Drainer → ℕ → Fates
 hand_fates d written = fates written (length (hand_of d) - written)
 
+-- these fates are still to be reported, beside those before
+abbrev pub AddsUnreported : Drainer → Drainer → Fates → Type 0
+AddsUnreported old new f = unreported_of new ≡ both (unreported_of old) f
+
+-- nothing was taken, and nothing is owed; so many frames are known to have room
+abbrev pub HasTakenNothing : Feeder → ℕ → Type 0
+HasTakenNothing f capacity = (taken_of f ≡ []) × (owed_of f ≡ []) × (room_of f ≡ capacity)
+
 -- no frame was popped, and none is in the hand or known to be in the ring; the hand can hold so many
 abbrev pub HasNoFrames : Drainer → ℕ → Type 0
 HasNoFrames d hand = (popped_of d ≡ []) × (hand_of d ≡ []) × (ring_of d ≡ []) × (most_of d ≡ hand)
@@ -103,6 +111,14 @@ CanPop d = length (popped_of d) < 2 ^ 64 - 1
 -- with all frames that are known to be in the ring, fewer than 2^64 are popped in all
 abbrev pub CanPopRing : Drainer → Type 0
 CanPopRing d = length (popped_of d) + length (ring_of d) < 2 ^ 64
+
+-- so many frames are all that were known to be in the ring, where the hand had room for them
+abbrev pub PopsAllKnown : Drainer → ℕ → Type 0
+PopsAllKnown old count = HandHasRoomForRing old → CanPopRing old → length (ring_of old) ≤ count
+
+-- no more frames are known to be in the ring, where the hand has room for one
+abbrev pub KnowsNoMore : Drainer → Type 0
+KnowsNoMore d = HandHasRoom d → CanPop d → ring_of d ≡ []
 
 -- no frame got its fate: the fates and their counts, the hand's size and a failure stay
 abbrev pub KeepsFates : Drainer → Drainer → Type 0

@@ -8,6 +8,10 @@ use Rattle.output_ring.specs.declared.drainer.Drainer.{Drainer}
 use Rattle.output_ring.specs.Frames.{bytes_of, fates, no_fates, StopsInside}
 use Rattle.output_ring.specs.Rings.{hand_of, hand_fates, has_failed, heard_of}
 
+-- where a writer failed before, this holds
+abbrev pub OnFault : Drainer → Type 0 → Type 0
+OnFault old P = has_failed old ≡ true → P
+
 -- where no writer failed before, and the output is paused or at the end, this holds
 abbrev pub OnHold : Drainer → Live → Type 0 → Type 0
 OnHold old live P = has_failed old ≡ false → (live.paused || live.ended) ≡ true → P

@@ -1,9 +1,9 @@
 //! The end of a ring that an output drains.
-ghost use mathlib.Core.List.{IsPrefix};
-ghost use Rattle.std.specs.Prelude.{◌≡◌, ◌+◌, ◌^◌, ◌<◌, ◌≤◌, [], ◌++◌, length, take, drop, vec_len, vec_capacity};
-ghost use Rattle.output_ring.specs.Ends.{known_in, popped_from, SameOutlet};
-ghost use Rattle.output_ring.specs.Frames.{came_into, with_cut};
-ghost use Rattle.output_ring.specs.Runs.{cuts_of, paired};
+ghost use Rattle.std.specs.Prelude.{◌≡◌, ◌+◌, ◌^◌, ◌<◌, ◌≤◌, [], ◌++◌};
+ghost use Rattle.std.specs.Prelude.{length, take, drop, vec_len, vec_capacity};
+ghost use Rattle.output_ring.specs.Ends.{known_in, popped_from, ComeOut, SameOutlet, WereKnown};
+ghost use Rattle.output_ring.specs.Frames.{came_into, settled, AreAmong};
+ghost use Rattle.output_ring.specs.Runs.{cuts_of, first_in};
 ghost use Rattle.output_ring.specs.Sending.{HasRoom};
 
 use crate::feeder::{Feeder, FeederEnd};
@@ -35,12 +35,12 @@ pub struct Drainer {
     ghost within: { held ≤ vec_len slots },
     ghost runs_room: { (vec_len runs ≤ held) × (vec_len slots ≤ vec_capacity runs) },
     ghost runs_are: { length (cuts_of runs.items) ≡ held },
-    ghost hand_long: { length (paired (cuts_of runs.items) (take held slots.items)) ≡ held },
-    ghost counted: { (totals.written + totals.discarded) + held ≡ length (popped_from outlet) },
-    ghost bounded: { (totals.written + totals.discarded) + held < 2 ^ 64 },
-    ghost unreported_within: { (unreported.written ≤ totals.written) × (unreported.discarded ≤ totals.discarded) },
+    ghost hand_long: { length (first_in runs.items slots.items held) ≡ held },
+    ghost counted: { settled totals + held ≡ length (popped_from outlet) },
+    ghost bounded: { settled totals + held < 2 ^ 64 },
+    ghost unreported_within: { AreAmong unreported totals },
     ghost torn: { totals.torn < 4 },
-    ghost hand_is: { paired (cuts_of runs.items) (take held slots.items) ≡ drop (totals.written + totals.discarded) (popped_from outlet) },
+    ghost hand_is: { first_in runs.items slots.items held ≡ drop (settled totals) (popped_from outlet) },
 }
 
 impl Drop for Drainer {
@@ -61,15 +61,24 @@ impl Drop for Drainer {
 impl Drainer {
     ghost use mathlib.Core.List.{IsPrefix};
     ghost use Rattle.output_ring.specs.Ends.{popped_from};
-    ghost use Rattle.std.specs.Prelude.{◌≡◌, ◌+◌, ◌^◌, ◌<◌, ◌≤◌, [], ◌++◌, filter, IfOk, IfSome, IsSome, MatchResult, ◌||◌, ◌↔◌, is_err, OnErr, length, true};
+    ghost use Rattle.std.specs.Prelude.{◌≡◌, ◌+◌, ◌^◌, ◌<◌, ◌≤◌, [], ◌++◌};
+    ghost use Rattle.std.specs.Prelude.{◌||◌, ◌↔◌, IfOk, IfSome, IsSome, MatchResult};
+    ghost use Rattle.std.specs.Prelude.{OnErr, is_err, length};
     ghost use Rattle.counted_devices.specs.CallCounts.{HasFailed};
-    ghost use Rattle.output_ring.specs.Frames.{heard, is_since_move, no_fates, both, counted, totals_after, fates_in};
-    ghost use Rattle.output_ring.specs.Rings.{taken_of, owed_of, fates_of, popped_of, came_of, hand_of, most_of, ring_of, totals_of, unreported_of, has_failed, accounted_of, hand_fates, HasNoFates, HandHasRoom, HandHasRoomForRing, CanPop, CanPopRing, KeepsFates, KeepsPopped, KeepsAllButReport, KeepsAllButRing, KeepsFeeder, AreEnds, AreEndsAfter, AccountsForAll, end_owed, SameDrainer, Comes};
-    ghost use Rattle.output_ring.specs.Turns.{OnHold, OnPlay, DiscardsHand, KeepsHand, WritesHand, FailsInHand};
+    ghost use Rattle.output_ring.specs.Frames.{HearsSinceMove, no_fates, counted, totals_after, fates_in};
+    ghost use Rattle.output_ring.specs.Rings.{taken_of, owed_of, fates_of, popped_of, came_of, hand_of};
+    ghost use Rattle.output_ring.specs.Rings.{most_of, ring_of, totals_of, unreported_of, has_failed};
+    ghost use Rattle.output_ring.specs.Rings.{accounted_of, hand_fates, end_owed, AddsUnreported, HasNoFates};
+    ghost use Rattle.output_ring.specs.Rings.{PopsAllKnown, KnowsNoMore, KeepsFates, KeepsPopped};
+    ghost use Rattle.output_ring.specs.Rings.{KeepsAllButReport, KeepsAllButRing, KeepsFeeder, AreEnds, AreEndsAfter};
+    ghost use Rattle.output_ring.specs.Rings.{AccountsForAll, SameDrainer, Comes};
+    ghost use Rattle.output_ring.specs.Turns.{OnFault, OnHold, OnPlay};
+    ghost use Rattle.output_ring.specs.Turns.{DiscardsHand, KeepsHand, WritesHand, FailsInHand};
 
     pub(crate) fn new(alloc: Global, outlet: Outlet, most: usize) -> Result<Drainer, AllocError>
         requires { popped_from outlet ≡ [] }
-        ensures { IfOk result (λ d. (d.outlet ≡ outlet) × (hand_of d ≡ []) × (most_of d ≡ most) × HasNoFates d) }
+        ensures outlet { IfOk result (λ d. d.outlet ≡ outlet) }
+        ensures empty { IfOk result (λ d. (hand_of d ≡ []) × (most_of d ≡ most) × HasNoFates d) }
     {
         let mut slots: Vec<Frame> = Vec::new(alloc);
         slots.resize(most, [0, 0])?;
@@ -102,8 +111,8 @@ impl Drainer {
         // The known frames come first, all that have room in the hand, and it stops only where no more are
         // known.
         ensures known { IsPrefix (ring_of self.old) (came_of self.old self.new ++ ring_of self.new) }
-        ensures all { HandHasRoomForRing self.old → CanPopRing self.old → length (ring_of self.old) ≤ result }
-        ensures stops { HandHasRoom self.new → CanPop self.new → ring_of self.new ≡ [] }
+        ensures all { PopsAllKnown self.old result }
+        ensures stops { KnowsNoMore self.new }
         ensures order { popped_of self.new ≡ fates_of self.new ++ hand_of self.new }
         ensures kept { KeepsFates self.old self.new }
         ensures ring { SameDrainer self.old self.new }
@@ -122,7 +131,7 @@ impl Drainer {
     fn pop_run(&mut self) -> usize
         ensures comes { Comes self.old self.new }
         ensures count { result ≡ length (came_of self.old self.new) }
-        ensures stops { result ≡ 0 → HandHasRoom self.new → CanPop self.new → ring_of self.new ≡ [] }
+        ensures stops { result ≡ 0 → KnowsNoMore self.new }
         ensures order { popped_of self.new ≡ fates_of self.new ++ hand_of self.new }
     {
         let popped = self.totals.written + self.totals.discarded + self.held as u64;
@@ -144,21 +153,21 @@ impl Drainer {
     /// where the output is enabled and the frame's cut is at least the live one, and discarded otherwise.
     #[tactic(auto, using(crate::proofs::Moves::heard_since))]
     pub fn write_out<W: Sink>(&mut self, writer: &mut W, live: Live) -> Result<Fates, WriteFault>
-        ensures after_fault { has_failed self.old ≡ true → DiscardsHand self.old self.new writer.old writer.new result }
+        ensures after_fault { OnFault self.old (DiscardsHand self.old self.new writer.old writer.new result) }
         ensures held { OnHold self.old live (KeepsHand self.old self.new writer.old writer.new result) }
         ensures played { OnPlay self.old live ((hand_of self.new ≡ []) × MatchResult result
             (λ f. WritesHand live self.old (W.contents writer.old) (W.contents writer.new) f)
             (λ e. FailsInHand live self.old (W.contents writer.old) (W.contents writer.new) e)) }
 
         // No frame is heard of a block that was accepted before the output was last moved.
-        ensures moved { heard live (hand_of self.old) ≡ heard live (filter (is_since_move live) (hand_of self.old)) }
+        ensures moved { HearsSinceMove live (hand_of self.old) }
 
         // Only a failure of this writer during this call is a fault.
         ensures fault { OnErr result (HasFailed (W.call_counts writer.old) (W.call_counts writer.new)) }
         ensures failed { has_failed self.new ≡ (has_failed self.old || is_err result) }
 
         ensures totals { totals_of self.new ≡ totals_after (totals_of self.old) result }
-        ensures unreported { unreported_of self.new ≡ both (unreported_of self.old) (fates_in result) }
+        ensures unreported { AddsUnreported self.old self.new (fates_in result) }
         ensures order { popped_of self.new ≡ fates_of self.new ++ hand_of self.new }
         ensures kept { KeepsPopped self.old self.new }
         ensures ring { SameDrainer self.old self.new }
@@ -188,7 +197,7 @@ impl Drainer {
         ensures result { result ≡ hand_fates self.old written }
         ensures hand { hand_of self.new ≡ [] }
         ensures totals { totals_of self.new ≡ counted (totals_of self.old) (hand_fates self.old written) }
-        ensures unreported { unreported_of self.new ≡ both (unreported_of self.old) (hand_fates self.old written) }
+        ensures unreported { AddsUnreported self.old self.new (hand_fates self.old written) }
         ensures kept { KeepsPopped self.old self.new × (has_failed self.new ≡ has_failed self.old) }
         ensures ring { SameDrainer self.old self.new }
     {
@@ -269,11 +278,11 @@ impl Drainer {
 // Takes frames of one run into the slots after the first `held`, up to `most`, and says how many.
 fn pop_after(outlet: &mut Outlet, slots: &mut [Frame], held: usize, most: usize) -> usize
     requires { held + most ≤ length slots.old }
-    ensures popped { popped_from outlet.new ≡ popped_from outlet.old ++ with_cut outlet.new.cut (came_into slots.new held result) }
+    ensures popped { ComeOut outlet.old outlet.new (came_into slots.new held result) }
     ensures hand { take (held + result) slots.new ≡ take held slots.old ++ came_into slots.new held result }
     ensures length { length slots.new ≡ length slots.old }
     ensures count { (result ≤ most) × (length (came_into slots.new held result) ≡ result) }
-    ensures known { IsPrefix (known_in outlet.old) (with_cut outlet.new.cut (came_into slots.new held result) ++ known_in outlet.new) }
+    ensures known { WereKnown outlet.old outlet.new (came_into slots.new held result) }
     ensures stops { result ≡ 0 → 0 < most → known_in outlet.new ≡ [] }
     ensures ring { SameOutlet outlet.old outlet.new }
 {

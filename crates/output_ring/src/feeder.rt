@@ -54,9 +54,11 @@ impl Drop for FeederEnd {
 }
 
 impl Feeder {
-    ghost use Rattle.std.specs.Prelude.{◌≡◌, ◌<◌, ◌≤◌, [], ◌++◌, IfOk, length, take, drop};
+    ghost use Rattle.std.specs.Prelude.{◌≡◌, ◌<◌, ◌≤◌, [], ◌++◌};
+    ghost use Rattle.std.specs.Prelude.{IfOk, length, take, drop};
     ghost use Rattle.output_ring.specs.Frames.{with_cut};
-    ghost use Rattle.output_ring.specs.Rings.{taken_of, sent_of, owed_of, room_of, SameFeeder, EndTook, EndsFeeder, end_owed};
+    ghost use Rattle.output_ring.specs.Rings.{taken_of, sent_of, owed_of, room_of, end_owed};
+    ghost use Rattle.output_ring.specs.Rings.{SameFeeder, EndTook, EndsFeeder};
 
     pub(crate) fn new(alloc: Global, inlet: Inlet) -> Result<Feeder, AllocError>
         ensures { IfOk result (λ f. (f.inlet ≡ inlet) × (owed_of f ≡ [])) }

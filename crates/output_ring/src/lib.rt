@@ -2,8 +2,9 @@
 //! what was taken is written or discarded, in order, then held, in the ring, or owed.
 #![tactic(auto)]
 
-ghost use Rattle.std.specs.Prelude.{◌≡◌, ◌≤◌, [], IfOk};
-ghost use Rattle.output_ring.specs.Rings.{AreEnds, HasNoFates, HasNoFrames, taken_of, owed_of, room_of};
+ghost use Rattle.std.specs.Prelude.{◌≡◌, IfOk};
+ghost use Rattle.output_ring.specs.Runs.{runs_for};
+ghost use Rattle.output_ring.specs.Rings.{AreEnds, HasNoFates, HasNoFrames, HasTakenNothing};
 
 pub mod drainer;
 pub mod feeder;
@@ -24,7 +25,7 @@ use std::alloc::{AllocError, Global};
 /// A ring with room for `capacity` frames, whose drainer holds up to `hand` frames at a time.
 pub fn ring(alloc: Global, capacity: usize, hand: usize) -> Result<(Feeder, Drainer), AllocError>
     ensures ends { IfOk result (λ r. AreEnds r.0 r.1) }
-    ensures feeder { IfOk result (λ r. (taken_of r.0 ≡ []) × (owed_of r.0 ≡ []) × (room_of r.0 ≡ capacity)) }
+    ensures feeder { IfOk result (λ r. HasTakenNothing r.0 capacity) }
     ensures frames { IfOk result (λ r. HasNoFrames r.1 hand) }
     ensures counts { IfOk result (λ r. HasNoFates r.1) }
 {
@@ -35,10 +36,10 @@ pub fn ring(alloc: Global, capacity: usize, hand: usize) -> Result<(Feeder, Drai
     Ok((feeder, drainer))
 }
 
-/// How many runs a ring of so many frames has room for, at least one. A block of 1,024 frames makes one run, and one
-/// more for each time that the ring has no room for all of it, so that a run for 32 frames is more than enough.
+/// How many runs a ring of so many frames has room for. A block of 1,024 frames makes one run, and one more
+/// for each time that the ring has no room for all of it, so that a run for 32 frames is more than enough.
 fn most_runs(capacity: usize) -> usize
-    ensures { 1 ≤ result }
+    ensures { result ≡ runs_for capacity }
 {
     capacity.min((capacity / 32).max(64)).max(1)
 }

@@ -1,9 +1,10 @@
 //! The bytes of a hand on their way to a writer.
-ghost use Rattle.std.specs.Prelude.{◌≡◌, ◌+◌, ◌*◌, ◌<◌, ◌≤◌, ◌++◌, length, take, drop};
+ghost use Rattle.std.specs.Prelude.{◌≡◌, ◌+◌, ◌*◌, ◌<◌, ◌≤◌, length, take, drop};
 ghost use Rattle.std.specs.Io.KnownBytes.{Appends};
-ghost use Rattle.counted_devices.specs.CallCounts.{HasFailed, NoFewer};
-ghost use Rattle.output_ring.specs.Frames.{heard, is_cut_heard, bytes_of, with_cut};
-ghost use Rattle.output_ring.specs.Runs.{cuts_of, paired};
+ghost use Rattle.counted_devices.specs.CallCounts.{NoFewer};
+ghost use Rattle.output_ring.specs.Frames.{heard_run, is_cut_heard, bytes_of};
+ghost use Rattle.output_ring.specs.Runs.{cuts_of};
+ghost use Rattle.output_ring.specs.Sending.{CountsHeard, CountsOn, FailsIfShort, PutsFrames, heard_in};
 
 use crate::frames::{Cut, Live};
 use crate::runs::Run;
@@ -25,11 +26,10 @@ pub(crate) struct Outgoing {
 }
 
 impl Outgoing {
-    ghost use Rattle.std.specs.Prelude.{◌≡◌, ◌*◌, ◌≤◌, IfOk, OnErr, MatchResult, length, take};
+    ghost use Rattle.std.specs.Prelude.{◌≡◌, ◌*◌, ◌≤◌, IfOk, OnErr, length, take};
     ghost use Rattle.counted_devices.specs.CallCounts.{HasFailed};
-    ghost use Rattle.output_ring.specs.Frames.{bytes_of, heard, StopsInside, WritesHeard};
-    ghost use Rattle.output_ring.specs.Runs.{cuts_of, paired};
-    ghost use Rattle.output_ring.specs.Sending.{HasRoom, KeepsRoom};
+    ghost use Rattle.output_ring.specs.Runs.{cuts_of};
+    ghost use Rattle.output_ring.specs.Sending.{HasRoom, KeepsRoom, Sends, WritesAtMost};
 
     pub(crate) fn new(alloc: Global, most: usize) -> Result<Outgoing, AllocError>
         ensures { IfOk result (λ o. HasRoom most o) }
@@ -52,10 +52,8 @@ impl Outgoing {
     ) -> Result<u64, Torn>
         requires whole { length (cuts_of runs.now) ≡ length frames.now }
         requires room { HasRoom (length frames.now) self.old }
-        ensures bytes { MatchResult result
-            (λ n. WritesHeard (W.contents writer.old) (W.contents writer.new) live (paired (cuts_of runs.now) frames.now) n)
-            (λ t. StopsInside (W.contents writer.old) (W.contents writer.new) live (paired (cuts_of runs.now) frames.now) t.written t.bytes) }
-        ensures most { MatchResult result (λ n. n ≤ length frames.now) (λ t. t.written ≤ length frames.now) }
+        ensures sent { Sends (W.contents writer.old) (W.contents writer.new) live runs.now frames.now result }
+        ensures most { WritesAtMost (length frames.now) result }
         ensures fault { OnErr result (HasFailed (W.call_counts writer.old) (W.call_counts writer.new)) }
         ensures room { KeepsRoom self.old self.new }
     {
@@ -75,8 +73,8 @@ impl Outgoing {
 fn lay_out(bytes: &mut [u8], frames: &[Frame], runs: &[Run], live: Live) -> usize
     requires whole { length (cuts_of runs.now) ≡ length frames.now }
     requires room { 4 * length frames.now ≤ length bytes.old }
-    ensures count { (result ≡ length (heard live (paired (cuts_of runs.now) frames.now))) × (result ≤ length frames.now) }
-    ensures bytes { take (4 * result) bytes.new ≡ bytes_of (heard live (paired (cuts_of runs.now) frames.now)) }
+    ensures count { CountsHeard result live runs.now frames.now }
+    ensures bytes { take (4 * result) bytes.new ≡ bytes_of (heard_in live runs.now frames.now) }
     ensures length { length bytes.new ≡ length bytes.old }
 {
     let mut passed = 0;
@@ -102,8 +100,8 @@ fn part(frames: &[Frame], from: usize, count: usize) -> &[Frame]
 // frames there are then.
 fn lay_run(bytes: &mut [u8], before: usize, frames: &[Frame], cut: Cut, live: Live) -> usize
     requires { 4 * (before + length frames.now) ≤ length bytes.old }
-    ensures count { (result ≡ before + length (heard live (with_cut cut frames.now))) × (result ≤ before + length frames.now) }
-    ensures bytes { take (4 * result) bytes.new ≡ take (4 * before) bytes.old ++ bytes_of (heard live (with_cut cut frames.now)) }
+    ensures count { CountsOn before result live cut frames.now }
+    ensures bytes { PutsFrames (4 * before) (4 * result) bytes.old bytes.new (heard_run live cut frames.now) }
     ensures length { length bytes.new ≡ length bytes.old }
 {
     if !is_heard(cut, live) {
@@ -116,7 +114,7 @@ fn lay_run(bytes: &mut [u8], before: usize, frames: &[Frame], cut: Cut, live: Li
 // Lays out the bytes of frames behind so many other bytes.
 fn put_after(bytes: &mut [u8], before: usize, frames: &[Frame])
     requires { before + 4 * length frames.now ≤ length bytes.old }
-    ensures bytes { take (before + 4 * length frames.now) bytes.new ≡ take before bytes.old ++ bytes_of frames.now }
+    ensures bytes { PutsFrames before (before + 4 * length frames.now) bytes.old bytes.new frames.now }
     ensures length { length bytes.new ≡ length bytes.old }
 {
     to_bytes(frames, &mut bytes[before..before + 4 * frames.len()]);
@@ -133,7 +131,7 @@ fn is_heard(cut: Cut, live: Live) -> bool
 pub(crate) fn write_bytes<W: Sink>(writer: &mut W, bytes: &[u8]) -> usize
     ensures most { result ≤ length bytes.now }
     ensures bytes { Appends (W.contents writer.old) (W.contents writer.new) (take result bytes.now) }
-    ensures fault { result < length bytes.now → HasFailed (W.call_counts writer.old) (W.call_counts writer.new) }
+    ensures fault { FailsIfShort (W.call_counts writer.old) (W.call_counts writer.new) result bytes.now }
     ensures calm { NoFewer (W.call_counts writer.old) (W.call_counts writer.new) }
 {
     let mut done = 0;

@@ -34,14 +34,16 @@ impl Drop for Outlet {
 
 impl Outlet {
     ghost use mathlib.Core.List.{IsPrefix};
-    ghost use Rattle.std.specs.Prelude.{◌≡◌, ◌<◌, ◌≤◌, [], ◌++◌, IsTrue, ◌↔◌, length, take, true, false};
+    ghost use Rattle.std.specs.Prelude.{◌≡◌, ◌<◌, ◌≤◌, [], ◌++◌};
+    ghost use Rattle.std.specs.Prelude.{length, take, true, false};
     ghost use Rattle.rtrb.specs.Ring.{received};
-    ghost use Rattle.output_ring.specs.Frames.{with_cut};
-    ghost use Rattle.output_ring.specs.Ends.{popped_from, known_in, sent_in, end_sent, ArePair, ArePairAfter, KeepsInlet, KeepsEnd, SameOutlet};
+    ghost use Rattle.output_ring.specs.Ends.{popped_from, known_in, sent_in, end_sent, ArePair, ArePairAfter};
+    ghost use Rattle.output_ring.specs.Ends.{ComeOut, KeepsInlet, KeepsEnd, SameOutlet, WereKnown};
 
     pub(crate) fn new(frames: Consumer<Frame>, runs: Consumer<Run>) -> Outlet
         requires { (received frames ≡ []) × (received runs ≡ []) }
-        ensures { (popped_from result ≡ []) × (result.frames ≡ frames) × (result.runs ≡ runs) × (result.rest ≡ 0) }
+        ensures ends { (result.frames ≡ frames) × (result.runs ≡ runs) }
+        ensures begun { (popped_from result ≡ []) × (result.rest ≡ 0) }
     {
         Outlet {
             frames,
@@ -56,8 +58,8 @@ impl Outlet {
 
     /// Fills the slots with frames of one run, those of `cut`, and says how many.
     pub(crate) fn pop(&mut self, slots: &mut [Frame]) -> usize
-        ensures popped { popped_from self.new ≡ popped_from self.old ++ with_cut self.new.cut (take result slots.new) }
-        ensures known { IsPrefix (known_in self.old) (with_cut self.new.cut (take result slots.new) ++ known_in self.new) }
+        ensures popped { ComeOut self.old self.new (take result slots.new) }
+        ensures known { WereKnown self.old self.new (take result slots.new) }
         ensures count { (result ≤ length slots.old) × (length slots.new ≡ length slots.old) }
         ensures stops { result ≡ 0 → 0 < length slots.old → known_in self.new ≡ [] }
         ensures ring { SameOutlet self.old self.new }
@@ -88,8 +90,8 @@ impl Outlet {
     // Fills the slots with frames of the run that was begun, and says how many.
     fn pop_rest(&mut self, slots: &mut [Frame]) -> usize
         requires { 0 < self.old.rest }
-        ensures popped { popped_from self.new ≡ popped_from self.old ++ with_cut self.new.cut (take result slots.new) }
-        ensures known { IsPrefix (known_in self.old) (with_cut self.new.cut (take result slots.new) ++ known_in self.new) }
+        ensures popped { ComeOut self.old self.new (take result slots.new) }
+        ensures known { WereKnown self.old self.new (take result slots.new) }
         ensures count { (result ≤ length slots.old) × (length slots.new ≡ length slots.old) }
         ensures stops { result ≡ 0 → 0 < length slots.old → known_in self.new ≡ [] }
         ensures ring { SameOutlet self.old self.new }

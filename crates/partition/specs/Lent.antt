@@ -1,7 +1,9 @@
 -- Events that are lent a shelf: what joins the history, and what becomes of the shelf.
 use Rattle.std.specs.Prelude.{◌≡◌, ◌⊎◌, ℕ, Bool, true, false, nat_le, slice_index_or, List, [], ◌∷◌, ◌++◌, None, Result, IfOk, IsErrOf, ⊤}
+use Rattle.std.specs.Global.{Vec}
 use Rattle.shelf.specs.Calls.{Call}
 use Rattle.shelf.specs.Maps.{Standing, Trusted, Turns}
+use Rattle.shelf.specs.declared.traits.Shelf.{Ghosts}
 use Rattle.player_events.specs.declared.event.Event.{Event}
 use Rattle.player_events.specs.declared.event.LogEntry.{LogEntry}
 use Rattle.partition.specs.declared.partition.PartitionFault.{PartitionFault}
@@ -96,31 +98,6 @@ module _ {S : Type 0} (standing : S → Standing) (failed : S → S → Call →
   abbrev pub AnswersWrite : S → S → ShelfWrite → Result ⊤ ShelfFault → Type 0
   AnswersWrite old new write result = Trusted (standing old) (standing new) → IsAnswered (failed old new) (standing old).maps write result
 
-  -- the same of what an event has heard of it
-  abbrev pub IsWriteReply : S → S → ShelfWrite → Event → Type 0
-  IsWriteReply old new write event = AnswersWrite old new write (answered (store_reply_at event).refused)
-
-  -- the shelf served an event, which has heard what it answered
-  abbrev pub ServesEvent : S → S → State → Event → Event → Type 0
-  ServesEvent old new state asked told =
-      Serves standing failed old new (question (image_of_state state) asked) (writing (image_of_state state) asked (store_reply_at told)) (store_reply_at told)
-
-  -- an event was refused for want of memory, or for what the shelf answered
-  abbrev pub HasCause : S → S → State → Event → Event → PartitionFault → Type 0
-  HasCause old new state asked told fault = (fault ≡ NoMemory) ⊎ ServesEvent old new state asked told
-
-  abbrev pub IsRefusedIn : State → S → S → ℕ → Event → PartitionFault → Type 0
-  IsRefusedIn state old new seat event fault = IsRefused (image_of_state state) old new seat event fault
-
-  -- an event joined the history of a state
-  abbrev pub RecordsIn : State → State → List LogEntry → List LogEntry → S → S → ℕ → Event → OutcomeData → Type 0
-  RecordsIn before after history later old new seat event outcome =
-      Records (image_of_state before) (image_of_state after) history later old new seat event outcome
-
-  -- an event joined the window, which has room for it
-  abbrev pub RecordsNext : Chronicle → Chronicle → S → S → ℕ → Event → OutcomeData → Type 0
-  RecordsNext before after old new seat event outcome = Records before.present after.present before.window after.window old new seat event outcome
-
   -- an event joined the window, which is folded first where it is full
   abbrev pub RecordsOnce : Chronicle → Chronicle → S → S → ℕ → Event → OutcomeData → Type 0
   RecordsOnce before after old new seat event outcome =
@@ -132,3 +109,45 @@ module _ {S : Type 0} (standing : S → Standing) (failed : S → S → Call →
   ServesAll old new i (h ∷ hs) =
       (between : S) × Serves standing failed old between (question i h.event) (writing i h.event (store_reply_at h.event)) (store_reply_at h.event)
       × ServesAll between new (next_image h.seat i h.event) hs
+
+-- The same for any type of shelf: a clause passes `S.Shelf`, which is all that the type says of itself.
+module _ {S : Type 0} (lent : Ghosts S) where
+  -- the shelf answers a write as its maps say, by what an event has heard of it
+  abbrev pub IsWriteReply : S → S → ShelfWrite → Event → Type 0
+  IsWriteReply old new write event = AnswersWrite lent.standing lent.failed old new write (answered (store_reply_at event).refused)
+
+  -- the shelf served an event, which has heard what it answered
+  abbrev pub ServesEvent : S → S → State → Event → Event → Type 0
+  ServesEvent old new state asked told =
+      Serves lent.standing lent.failed old new (question (image_of_state state) asked)
+      (writing (image_of_state state) asked (store_reply_at told)) (store_reply_at told)
+
+  -- an event was refused for want of memory, or for what the shelf answered
+  abbrev pub HasCause : S → S → State → Event → Event → PartitionFault → Type 0
+  HasCause old new state asked told fault = (fault ≡ NoMemory) ⊎ ServesEvent old new state asked told
+
+  -- an event joined the history of a state
+  abbrev pub RecordsIn : State → State → Vec LogEntry → Vec LogEntry → S → S → ℕ → Event → OutcomeData → Type 0
+  RecordsIn before after history later old new seat event outcome =
+      Records lent.standing lent.failed (image_of_state before) (image_of_state after) history.items later.items old new seat event outcome
+
+  -- a state refused an event
+  abbrev pub IsRefusedIn : State → S → S → ℕ → Event → PartitionFault → Type 0
+  IsRefusedIn state old new seat event fault = IsRefused lent.standing lent.failed (image_of_state state) old new seat event fault
+
+  -- an event joined the window, which has room for it
+  abbrev pub RecordsNext : Chronicle → Chronicle → S → S → ℕ → Event → OutcomeData → Type 0
+  RecordsNext before after old new seat event outcome =
+      Records lent.standing lent.failed before.present after.present before.window after.window old new seat event outcome
+
+  -- an event was refused, although the window has room for it
+  abbrev pub IsRefusedNext : Chronicle → S → S → ℕ → Event → PartitionFault → Type 0
+  IsRefusedNext before old new seat event fault = IsRefused lent.standing lent.failed before.present old new seat event fault
+
+  -- an event joined the window, which is folded first where it is full
+  abbrev pub RecordsBy : Chronicle → Chronicle → S → S → ℕ → Event → OutcomeData → Type 0
+  RecordsBy before after old new seat event outcome = RecordsOnce lent.standing lent.failed before after old new seat event outcome
+
+  -- an event was refused; a full window is folded first, where there is memory for it
+  abbrev pub RefusesBy : Chronicle → Chronicle → S → S → ℕ → Event → PartitionFault → Type 0
+  RefusesBy before after old new seat event fault = Refuses lent.standing lent.failed before after old new seat event fault

@@ -2,6 +2,7 @@
 -- profile's).
 use Rattle.std.specs.Prelude.{◌≡◌, ℕ, ◌+◌, ◌-◌, ◌<◌, true, false, List, [], ◌∷◌, ◌++◌, length, map, nat_le, take, codes, slice_get, slice_index_or, Option, Some, None, if◌then◌else◌}
 use Rattle.std.specs.List.{flat_map, list_any}
+use Rattle.std.specs.Global.{Vec}
 use Rattle.std.specs.Option.{ForSome}
 use Rattle.command_lists.specs.declared.word.ListForm.{ListForm}
 use Rattle.mpd_command.specs.Requests.{name_in}
@@ -22,6 +23,7 @@ use Rattle.partition.specs.Lent.{Refuses, ServesAll}
 use Rattle.transitions.specs.declared.shelf_calls.StoreReply.{StoreReply}
 use Rattle.shelf.specs.Calls.{Call}
 use Rattle.shelf.specs.Maps.{Standing}
+use Rattle.shelf.specs.declared.traits.Shelf.{Ghosts}
 use Rattle.partition.specs.History.{Chronicle, joined, replay, AreTold}
 use Rattle.partition.specs.Image.{Image}
 use Rattle.partition.specs.Step.{limit_of, next_image, told}
@@ -139,3 +141,15 @@ module _ {S : Type 0} (standing : S → Standing) (failed : S → S → Call →
     pub between : S
     pub shelf : ServesAll standing failed old between before.present (take stop.done (entries_of seat before.present client form 0 answered))
     pub cause : ForSome (slice_get (entries_of seat before.present client form 0 answered) stop.done) (λ entry. Refuses standing failed middle after between new entry.seat entry.event stop.cause)
+
+-- The same for any type of shelf: a clause passes `S.Shelf`, which is all that the type says of itself.
+module _ {S : Type 0} (lent : Ghosts S) where
+  -- a list ran: all its entries joined the history
+  abbrev pub RunsBy : Chronicle → Chronicle → S → S → ℕ → ℕ → ListForm → Vec Request → List OutcomeData → Type 0
+  RunsBy before after old new seat client form requests tolds =
+      RunsList lent.standing lent.failed before after old new seat client form requests.items tolds
+
+  -- a list stopped at one of its commands, which was refused
+  abbrev pub StopsBy : Chronicle → Chronicle → S → S → ℕ → ℕ → ListForm → Vec Request → Stop → Type 0
+  StopsBy before after old new seat client form requests stop =
+      StopsList lent.standing lent.failed before after old new seat client form requests.items stop

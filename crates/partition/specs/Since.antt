@@ -1,5 +1,5 @@
 -- What is pending, and the frames of the outputs, by a base and the window after it.
-use Rattle.std.specs.Prelude.{◌≡◌, ◌↔◌, ◌⊎◌, ℕ, ◌+◌, true, List, [], ◌∷◌, Option, Some, None, map, slice_index_or}
+use Rattle.std.specs.Prelude.{◌≡◌, ◌↔◌, ◌⊎◌, ℕ, ◌+◌, true, List, [], ◌∷◌, Option, Some, None, All, map, slice_index_or}
 use Rattle.std.specs.List.{range_with_len}
 use Rattle.idle_notes.specs.declared.sets.Subsystems.{Subsystems}
 use Rattle.idle_notes.specs.declared.subsystem.Subsystem.{Subsystem}
@@ -66,6 +66,10 @@ IsPendingSince base number subsystem world_transitions = IsPending number subsys
 -- the flags of a client are its pending set by a base and the transitions since
 abbrev pub HasPendingSince : Image → List WorldTransition → Client → Type 0
 HasPendingSince base world_transitions client = (subsystem : Subsystem) → (has client.pending.changed subsystem ≡ true) ↔ IsPendingSince base client.number subsystem world_transitions
+
+-- the flags of each client are its pending set by the base and the window
+abbrev pub AllHavePending : Chronicle → Type 0
+AllHavePending c = All (HasPendingSince c.base (world_transitions_of c)) c.present.clients
 
 -- a number, and a sum over the transitions since
 abbrev pub summed_onto : ℕ → (WorldTransition → ℕ) → List WorldTransition → ℕ

@@ -7,10 +7,16 @@ ghost use Rattle.parts.specs.Parts.{FitsIn, known};
 ghost use Rattle.player_state.specs.Fits.{Fits};
 ghost use Rattle.transitions.specs.Shelves.{is_ok_read};
 ghost use Rattle.transitions.specs.Transitions.{IsOfCommand};
-ghost use Rattle.partition.specs.Applying.{ActsAt, FitsAt, OkGives, WritesAlone, asked_in, command_in, line_in, place_in_state, request_in, run_in as run_in_lem};
+ghost use Rattle.partition.specs.Applying.{ActsForEvent, FitsEvent, OkGives, OkGivesAsked, OkGivesCommand};
+ghost use Rattle.partition.specs.Applying.{OkGivesLine, OkGivesRequest, WritesAlone};
+ghost use Rattle.partition.specs.Applying.{place_in_state, run_in as run_in_lem};
 ghost use Rattle.partition.specs.Image.{image_of_state};
 ghost use Rattle.partition.specs.Lent.{ReadsFor, TurnsByRead};
-ghost use Rattle.partition.specs.Step.{asked_by as asked_by_lem, ended_scan, ends_waiting as ends_waiting_lem, failure as failure_lem, have as have_lem, output_turn, place_in as place_in_lem, place_of as place_of_lem, response_to_new, speaker_in as speaker_in_lem, transition, want as want_lem};
+ghost use Rattle.partition.specs.Step.{asked_by as asked_by_lem, ends_waiting as ends_waiting_lem};
+ghost use Rattle.partition.specs.Step.{place_in as place_in_lem, place_of as place_of_lem};
+ghost use Rattle.partition.specs.Step.{speaker_in as speaker_in_lem, response_to_new, transition};
+ghost use Rattle.partition.specs.Step.{failure as failure_lem, have as have_lem, want as want_lem};
+ghost use Rattle.partition.specs.Step.{ended_scan, output_turn};
 ghost use Rattle.player_events.specs.Events.{store_reply_at};
 ghost use Rattle.partition_commands.specs.Partitions.{seated};
 
@@ -41,8 +47,8 @@ pub(crate) fn transition_of_event(
     requires { (store_reply_at event.now).refused ≡ None }
     ensures transition { OkGives result (transition (image_of_state state.now) event.now) }
     ensures alone { IfOk result WritesAlone }
-    ensures fits { IfOk result (λ transition. FitsAt state.now (place_in_state state.now event.now) transition) }
-    ensures lone { IfOk result (λ transition. ActsAt state.now (place_in_state state.now event.now) transition) }
+    ensures fits { IfOk result (FitsEvent state.now event.now) }
+    ensures lone { IfOk result (ActsForEvent state.now event.now) }
 {
     let client = speaker_in(&state.clients, event);
     let part = state.parts.at(place_of(&state.parts, client, event));
@@ -221,7 +227,7 @@ fn answer_line(
     request: &Request,
     read: &Read,
 ) -> Result<Transition, AllocError>
-    ensures transition { OkGives result (line_in state.now (option_copied part.entry) client stand request.now read.now) }
+    ensures transition { OkGivesLine result state.now part.entry client stand request.now read.now }
     ensures fits { IfOk result (λ transition. FitsIn (option_copied part.entry) transition.effect) }
     ensures command { IfOk result (λ transition. IsOfCommand transition.effect) }
 {
@@ -278,7 +284,7 @@ fn answer_request(
     request: &Request,
     read: &Read,
 ) -> Result<Transition, AllocError>
-    ensures transition { OkGives result (request_in state.now (option_copied part.entry) client stand request.now read.now) }
+    ensures transition { OkGivesRequest result state.now part.entry client stand request.now read.now }
     ensures fits { IfOk result (λ transition. FitsIn (option_copied part.entry) transition.effect) }
     ensures command { IfOk result (λ transition. IsOfCommand transition.effect) }
 {
@@ -304,7 +310,7 @@ fn answer_command(
     stand: Stand,
     command: &Command,
 ) -> Result<Transition, AllocError>
-    ensures transition { OkGives result (command_in state.now (option_copied part.entry) client name stand command.now read.now) }
+    ensures transition { OkGivesCommand result state.now part.entry client name stand command.now read.now }
     ensures fits { IfOk result (λ transition. FitsIn (option_copied part.entry) transition.effect) }
     ensures command { IfOk result (λ transition. IsOfCommand transition.effect) }
 {
@@ -324,7 +330,7 @@ fn run_in(
     read: &Read,
     command: &Command,
 ) -> Result<Transition, AllocError>
-    ensures transition { OkGives result (asked_in state.now (option_copied part.entry) asked read.now command.now) }
+    ensures transition { OkGivesAsked result state.now part.entry asked read.now command.now }
     ensures fits { IfOk result (λ transition. FitsIn (option_copied part.entry) transition.effect) }
     ensures command { IfOk result (λ transition. IsOfCommand transition.effect) }
 {

@@ -18,12 +18,24 @@
 //! the base after the events of the window, as the definition `next_image` has it, and a refused event
 //! leaves all of it as it was. What is raised is not said by the commands, of which there are many, but
 //! found by comparing: a command that changes something and forgets to say so cannot be written.
-ghost use Rattle.std.specs.Prelude.{◌≡◌, ◌⊎◌, ◌<◌, ◌≤◌, ◌+◌, ◌++◌, ◌∷◌, ℕ, [], None, count_by, length, map, vec_len, vec_capacity, IfErr, IfOk, OnErr, OnOk, not, true, false, nat_le, slice_index_or};
+ghost use Rattle.std.specs.Prelude.{◌≡◌, ◌<◌, ◌≤◌, ℕ, [], None, true, false};
+ghost use Rattle.std.specs.Prelude.{IfErr, IfOk, OnErr, OnOk, count_by, length, map, nat_le};
+ghost use Rattle.std.specs.Prelude.{slice_index_or, vec_capacity, vec_len};
 ghost use Rattle.partition.specs.declared.partition.PartitionFault.{PartitionFault};
-ghost use Rattle.idle_clients.specs.Clients.{move_of, moved, notified, staying};
+ghost use Rattle.idle_clients.specs.Clients.{notified};
 ghost use Rattle.partition.specs.Image.{counted, image_of_state};
-ghost use Rattle.partition.specs.Lent.{HasCause, IsRefusedIn, IsUnwrittenBy, IsWriteReply, RecordsIn, ServesEvent, TurnsByWriteOf};
-ghost use Rattle.partition.specs.Applying.{ActsAt, AddsEntry, FitsAt, GrowsBy, HearsRefusal, IsAlone, IsImageAfter, IsStill, IsWithinLimits, PassesNoLimit, RefusesEvent, answer_to, clients_told, image_after, notices_by, notices_of, notices_told, outcome_with, place_in_state, readings_in, report_by, telling_of};
+ghost use Rattle.partition.specs.Lent.{HasCause, IsRefusedIn, RecordsIn, ServesEvent};
+ghost use Rattle.partition.specs.Lent.{IsUnwrittenBy, IsWriteReply, TurnsByWriteOf};
+ghost use Rattle.partition.specs.Applying.{AddsEntry, HearsRefusal, OkGives, outcome_with};
+ghost use Rattle.partition.specs.Applying.{AnswersEvent, IsWithinLimits, NotifiesOfEvent, RefusesEvent};
+ghost use Rattle.partition.specs.Applying.{ReportsEvent, image_after, place_in_state};
+ghost use Rattle.partition.specs.Applying.{ActsForEvent, FitsEvent, IsAlone, IsStill};
+ghost use Rattle.partition.specs.Applying.{AnswersBy, IsImageAfter, NotifiesBy, PassesNoLimit};
+ghost use Rattle.partition.specs.Applying.{RefusesTransitionIn, ReportsBy};
+ghost use Rattle.partition.specs.Applying.{notices_by, report_by};
+ghost use Rattle.partition.specs.Applying.{HasReadings, HasRoomForWaiting};
+ghost use Rattle.partition.specs.Applying.{GrowsBy, GrowsByRaised, HearRaised, ListsNotices};
+ghost use Rattle.partition.specs.Applying.{clients_moved, notices_of};
 ghost use Rattle.parts.specs.Parts.{is_within_in, part_at};
 ghost use Rattle.parts.specs.declared.crossing.Crossing.{Crossing};
 ghost use Rattle.player_state.specs.declared.effect.CommandEffect.TheVariants.{Rests};
@@ -31,12 +43,10 @@ ghost use Rattle.player_state.specs.declared.effect.Effect.TheVariants.{ByComman
 ghost use Rattle.idle_clients.specs.Fingerprint.{changes_listeners_in, raised_in};
 ghost use Rattle.idle_clients.specs.Rooms.{is_waiting, listed, room_in};
 ghost use Rattle.idle_clients.specs.Settled.{AllSettled, HasRoom, nothing};
-ghost use Rattle.partition.specs.Refusals.{MayRefuse, RefusesTransition};
-ghost use Rattle.transitions.specs.Shelves.{LeavesUnchanged, answered, is_wanting, is_written};
-ghost use Rattle.partition.specs.Step.{after_transition, counts_frames, ended_after as ended_after_lem, goer as goer_lem, keeps_limits, limit_of, next_image, mover as mover_lem, told as told_of, told_by, transition as transition_at};
+ghost use Rattle.transitions.specs.Shelves.{LeavesUnchanged, is_wanting, is_written};
+ghost use Rattle.partition.specs.Step.{counts_frames, keeps_limits, transition as transition_at};
+ghost use Rattle.partition.specs.Step.{ended_after as ended_after_lem, goer as goer_lem, mover as mover_lem};
 ghost use Rattle.player_events.specs.Events.{store_reply_at, with_store_reply, name_at, stand_of};
-ghost use Rattle.partition.specs.Steps.{entry};
-ghost use Rattle.player_events.specs.Events.{is_line};
 
 use crate::event_transitions::{ask_shelf, place_of_event, transition_of_event};
 use crate::lent::write;
@@ -77,7 +87,6 @@ impl Applied {
 
 /// Runs one event and keeps it, with what the lent shelf answered to it. Where it is refused, nothing
 /// changes, and the shelf was asked at most.
-#[tactic(auto, unfolding(crate::specs::Step::next_image, crate::specs::Step::told, crate::specs::Step::limit_of))]
 pub(crate) fn record_event<S: Shelf>(
     alloc: Global,
     state: &mut State,
@@ -89,8 +98,9 @@ pub(crate) fn record_event<S: Shelf>(
     requires seat { seat < 16 }
     requires count { nat_le 9223372036854775807 (slice_index_or state.old.made seat 0) ≡ false }
     requires settled { AllSettled state.old.clients.items }
-    ensures ok { IfOk result (RecordsIn S.standing S.failed state.old state.new history.old.items history.new.items shelf.old shelf.new seat event) }
-    ensures refused { IfErr result (IsRefusedIn S.standing S.failed state.old shelf.old shelf.new seat event) }
+    ensures ok { IfOk result (RecordsIn S.Shelf
+        state.old state.new history.old history.new shelf.old shelf.new seat event) }
+    ensures refused { IfErr result (IsRefusedIn S.Shelf state.old shelf.old shelf.new seat event) }
     ensures unchanged { OnErr result (image_of_state state.new ≡ image_of_state state.old) }
     ensures unkept { OnErr result (history.new.items ≡ history.old.items) }
 {
@@ -117,7 +127,7 @@ fn keep(
     requires room { vec_len history.old < vec_capacity history.old }
     ensures state { image_of_state state.new ≡ counted seat (image_of_state state.old) }
     ensures outcome { result ≡ outcome_with applied.telling applied.notices }
-    ensures history { AddsEntry history.old.items history.new.items seat event (outcome_with applied.telling applied.notices) }
+    ensures history { AddsEntry history.old.items history.new.items seat event result }
 {
     state.made[usize::from(seat)] += 1;
     let entry = LogEntry {
@@ -153,13 +163,13 @@ fn apply_event<S: Shelf>(
     requires settled { AllSettled state.old.clients.items }
     ensures event { event.new ≡ with_store_reply event.old (store_reply_at event.new) }
     ensures image { OnOk result (image_of_state state.new ≡ image_after state.old event.new) }
-    ensures answer { IfOk result (λ applied. applied.telling.response.answer ≡ answer_to state.old event.new) }
-    ensures report { IfOk result (λ applied. applied.telling.report ≡ (telling_of state.old event.new).report) }
-    ensures notices { IfOk result (λ applied. listed applied.notices ≡ (telling_of state.old event.new).notices) }
+    ensures answer { IfOk result (AnswersEvent state.old event.new) }
+    ensures report { IfOk result (ReportsEvent state.old event.new) }
+    ensures notices { IfOk result (NotifiesOfEvent state.old event.new) }
     ensures within { OnOk result (IsWithinLimits state.old event.new) }
-    ensures shelf { OnOk result (ServesEvent S.standing S.failed shelf.old shelf.new state.old event.old event.new) }
+    ensures shelf { OnOk result (ServesEvent S.Shelf shelf.old shelf.new state.old event.old event.new) }
     ensures refused { IfErr result (RefusesEvent state.old event.new) }
-    ensures cause { IfErr result (HasCause S.standing S.failed shelf.old shelf.new state.old event.old event.new) }
+    ensures cause { IfErr result (HasCause S.Shelf shelf.old shelf.new state.old event.old event.new) }
     ensures unchanged { OnErr result (LeavesUnchanged S.standing S.failed shelf.old shelf.new) }
     ensures err { OnErr result (image_of_state state.new ≡ image_of_state state.old) }
 {
@@ -184,15 +194,15 @@ fn apply_transition(
 ) -> Result<Applied, PartitionFault>
     requires space { vec_len state.old.clients < vec_capacity state.old.clients }
     requires settled { AllSettled state.old.clients.items }
-    requires fits { FitsAt state.old (place_in_state state.old event.now) transition }
-    requires acts { ActsAt state.old (place_in_state state.old event.now) transition }
+    requires fits { FitsEvent state.old event.now transition }
+    requires acts { ActsForEvent state.old event.now transition }
     requires unwritten { is_written transition.written ≡ false }
     ensures image { OnOk result (IsImageAfter state.old event.now transition state.new) }
-    ensures answer { IfOk result (λ applied. applied.telling.response.answer ≡ transition.response.answer) }
-    ensures report { IfOk result (λ applied. applied.telling.report ≡ report_by state.old event.now transition) }
-    ensures notices { IfOk result (λ applied. listed applied.notices ≡ notices_by state.old event.now transition) }
+    ensures answer { IfOk result (AnswersBy transition) }
+    ensures report { IfOk result (ReportsBy state.old event.now transition) }
+    ensures notices { IfOk result (NotifiesBy state.old event.now transition) }
     ensures within { OnOk result (PassesNoLimit state.old event.now transition) }
-    ensures refused { IfErr result (λ fault. RefusesTransition (image_of_state state.old) event.now transition fault) }
+    ensures refused { IfErr result (RefusesTransitionIn state.old event.now transition) }
     ensures err { OnErr result (image_of_state state.new ≡ image_of_state state.old) }
 {
     if !changes(&transition) {
@@ -231,9 +241,9 @@ fn apply_still(state: &mut State, event: &Event, transition: Transition) -> Appl
     requires settled { AllSettled state.old.clients.items }
     requires still { IsStill transition }
     ensures image { IsImageAfter state.old event.now transition state.new }
-    ensures answer { result.telling.response.answer ≡ transition.response.answer }
-    ensures report { result.telling.report ≡ report_by state.old event.now transition }
-    ensures notices { listed result.notices ≡ notices_by state.old event.now transition }
+    ensures answer { AnswersBy transition result }
+    ensures report { ReportsBy state.old event.now transition result }
+    ensures notices { NotifiesBy state.old event.now transition result }
     ensures within { PassesNoLimit state.old event.now transition }
 {
     Applied {
@@ -242,8 +252,8 @@ fn apply_still(state: &mut State, event: &Event, transition: Transition) -> Appl
     }
 }
 
-/// Tells the client that an event comes from what is answered to it, and nobody else: nothing changes but what
-/// the client does.
+/// Tells the client that an event comes from what is answered to it, and nobody else: nothing changes but
+/// what the client does.
 fn tell_speaker(state: &mut State, event: &Event, transition: Transition) -> Telling
     requires space { vec_len state.old.clients < vec_capacity state.old.clients }
     requires settled { AllSettled state.old.clients.items }
@@ -271,7 +281,7 @@ fn tell_speaker(state: &mut State, event: &Event, transition: Transition) -> Tel
 /// Lets the client that an event comes from do what it does; one that the answer closes goes.
 fn move_speaker(clients: &mut Vec<Client>, speaker: u32, response: &Response)
     requires { vec_len clients.old < vec_capacity clients.old }
-    ensures { clients.new.items ≡ moved speaker (move_of response.now) (staying speaker response.now clients.old.items) }
+    ensures { clients.new.items ≡ clients_moved speaker response.now clients.old.items }
 {
     if response.next().closes() {
         leave(clients, speaker);
@@ -320,12 +330,12 @@ fn write_transition<S: Shelf>(
     requires unrefused { (store_reply_at event.old).refused ≡ None }
     ensures event { HearsRefusal event.old event.new }
     ensures image { OnOk result (image_of_state state.new ≡ image_after state.old event.new) }
-    ensures answer { IfOk result (λ applied. applied.telling.response.answer ≡ answer_to state.old event.new) }
-    ensures report { IfOk result (λ applied. applied.telling.report ≡ (telling_of state.old event.new).report) }
-    ensures notices { IfOk result (λ applied. listed applied.notices ≡ (telling_of state.old event.new).notices) }
+    ensures answer { IfOk result (AnswersEvent state.old event.new) }
+    ensures report { IfOk result (ReportsEvent state.old event.new) }
+    ensures notices { IfOk result (NotifiesOfEvent state.old event.new) }
     ensures within { OnOk result (IsWithinLimits state.old event.new) }
     ensures turns { OnOk result (TurnsByWriteOf S.standing shelf.old shelf.new transition.written event.new) }
-    ensures answers { OnOk result (IsWriteReply S.standing S.failed shelf.old shelf.new transition.written event.new) }
+    ensures answers { OnOk result (IsWriteReply S.Shelf shelf.old shelf.new transition.written event.new) }
     ensures ample { OnOk result (is_wanting (store_reply_at event.new).refused ≡ false) }
     ensures memory { IfErr result (λ fault. fault ≡ PartitionFault.NoMemory) }
     ensures unchanged { OnErr result (IsUnwrittenBy S.standing shelf.old shelf.new transition.written) }
@@ -351,13 +361,13 @@ fn tell_written(
     requires settled { AllSettled state.old.clients.items }
     requires alone { IsAlone transition }
     requires place { place ≡ place_in_state state.old event.now }
-    requires before { prepared.before ≡ readings_in state.old Crossing.Stays place }
-    requires room { count_by is_waiting state.old.clients.items ≤ room_in prepared.notices }
+    requires before { HasReadings state.old Crossing.Stays place prepared }
+    requires room { HasRoomForWaiting state.old prepared }
     requires none { listed prepared.notices ≡ [] }
-    ensures image { image_of_state state.new ≡ after_transition (image_of_state state.old) event.now transition }
-    ensures answer { result.telling.response.answer ≡ transition.response.answer }
-    ensures report { result.telling.report ≡ (told_by (image_of_state state.old) event.now transition).report }
-    ensures notices { listed result.notices ≡ (told_by (image_of_state state.old) event.now transition).notices }
+    ensures image { IsImageAfter state.old event.now transition state.new }
+    ensures answer { AnswersBy transition result }
+    ensures report { ReportsBy state.old event.now transition result }
+    ensures notices { NotifiesBy state.old event.now transition result }
     ensures counts { counts_frames (image_of_state state.old) event.now transition ≡ true }
     ensures limits { keeps_limits (image_of_state state.old) event.now transition ≡ true }
 {
@@ -403,10 +413,10 @@ fn write_out<S: Shelf>(
     requires unrefused { (store_reply_at event.old).refused ≡ None }
     requires refusals { refusals ≡ (stand_of event.old, name_at event.old) }
     ensures event { HearsRefusal event.old event.new }
-    ensures transition { IfOk result (λ after. after ≡ transition_at (image_of_state state.now) event.new) }
+    ensures transition { OkGives result (transition_at (image_of_state state.now) event.new) }
     ensures alone { IfOk result IsAlone }
     ensures turns { OnOk result (TurnsByWriteOf S.standing shelf.old shelf.new transition.written event.new) }
-    ensures answers { OnOk result (IsWriteReply S.standing S.failed shelf.old shelf.new transition.written event.new) }
+    ensures answers { OnOk result (IsWriteReply S.Shelf shelf.old shelf.new transition.written event.new) }
     ensures ample { OnOk result (is_wanting (store_reply_at event.new).refused ≡ false) }
     ensures unchanged { OnErr result (IsUnwrittenBy S.standing shelf.old shelf.new transition.written) }
 {
@@ -432,9 +442,9 @@ fn tell(
     requires settled { AllSettled clients.old.items }
     requires notices { HasRoom (raised_in raised.now) clients.old.items (room_in notices) }
     requires none { listed notices ≡ [] }
-    ensures clients { clients.new.items ≡ clients_told number raised.now telling.response clients.old.items }
+    ensures clients { HearRaised number raised.now telling.response clients.old.items clients.new.items }
     ensures telling { result.telling ≡ telling }
-    ensures notices { listed result.notices ≡ notices_told number raised.now telling.response clients.old.items }
+    ensures notices { ListsNotices number raised.now telling.response clients.old.items result }
 {
     tell_clients(clients, number, raised, &telling.response, &mut notices);
     Applied {
@@ -457,8 +467,8 @@ fn tell_clients(
     requires settled { AllSettled clients.old.items }
     requires empty { listed notices.old ≡ [] }
     requires notices { HasRoom (raised_in raised.now) clients.old.items (room_in notices.old) }
-    ensures clients { clients.new.items ≡ clients_told number raised.now response.now clients.old.items }
-    ensures notices { GrowsBy notices.old notices.new (notices_told number raised.now response.now clients.old.items) }
+    ensures clients { HearRaised number raised.now response.now clients.old.items clients.new.items }
+    ensures notices { GrowsByRaised notices.old notices.new number raised.now response.now clients.old.items }
     ensures few { length (listed notices.new) ≤ count_by is_waiting clients.old.items }
     ensures none { raised_in raised.now ≡ nothing → listed notices.new ≡ [] }
 {

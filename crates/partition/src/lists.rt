@@ -84,7 +84,12 @@ impl Model for ListFault {
 
     ghost Value = { Stop };
 
-    ghost view = { λ f. record { done = f.done; tolds = f.outcomes.items; command = f.command.now; cause = f.cause } };
+    ghost view = { λ f. record {
+      done = f.done;
+      tolds = f.outcomes.items;
+      command = f.command.now;
+      cause = f.cause;
+    } };
 }
 
 impl ListFault {

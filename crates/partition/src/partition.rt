@@ -15,23 +15,26 @@
 //! entries. And a fold gives the room of the window back and takes a new one, for 64 entries at first, so it
 //! may lack memory: it comes before an event that finds the window full, and where it is refused, that event
 //! is (`HistoryFull`), with nothing changed.
-ghost use Rattle.std.specs.Prelude.{◌≡◌, ◌⊎◌, ◌↔◌, ◌++◌, ◌∷◌, ◌+◌, ◌-◌, ◌^◌, ◌≤◌, ◌<◌, [], None, false, length, map, vec_capacity, IfOk, IfErr, OnErr, OnOk, IsErrOf, slice_index_or, nat_le, is_some, true, All};
+ghost use Rattle.std.specs.Prelude.{◌≡◌, ◌+◌, ◌≤◌, ◌<◌, [], None, true, false};
+ghost use Rattle.std.specs.Prelude.{All, IfErr, IfOk, IsErrOf, OnErr, OnOk, is_some, length, map};
+ghost use Rattle.std.specs.Prelude.{nat_le, slice_index_or, vec_capacity};
 ghost use Rattle.parts.specs.Parts.{holder, known, named, part_at};
 ghost use Rattle.std.specs.Option.{option_copied};
 ghost use Rattle.mpd_command.specs.Requests.{name_in};
-ghost use Rattle.player_events.specs.declared.event.LogEntry.{LogEntry};
-ghost use Rattle.partition.specs.History.{IsSpent, is_full, replay, AreTold, begun, folded, joined_by, own as own_of, with_room};
+ghost use Rattle.partition.specs.History.{AreTold, IsSpent, begun, is_full, own as own_of, replay};
+ghost use Rattle.partition.specs.History.{folded, with_room};
 ghost use Rattle.partition.specs.Image.{opening};
 ghost use Rattle.idle_clients.specs.Clients.{client_of};
-ghost use Rattle.partition.specs.Lent.{IsAtLimitOrFull, IsRefused, LacksMemory, RecordsNext, RecordsOnce, Refuses};
-ghost use Rattle.partition.specs.Lists.{RunsList, StopsList};
+ghost use Rattle.partition.specs.Lent.{IsAtLimitOrFull, IsRefusedNext, LacksMemory};
+ghost use Rattle.partition.specs.Lent.{RecordsBy, RecordsNext, RefusesBy};
+ghost use Rattle.partition.specs.Lists.{RunsBy, StopsBy};
 ghost use Rattle.partition.specs.Legal.{HasDistinctIds, IsPast};
 ghost use Rattle.partition.specs.Step.{limit_of, told as told_of};
-ghost use Rattle.partition.specs.Steps.{RefusesStep, entry};
+ghost use Rattle.partition.specs.Steps.{JoinsTold, RefusesStep};
 ghost use Rattle.player_events.specs.Events.{is_line};
 ghost use Rattle.idle_clients.specs.Settled.{AllSettled};
-ghost use Rattle.partition.specs.Since.{HasPendingSince, books_of_all, world_transitions_of};
-ghost use Rattle.partition.specs.Applying.{AreBytesOfLast};
+ghost use Rattle.partition.specs.Since.{AllHavePending, books_of_all};
+ghost use Rattle.partition.specs.Applying.{AreBytesOfLast, OkGives, made_by};
 ghost use Rattle.player_events.specs.Sizes.{window_bytes as window_bytes_lem};
 
 use crate::happen::record_event;
@@ -157,7 +160,7 @@ impl Partition {
         requires version { 1 ≤ setup.limits.max_version }
         requires max_cut { setup.limits.max_cut < 9223372036854775808 }
         requires history { 1 ≤ setup.limits.history }
-        ensures { IfOk result (λ partition. partition ≡ begun setup.limits.history (opening setup library)) }
+        ensures { OkGives result (begun setup.limits.history (opening setup library)) }
     {
         let limit = setup.limits.history as usize;
         let state = State::opening(alloc, setup, library)?;
@@ -195,10 +198,10 @@ impl Partition {
         ensures limit { self.new.limit ≡ self.old.limit }
         // The event and its reply join the window; the reply is the one of the player of one thread, and the
         // new state is that player's next one. The shelf answered and changed as that says.
-        ensures ok { IfOk result (RecordsOnce S.standing S.failed self.old self.new shelf.old shelf.new seat event) }
+        ensures ok { IfOk result (RecordsBy S.Shelf self.old self.new shelf.old shelf.new seat event) }
         // It is refused where the full window cannot be folded, for the limit that it would pass, or for want
         // of memory; nothing was written to the shelf.
-        ensures refused { IfErr result (Refuses S.standing S.failed self.old self.new shelf.old shelf.new seat event) }
+        ensures refused { IfErr result (RefusesBy S.Shelf self.old self.new shelf.old shelf.new seat event) }
         ensures own { IsSpent self.old seat → IsAtLimitOrFull result }
         ensures legal { IsPast self.old }
     {
@@ -218,9 +221,9 @@ impl Partition {
         requires room { length self.old.window < self.old.limit }
         ensures base { self.new.base ≡ self.old.base }
         ensures limit { self.new.limit ≡ self.old.limit }
-        ensures ok { IfOk result (RecordsNext S.standing S.failed self.old self.new shelf.old shelf.new seat event) }
+        ensures ok { IfOk result (RecordsNext S.Shelf self.old self.new shelf.old shelf.new seat event) }
         ensures err { OnErr result (self.new ≡ self.old) }
-        ensures refused { IfErr result (IsRefused S.standing S.failed self.old.present shelf.old shelf.new seat event) }
+        ensures refused { IfErr result (IsRefusedNext S.Shelf self.old shelf.old shelf.new seat event) }
         ensures own { IsSpent self.old seat → IsErrOf result PartitionFault.AtLimit }
     {
         self.legal();
@@ -233,8 +236,8 @@ impl Partition {
         Ok(outcome)
     }
 
-    /// Applies an event of a seat that is no line, and keeps it with what it made clients hear. A window that is
-    /// full is folded first. Such an event asks no shelf: the one that is lent to it here is empty.
+    /// Applies an event of a seat that is no line, and keeps it with what it made clients hear. A window that
+    /// is full is folded first. Such an event asks no shelf: the one that is lent to it here is empty.
     ///
     /// # Errors
     ///
@@ -245,7 +248,7 @@ impl Partition {
         // The outcome is the one of the player of one thread, and the event joins the history with it; it
         // passed no limit.
         ensures told { IfOk result (λ outcome. outcome ≡ told_of self.old.present event) }
-        ensures player { IfOk result (λ outcome. self.new ≡ joined_by self.old (entry seat event outcome)) }
+        ensures player { IfOk result (JoinsTold self.old self.new seat event) }
         ensures within { OnOk result (limit_of seat self.old.present event ≡ None) }
         // It is refused where the full window cannot be folded, for the limit that it would pass, or for want
         // of memory; all is as it was, but that a full window may have been folded.
@@ -308,8 +311,10 @@ impl Partition {
         requests: Vec<Request>,
     ) -> Result<ListOutcome, ListFault>
         requires { seat < 16 }
-        ensures ok { IfOk result (λ tolds. RunsList S.standing S.failed self.old self.new shelf.old shelf.new seat client form requests.items tolds) }
-        ensures err { IfErr result (λ stop. StopsList S.standing S.failed self.old self.new shelf.old shelf.new seat client form requests.items stop) }
+        ensures ok { IfOk result (RunsBy S.Shelf
+            self.old self.new shelf.old shelf.new seat client form requests) }
+        ensures err { IfErr result (StopsBy S.Shelf
+            self.old self.new shelf.old shelf.new seat client form requests) }
         ensures legal { IsPast self.old }
     {
         self.legal();
@@ -351,8 +356,10 @@ impl Partition {
         requires seat { seat < 16 }
         requires empty { outcomes.items ≡ [] }
         requires room { length requests.items ≤ vec_capacity outcomes }
-        ensures ok { IfOk result (λ tolds. RunsList S.standing S.failed self.old self.new shelf.old shelf.new seat client form requests.items tolds) }
-        ensures err { IfErr result (λ stop. StopsList S.standing S.failed self.old self.new shelf.old shelf.new seat client form requests.items stop) }
+        ensures ok { IfOk result (RunsBy S.Shelf
+            self.old self.new shelf.old shelf.new seat client form requests) }
+        ensures err { IfErr result (StopsBy S.Shelf
+            self.old self.new shelf.old shelf.new seat client form requests) }
     {
         self.legal();
         for request in requests {
@@ -399,7 +406,7 @@ impl Partition {
         // window's: each is the image of the trace with every past queue and every transition.
         ensures legal { IsPast self.now }
         // The flags of each client are its pending set: what changed since its connect or last notice.
-        ensures pending { All (HasPendingSince self.now.base (world_transitions_of self.now)) self.now.present.clients }
+        ensures pending { AllHavePending self.now }
         // The frames of each output are those of the base and the sums over the window.
         ensures books { self.now.present.shared.books ≡ books_of_all self.now }
         // Song ids are distinct in the queue of each partition.
@@ -430,8 +437,8 @@ impl Partition {
     /// How many events a seat made, all those before the window too.
     pub fn own(&self, seat: u8) -> u64
         requires { seat < 16 }
-        ensures made { result ≡ slice_index_or self.now.present.shared.made seat 0 }
-        ensures own { result ≡ slice_index_or self.now.base.shared.made seat 0 + own_of seat self.now.window }
+        ensures made { result ≡ made_by seat self.now.present }
+        ensures own { result ≡ made_by seat self.now.base + own_of seat self.now.window }
     {
         self.legal();
         self.state.made[usize::from(seat)]

@@ -1,11 +1,12 @@
 //! What an event needs that can fail, made ready before anything changes.
-ghost use Rattle.std.specs.Prelude.{◌≡◌, ◌≤◌, [], true, false, count_by, IfErr, IfOk, OnOk};
+ghost use Rattle.std.specs.Prelude.{◌≡◌, [], true, false, IfErr, IfOk, OnOk};
 ghost use Rattle.player_state.specs.Outputs.{can_count_all};
-ghost use Rattle.idle_clients.specs.Rooms.{is_waiting, listed, room_in};
+ghost use Rattle.idle_clients.specs.Rooms.{listed};
 ghost use Rattle.transitions.specs.Shelves.{is_written};
 ghost use Rattle.player_events.specs.Events.{name_at, name_of as name_of_lem, stand_of};
 ghost use Rattle.parts.specs.declared.crossing.Crossing.{Crossing};
-ghost use Rattle.partition.specs.Applying.{ActsAt, GoesNowhere, IsStill, RefusesFramesIn, books_in, readings_in};
+ghost use Rattle.partition.specs.Applying.{ActsAt, GoesNowhere, HasReadings, HasRoomForWaiting, IsStill};
+ghost use Rattle.partition.specs.Applying.{RefusesFramesIn, books_in};
 ghost use Rattle.player_state.specs.FrameCounts.{IsBooked};
 
 use crate::partition::PartitionFault;
@@ -35,8 +36,8 @@ impl Prepared {
         state: &State,
     ) -> Result<Prepared, AllocError>
         ensures notices { IfOk result (λ prepared. listed prepared.notices ≡ []) }
-        ensures room { IfOk result (λ prepared. count_by is_waiting state.now.clients.items ≤ room_in prepared.notices) }
-        ensures before { IfOk result (λ prepared. prepared.before ≡ readings_in state.now crossing.now place) }
+        ensures room { IfOk result (HasRoomForWaiting state.now) }
+        ensures before { IfOk result (HasReadings state.now crossing.now place) }
     {
         Ok(Prepared {
             notices: Notices::with_room(alloc, waiting(&state.clients))?,
@@ -58,8 +59,8 @@ pub(crate) fn prepare_step(
 ) -> Result<(Prepared, FrameCounts), PartitionFault>
     requires acts { ActsAt state.now place transition.now }
     ensures notices { IfOk result (λ made. listed made.0.notices ≡ []) }
-    ensures room { IfOk result (λ made. count_by is_waiting state.now.clients.items ≤ room_in made.0.notices) }
-    ensures before { IfOk result (λ made. made.0.before ≡ readings_in state.now transition.now.crossing place) }
+    ensures room { IfOk result (λ made. HasRoomForWaiting state.now made.0) }
+    ensures before { IfOk result (λ made. HasReadings state.now transition.now.crossing place made.0) }
     ensures counted { OnOk result (can_count_all (books_in state.now place transition.now) ≡ true) }
     ensures books { IfOk result (λ made. made.1 ≡ books_in state.now place transition.now) }
     ensures refused { IfErr result (λ fault. RefusesFramesIn state.now place transition.now fault) }
@@ -93,8 +94,8 @@ pub(crate) fn prepare_write(
     event: &Event,
 ) -> Result<(Prepared, Refusals), AllocError>
     ensures notices { IfOk result (λ made. listed made.0.notices ≡ []) }
-    ensures room { IfOk result (λ made. count_by is_waiting state.now.clients.items ≤ room_in made.0.notices) }
-    ensures before { IfOk result (λ made. made.0.before ≡ readings_in state.now Crossing.Stays place) }
+    ensures room { IfOk result (λ made. HasRoomForWaiting state.now made.0) }
+    ensures before { IfOk result (λ made. HasReadings state.now Crossing.Stays place made.0) }
     ensures refusals { IfOk result (λ made. made.1 ≡ (stand_of event.now, name_at event.now)) }
 {
     let prepared = Prepared::with_room(alloc, &Crossing::Stays, place, state)?;
