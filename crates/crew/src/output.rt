@@ -1,7 +1,7 @@
 //! What is had of the outputs' threads.
 ghost use Rattle.frame_ledger.specs.Shares.{HasOnePart};
-ghost use Rattle.output_ring.specs.Rings.{AreEnds, SameDrainer};
-ghost use Rattle.crew_steps.specs.Turns.{HasRun};
+ghost use Rattle.output_ring.specs.Rings.{AreEnds};
+ghost use Rattle.crew.specs.Promises.{HandsBack};
 
 use counted_player::{Discarded, Ledgers, Written};
 use crew_steps::OutputEnd;
@@ -11,8 +11,8 @@ use output_ring::{Drainer, Feeder};
 use std::snapshot::Snapshot;
 use std::thread::{Promise, PromisedHandle};
 
-/// The output's end is of the ring of this drainer, with which the output of this number ran until it was told of
-/// the end.
+/// The output's end is of the ring of this drainer, with which the output of this number ran until it was
+/// told of the end.
 #[derive(Drop)]
 pub struct OfOutput {
     pub output: usize,
@@ -20,7 +20,7 @@ pub struct OfOutput {
 }
 
 impl<L: Ledgers> Promise<OutputEnd<L>> for OfOutput {
-    ghost kept_by = { λ p r. SameDrainer p.drainer.value r.drainer × HasRun p.output p.drainer.value r.drainer };
+    ghost kept_by = { λ p r. HandsBack p.output p.drainer.value r.drainer };
 }
 
 /// The thread of an output that runs, with the feeder of its ring.

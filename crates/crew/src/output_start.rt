@@ -2,6 +2,7 @@
 ghost use Rattle.std.specs.Prelude.{◌≡◌, IfOk, false};
 ghost use Rattle.frame_ledger.specs.Shares.{HasOnePart};
 ghost use Rattle.output_ring.specs.Rings.{SameDrainer, has_failed};
+ghost use Rattle.crew.specs.Promises.{HandsBack};
 ghost use Rattle.crew.specs.Rows.{drainer_of_run, output_of_run};
 ghost use Rattle.crew_steps.specs.Turns.{HasRun};
 
@@ -75,7 +76,7 @@ fn start_thread<
         of_output,
         move || -> OutputEnd<L>
             requires { has_failed drainer ≡ false }
-            ensures { SameDrainer drainer result.drainer × HasRun post.output drainer result.drainer }
+            ensures { HandsBack post.output drainer result.drainer }
         { drain(rt, house, post, drainer) },
     )?;
     Ok(handle)
@@ -96,7 +97,9 @@ pub(crate) fn start_output<
     shares: OutputShares<Written<L>, Discarded<L>>,
 ) -> Result<(OutputRun<L>, Feeder), AllocError>
     requires { HasOnePart shares }
-    ensures rings { IfOk result (λ r. (r.0.first.value ≡ output_setup.feeder) × (drainer_of_run r.0 ≡ output_setup.drainer) × (r.1 ≡ output_setup.feeder)) }
+    ensures first { IfOk result (λ r. r.0.first.value ≡ output_setup.feeder) }
+    ensures drainer { IfOk result (λ r. drainer_of_run r.0 ≡ output_setup.drainer) }
+    ensures feeder { IfOk result (λ r. r.1 ≡ output_setup.feeder) }
     ensures output { IfOk result (λ r. output_of_run r.0 ≡ output) }
 {
     let OutputSetup {

@@ -2,7 +2,7 @@
 ghost use Rattle.std.specs.Prelude.{◌≡◌, ◌≤◌, map, IfOk, vec_len};
 ghost use Rattle.std.specs.List.{range_with_len};
 ghost use Rattle.frame_ledger.specs.Shares.{AreEmpty, HasPartsBut};
-ghost use Rattle.crew.specs.Rows.{drainer_of_run, first_of_run, output_of_run};
+ghost use Rattle.crew.specs.Rows.{drainers_of, firsts_of, numbers_of};
 ghost use Rattle.crew_steps.specs.OutputSetups.{feeder_of_setup, drainer_of_setup};
 
 use crate::output_runs::OutputRuns;
@@ -35,9 +35,9 @@ pub fn start_outputs<
     requires few { vec_len output_setups ≤ 8 }
     requires parts { HasPartsBut 0 shares }
     requires empty { AreEmpty shares }
-    ensures runs { IfOk result (λ r. map first_of_run r.runs.items ≡ map feeder_of_setup output_setups.items) }
-    ensures drainers { IfOk result (λ r. map drainer_of_run r.runs.items ≡ map drainer_of_setup output_setups.items) }
-    ensures numbers { IfOk result (λ r. map output_of_run r.runs.items ≡ range_with_len 0 (vec_len output_setups)) }
+    ensures runs { IfOk result (λ r. firsts_of r.runs ≡ map feeder_of_setup output_setups.items) }
+    ensures drainers { IfOk result (λ r. drainers_of r.runs ≡ map drainer_of_setup output_setups.items) }
+    ensures numbers { IfOk result (λ r. numbers_of r.runs ≡ range_with_len 0 (vec_len output_setups)) }
     ensures count { IfOk result (λ r. vec_len r.runs ≡ vec_len output_setups) }
 {
     let OutputShares {

@@ -59,7 +59,8 @@ impl<'h, L: Ledgers, N: Scanner + Drop, R: Wait + Clock> Scanning<'h, L, N, R> {
 
     /// Scans if that is asked for. At the end it says what it was told.
     fn scan_once(&mut self) -> Option<Reported>
-        ensures { IfSome result (λ told. (told.report ≡ Ended) × TellsSomewhere self.old.seat ScanQuestion told) }
+        ensures ended { IfSome result (λ told. told.report ≡ Ended) }
+        ensures told { IfSome result (TellsSomewhere self.old.seat ScanQuestion) }
     {
         let Ok(told) = self.house.notice(self.rt, &mut self.seat, News::AsksToScan) else {
             self.pause();

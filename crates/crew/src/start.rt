@@ -4,6 +4,7 @@ ghost use Rattle.std.specs.List.{range_with_len};
 ghost use Rattle.frame_ledger.specs.Shares.{HasPartsBut};
 ghost use Rattle.crew_steps.specs.Decoding.{RunsDecoder};
 ghost use Rattle.crew_steps.specs.Each.{Each};
+ghost use Rattle.crew.specs.Promises.{HandsBackAll};
 ghost use Rattle.crew.specs.Rows.{first_of_run, output_of_run};
 ghost use Rattle.output_ring.specs.Rings.{EndsFeeder};
 
@@ -24,8 +25,8 @@ use std::thread;
 use std::thread::{JoinHandle, Promise, PromisedHandle, Threads};
 use std::time::Clock;
 
-/// Each end is of the ring of the feeder at its place, and the rings took what a decoder of songs of this rate
-/// handed out until it was told of the end.
+/// Each end is of the ring of the feeder at its place, and the rings took what a decoder of songs of this
+/// rate handed out until it was told of the end.
 #[derive(Drop)]
 pub struct OfFeeders {
     pub rate: u32,
@@ -33,7 +34,7 @@ pub struct OfFeeders {
 }
 
 impl<L: Ledgers> Promise<DecoderEnd<L>> for OfFeeders {
-    ghost kept_by = { λ p r. Each EndsFeeder p.feeders.value.items r.ends.items × RunsDecoder p.rate p.feeders.value.items r.ends.items };
+    ghost kept_by = { λ p r. HandsBackAll p.rate p.feeders.value.items r.ends.items };
 }
 
 /// The decoder and the outputs that run. The feeder at each place is of the ring of the output there. The
@@ -118,7 +119,7 @@ fn start_thread<
         of_feeders,
         move || -> DecoderEnd<L>
             requires { (bench.room.items ≡ []) × (vec_len feeders ≤ vec_capacity bench.room) }
-            ensures { Each EndsFeeder feeders.items result.ends.items × RunsDecoder bench.rate feeders.items result.ends.items }
+            ensures { HandsBackAll bench.rate feeders.items result.ends.items }
         { decode::<L, S, M, R>(rt, house, bench, feeders) },
     )?;
     Ok(handle)
@@ -155,8 +156,8 @@ fn make_rooms<L: Ledgers>(
     })
 }
 
-/// Starts the decoder, which reads songs of this rate from a source and feeds these outputs, whose rings hold so
-/// many frames each.
+/// Starts the decoder, which reads songs of this rate from a source and feeds these outputs, whose rings hold
+/// so many frames each.
 ///
 /// # Errors
 ///

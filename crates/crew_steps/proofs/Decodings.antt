@@ -1,5 +1,6 @@
 -- What comes of a job, and of all of them.
-use Rattle.std.proofs.Common.{◌≡◌, inl, inr, ℕ, ℤ, Bool, List, [], ◌∷◌, length, Option, Some, None, Result, Ok, Err, OnOk, IfOk, IfErr, refl, subst, sym}
+use Rattle.std.proofs.Common.{◌≡◌, inl, inr, ℕ, ℤ, All, Bool, List, [], ◌∷◌, length, Option, Some, None, Result, Ok, Err, OnOk, IfOk, IfErr, refl, subst, sym}
+use Rattle.std.proofs.lemmas.List.Elements.{All-cons, All-nil}
 use Rattle.output_ring.specs.declared.feeder.Feeder.{Feeder}
 use Rattle.output_ring.specs.Rings.{SameFeeder}
 use Rattle.player_core.specs.declared.state.Job.{Job}
@@ -8,16 +9,18 @@ use Rattle.counted_player.specs.Seats.{SeatCount}
 use Rattle.held_player.specs.Views.{FeedsShare}
 use Rattle.output_ring.specs.declared.feeder.FeederEnd.{FeederEnd}
 use Rattle.crew_steps.specs.Causes.{EndsFor}
-use Rattle.crew_steps.specs.Decoding.{DecodesAll, DecodesOnce, DidTasks, DoesTask, RunsDecoder, RunsFor, Task}
+use Rattle.crew_steps.specs.Decoding.{DecodesAll, DecodesOnce, DidRounds, DoesTask, RunsDecoder, RunsFor, Task, end_told}
 use Rattle.crew_steps.specs.Each.{Each}
-use Rattle.crew_steps.specs.Feeding.{DoesJob, Feeds, FinishesJob, HandsOut, TakesNone, feed_told, handed}
+use Rattle.crew_steps.specs.Feeding.{DoesJob, Feeds, FinishesJob, HandsOut, feed_told, handed}
 use Rattle.crew_steps.specs.Songs.{Fails}
 use Rattle.crew_steps.specs.Sounds.{AreOpenFor, OpenSongs, ReadsJob}
+use Rattle.crew_steps.specs.declared.decoder.DecoderRound.{DecoderRound}
+use Rattle.crew_steps.specs.declared.decoder.DecoderRound.TheVariants.{Did, Ends, Passes, Refused}
 use Rattle.crew_steps.specs.declared.songs.JobFrames.{JobFrames}
 use Rattle.crew_steps.specs.declared.songs.NoFrames.{NoFrames}
 use Rattle.crew_steps.specs.declared.songs.NoFrames.TheVariants.{NoMemory, Failed}
-use Rattle.crew_steps.proofs.Eaches.{each_refl, each_unchanged}
-use Rattle.crew_steps.proofs.Pushes.{each_fed, each_none, none_refl}
+use Rattle.crew_steps.proofs.Eaches.{each_unchanged}
+use Rattle.crew_steps.proofs.Pushes.{each_fed}
 
 -- what was fed is of its rings
 pub each_decoded : (seat : SeatCount) (before after place : ℕ) (job : Job) (frames others : List (List ℤ)) (told : OutcomeData) (old new : List Feeder) → Feeds seat before after place job frames others told old new → Each SameFeeder old new
@@ -59,26 +62,22 @@ does_later cause songs' songs view seat' seat share' share amount after place jo
     (subst (λ a. DoesJob cause (view songs) seat' (amount a) after place job told old new) shares
     (does cause (view songs) seat' (amount share') after place job read told old new opens reads fails ends done)))
 
--- what was done so far, and what went into the rings since
+-- rounds that were done so far, in none of which the end was told
 abbrev pub DidSoFar : (ℕ → Job → Bool → Type 0) → ℕ → List Feeder → List Feeder → Type 0
-DidSoFar cause rate old new = (tasks : List Task) × (mid : List Feeder) × DidTasks cause rate tasks old mid × Each TakesNone mid new
+DidSoFar cause rate old new = (rounds : List DecoderRound) × All (λ round. end_told round ≡ None) rounds × DidRounds cause rate rounds old new
 
 pub begun : (cause : ℕ → Job → Bool → Type 0) (rate : ℕ) (old : List Feeder) → DidSoFar cause rate old old
-begun cause rate old = ([], old, refl, each_refl TakesNone old none_refl)
-
--- a task whose rings were pushed before is one whose rings were pushed then
-task_later : (cause : ℕ → Job → Bool → Type 0) (rate : ℕ) (task : Task) (mid now new : List Feeder) → Each TakesNone mid now → DoesTask cause rate task now new → DoesTask cause rate task mid new
-task_later cause rate task mid now new none does =
-    (does.0, does.1, does.2, each_none mid now does.0 none does.3, does.4, does.5, does.6, does.7)
+begun cause rate old = ([], All-nil (λ (round : DecoderRound). end_told round ≡ None), refl)
 
 -- one more round, with songs of the same rate
-pub next : (cause : ℕ → ℕ → Job → Bool → Type 0) (rate rate' : ℕ) (old now new : List Feeder) → rate' ≡ rate → DidSoFar (cause rate) rate old now → DecodesOnce (cause rate') rate' None now new → DidSoFar (cause rate) rate old new
-next cause rate rate' old now new same did (inl none) = (did.0, did.1, did.2, each_none did.1 now new did.3 none)
-next cause rate rate' old now new same did (inr task) =
-    (task.0 ∷ did.0, new, (did.1, did.2, task_later (cause rate) rate task.0 did.1 now new did.3 (subst (λ r. DoesTask (cause r) r task.0 now new) same task.1)), each_refl TakesNone new none_refl)
+pub next : (cause : ℕ → ℕ → Job → Bool → Type 0) (rate rate' : ℕ) (round : DecoderRound) (old now new : List Feeder) → rate' ≡ rate → end_told round ≡ None → DidSoFar (cause rate) rate old now → DecodesOnce (cause rate') rate' round now new
+    → DidSoFar (cause rate) rate old new
+next cause rate rate' round old now new same goes did once =
+    (round ∷ did.0, All-cons (λ (r : DecoderRound). end_told r ≡ None) round did.0 goes did.1, (now, did.2, subst (λ r. DecodesOnce (cause r) r round now new) same once))
 
-pub ends : (cause cause' : ℕ → Job → Bool → Type 0) (rate rate' : ℕ) (old now new : List Feeder) (told : OutcomeData) → DidSoFar cause rate old now → DecodesOnce cause' rate' (Some told) now new → DecodesAll cause rate told old new
-ends cause cause' rate rate' old now new told did last = (last.0, (did.0, did.1, did.2, each_none did.1 now new did.3 last.1))
+-- the last round, in which the end is told
+pub ends : (cause cause' : ℕ → Job → Bool → Type 0) (rate rate' : ℕ) (old now new : List Feeder) (told : OutcomeData) → DidSoFar cause rate old now → DecodesOnce cause' rate' (Ends told) now new → DecodesAll cause rate told old new
+ends cause cause' rate rate' old now new told did last = (last.1.3.0, (did.0, did.1, (now, did.2, last)))
 
 -- the causes are forgotten
 abbrev whatever : ℕ → Job → Bool → Type 0
@@ -90,18 +89,24 @@ job_anyhow cause songs seat before after place job None old new does = does
 job_anyhow cause songs seat before after place job (Some told) old new (inl fails) = inl (fails.0, (fails.1.0, (fails.1.1.0, fails.1.1.1, tt, fails.1.1.3)))
 job_anyhow cause songs seat before after place job (Some told) old new (inr feeds) = inr feeds
 
-task_anyhow : (cause : ℕ → Job → Bool → Type 0) (rate : ℕ) (task : Task) (old new : List Feeder) → DoesTask cause rate task old new → DoesTask whatever rate task old new
-task_anyhow cause rate task old new does =
-    (does.0, does.1, does.2, does.3, does.4, does.5, does.6, (does.7.0, does.7.1, does.7.2, does.7.3, does.7.4, job_anyhow cause does.7.0 does.2 does.7.2 does.7.3 task.place task.job does.7.4 does.0 new does.7.5))
+task_anyhow : (cause : ℕ → Job → Bool → Type 0) (rate : ℕ) (task : Task) (told : Option OutcomeData) (old new : List Feeder) → DoesTask cause rate task told old new → DoesTask whatever rate task told old new
+task_anyhow cause rate task told old new does =
+    (does.0, does.1, does.2, does.3, does.4, does.5, does.6, (does.7.0, does.7.1, does.7.2, does.7.3, job_anyhow cause does.7.0 does.2 does.7.2 does.7.3 task.place task.job told does.0 new does.7.4))
 
-tasks_anyhow : (cause : ℕ → Job → Bool → Type 0) (rate : ℕ) (tasks : List Task) (old new : List Feeder) → DidTasks cause rate tasks old new → DidTasks whatever rate tasks old new
-tasks_anyhow cause rate [] old new did = did
-tasks_anyhow cause rate (task ∷ earlier) old new did = (did.0, tasks_anyhow cause rate earlier old did.0 did.1, task_anyhow cause rate task did.0 new did.2)
+once_anyhow : (cause : ℕ → Job → Bool → Type 0) (rate : ℕ) (round : DecoderRound) (old new : List Feeder) → DecodesOnce cause rate round old new → DecodesOnce whatever rate round old new
+once_anyhow cause rate (Ends told) old new does = does
+once_anyhow cause rate (Refused fault) old new does = does
+once_anyhow cause rate (Passes told) old new does = does
+once_anyhow cause rate (Did job told) old new does = (does.0, task_anyhow cause rate (record { place = does.0; job = job }) told old new does.1)
+
+rounds_anyhow : (cause : ℕ → Job → Bool → Type 0) (rate : ℕ) (rounds : List DecoderRound) (old new : List Feeder) → DidRounds cause rate rounds old new → DidRounds whatever rate rounds old new
+rounds_anyhow cause rate [] old new did = did
+rounds_anyhow cause rate (round ∷ earlier) old new did = (did.0, rounds_anyhow cause rate earlier old did.0 did.1, once_anyhow cause rate round did.0 new did.2)
 
 pub runs_anyhow : (cause : ℕ → Job → Bool → Type 0) (rate : ℕ) (old : List Feeder) (left : List FeederEnd) → RunsFor cause rate old left → RunsDecoder rate old left
 runs_anyhow cause rate old left r = record {
   last = r.last;
   rings = r.rings;
-  decodes = (r.decodes.0, (r.decodes.1.0, r.decodes.1.1, tasks_anyhow cause rate r.decodes.1.0 old r.decodes.1.1 r.decodes.1.2, r.decodes.1.3));
+  decodes = (r.decodes.0, (r.decodes.1.0, r.decodes.1.1, rounds_anyhow cause rate (Ends r.last ∷ r.decodes.1.0) old r.rings r.decodes.1.2));
   left = r.left;
 }

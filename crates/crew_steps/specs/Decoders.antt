@@ -16,6 +16,7 @@ use Rattle.crew_steps.specs.Feeding.{DoesJob, Feeds, FinishesJob}
 use Rattle.crew_steps.specs.Shown.{causes, songs_of}
 use Rattle.crew_steps.specs.Sounds.{OpenSongs}
 use Rattle.crew_steps.specs.declared.decoder.Decoder.{Decoder}
+use Rattle.crew_steps.specs.declared.decoder.DecoderRound.{DecoderRound}
 use Rattle.crew_steps.specs.declared.song_source.SongSource as SongSource
 use Rattle.crew_steps.specs.declared.songs.JobFrames.{JobFrames}
 use Rattle.crew_steps.specs.declared.songs.NoFrames.{NoFrames}
@@ -60,9 +61,9 @@ module _ {L S M R : Type 0} {source : SongSource.Ghosts S M} {media : Media.Ghos
   Decodes place job told old rings new rings' =
       DoesJob (causes old.songs) (songs_of new.songs) old.seat old.share.amount new.share.amount place job told rings.items rings'.items
 
-  -- it does one round
-  abbrev pub DecodesOnceWith : Decoder L S M R source media read failing → Option OutcomeData → Vec Feeder → Vec Feeder → Type 0
-  DecodesOnceWith decoder told rings rings' = DecodesOnce (causes decoder.songs) decoder.songs.rate told rings.items rings'.items
+  -- it does one round, and this comes of it
+  abbrev pub DecodesOnceWith : Decoder L S M R source media read failing → DecoderRound → Vec Feeder → Vec Feeder → Type 0
+  DecodesOnceWith decoder round rings rings' = DecodesOnce (causes decoder.songs) decoder.songs.rate round rings.items rings'.items
 
   -- it does round after round until it is told of the end
   abbrev pub DecodesAllWith : Decoder L S M R source media read failing → OutcomeData → Vec Feeder → Vec Feeder → Type 0

@@ -7,6 +7,7 @@ pub mod Feeding
 pub mod Folders
 pub mod OpenSongs
 pub mod OutputSetups
+pub mod Rests
 pub mod Rounds
 pub mod Shown
 pub mod Songs

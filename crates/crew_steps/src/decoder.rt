@@ -1,6 +1,8 @@
 //! The thread that decodes.
-ghost use Rattle.std.specs.Prelude.{◌≡◌, IfErr, nat_le};
+ghost use Rattle.std.specs.Prelude.{◌≡◌, ◌*◌, IfErr, nat_le};
+ghost use Rattle.std.specs.Duration.{as_nanos};
 ghost use Rattle.crew_steps.specs.Feeding.{HandsOutRead, feed_told};
+ghost use Rattle.crew_steps.specs.Rests.{blocks_in_half, idle_seconds, rest_for};
 ghost use Rattle.crew_steps.specs.Songs.{IsFaultOf, found_song};
 
 use crate::feeders::{are_among, finish_all, owing, push_all, take_all};
@@ -43,8 +45,8 @@ const LONGEST_REST: u64 = 100_000;
 /// How often it looks by time at rings into which no frame goes, before it looks each second.
 const VAIN_LOOKS: u32 = 16;
 
-/// How many milliseconds it rests at most where nothing is played: while frames wait for room in a ring, since
-/// nothing tells of the room, and while none do.
+/// How many milliseconds it rests at most where nothing is played: while frames wait for room in a ring,
+/// since nothing tells of the room, and while none do.
 const OWING_REST: u64 = 1_000;
 
 const IDLE_REST: u64 = 3_600_000;
@@ -89,22 +91,42 @@ pub struct DecoderEnd<L: Ledgers> {
     ghost part: { share.parts ≡ 1 },
 }
 
-/// What a decoder does next.
+/// What comes of asking a partition for a job.
 enum Next {
-    /// It was told of the end.
+    /// It told of the end.
     Ends(Reported),
-    Again,
-    /// It decodes a job, which it was given when the house had changed so often.
+    /// The asking was refused.
+    Refused(PartitionFault),
+    /// It has no job now, and told this.
+    Passes(Reported),
+    /// It gave a job, when the house had changed so often.
     Decodes(Job, u64),
 }
 
+/// What came of one round of a decoder, in which it asks one partition for a job.
+#[derive(Drop)]
+enum DecoderRound {
+    /// It was told of the end.
+    Ends(Reported),
+    /// Nothing was to be done: the asking was refused.
+    Refused(PartitionFault),
+    /// Nothing was to be done: the partition has no job now, and told this.
+    Passes(Reported),
+    /// It was given a job, and was told this of it. Nothing is told of one that is given up without memory.
+    Did(Job, Option<Reported>),
+}
+
 /// How many blocks of 1,024 frames are half a ring, from one to four.
-fn blocks_of(ring: usize) -> u64 {
+fn blocks_of(ring: usize) -> u64
+    ensures { result ≡ blocks_in_half ring }
+{
     (ring as u64 / 2_048).max(1).min(MOST_BLOCKS)
 }
 
 /// How long so many blocks of 1,024 frames last, in microseconds, from 1,000 to 100,000.
-fn time_of(blocks: u64, rate: u32) -> u64 {
+fn time_of(blocks: u64, rate: u32) -> u64
+    ensures { result ≡ rest_for blocks rate }
+{
     (blocks.min(MOST_BLOCKS) * 1_024_000_000 / u64::from(rate.max(1)))
         .max(1_000)
         .min(LONGEST_REST)
@@ -117,20 +139,26 @@ impl<'h, L: Ledgers, S: SongSource<M> + Drop, M: Media + Drop, R: Wait + Clock> 
     M,
     R,
 > {
-    ghost use Rattle.std.specs.Prelude.{◌≡◌, ◌<◌, ◌≤◌, [], false, true, IfErr, IfOk, OnErr, OnOk, vec_len, vec_capacity};
+    ghost use Rattle.std.specs.Prelude.{◌≡◌, ◌<◌, ◌≤◌, [], false, true, IfErr, IfOk, OnErr, OnOk};
+    ghost use Rattle.std.specs.Prelude.{vec_len, vec_capacity};
     ghost use Rattle.output_ring.specs.Rings.{EndsFeeder, SameFeeder};
     ghost use Rattle.player_events.specs.declared.event.Event.TheVariants.{Want};
-    ghost use Rattle.held_player.specs.Views.{TellsSomewhere};
-    ghost use Rattle.crew_steps.specs.Decoders.{Decodes, DecodesAllWith, DecodesOnceWith, EndsJobOf, FeedsRead, FinishesRead, IsNotOpenedBy, KeepsSeat, PartnerIsNotOpenedBy, RunsWith, TellsFrames, open_of};
+    ghost use Rattle.held_player.specs.Views.{RefusesSomewhere, TellsSomewhere};
+    ghost use Rattle.crew_steps.specs.Decoders.{Decodes, DecodesAllWith, DecodesOnceWith, EndsJobOf};
+    ghost use Rattle.crew_steps.specs.Decoders.{FeedsRead, FinishesRead, IsNotOpenedBy, KeepsSeat};
+    ghost use Rattle.crew_steps.specs.Decoders.{PartnerIsNotOpenedBy, RunsWith, TellsFrames, open_of};
     ghost use Rattle.crew_steps.specs.Decoding.{AsksFor, GivesJob, RunsDecoder};
     ghost use Rattle.crew_steps.specs.Each.{Each};
-    ghost use Rattle.crew_steps.specs.Feeding.{OwesNothingSomewhere, TakesNone, failure_of, owing as owing_lem};
+    ghost use Rattle.crew_steps.specs.Feeding.{OwesNothingSomewhere, TakesNone, failure_of};
+    ghost use Rattle.crew_steps.specs.Feeding.{owing as owing_lem};
+    ghost use Rattle.crew_steps.specs.Rests.{blocks_in_half, is_fast_after, next_rest, rest_for};
     ghost use Rattle.crew_steps.specs.Rounds.{all_passed, passed_after, seen_by};
     ghost use Rattle.crew_steps.specs.Shown.{IsReadFor};
     ghost use Rattle.crew_steps.specs.Songs.{Fails, IfFailed, IsFaultOf};
     ghost use Rattle.crew_steps.specs.Sounds.{AreOpenFor, KeepsOther, is_partner, is_song, song_at};
 
-    /// A decoder of songs of this rate, which it has of this source, for outputs whose rings hold so many frames.
+    /// A decoder of songs of this rate, which it has of this source, for outputs whose rings hold so many
+    /// frames. While a song is played a rest is for the blocks of half a ring, and no longer than these last.
     pub fn new(
         rt: &'h R,
         alloc: Global,
@@ -143,6 +171,8 @@ impl<'h, L: Ledgers, S: SongSource<M> + Drop, M: Media + Drop, R: Wait + Clock> 
         requires { share.parts ≡ 1 }
         ensures rate { result.songs.rate ≡ rate }
         ensures source { result.songs.source ≡ source }
+        ensures blocks { result.blocks ≡ blocks_in_half ring }
+        ensures look { result.look ≡ rest_for (blocks_in_half ring) rate }
     {
         let blocks = blocks_of(ring);
         Decoder {
@@ -164,8 +194,8 @@ impl<'h, L: Ledgers, S: SongSource<M> + Drop, M: Media + Drop, R: Wait + Clock> 
         }
     }
 
-    /// Asks for jobs and does them until the end, and finishes the feeders, whatever they owe. There is room for
-    /// their ends.
+    /// Asks for jobs and does them until the end, and finishes the feeders, whatever they owe. There is room
+    /// for their ends.
     pub fn run(self, feeders: Vec<Feeder>, room: Vec<FeederEnd>) -> DecoderEnd<L>
         requires { (room.items ≡ []) × (vec_len feeders ≤ vec_capacity room) }
         ensures rings { Each EndsFeeder feeders.items result.ends.items }
@@ -189,18 +219,17 @@ impl<'h, L: Ledgers, S: SongSource<M> + Drop, M: Media + Drop, R: Wait + Clock> 
     {
         let rt = self.rt;
         for _ in rt.forever() {
-            if let Some(told) = self.decode_once(feeders) {
+            if let DecoderRound::Ends(told) = self.decode_once(feeders) {
                 return told;
             }
         }
         unreachable!()
     }
 
-    /// Moves what waits into the rings, and decodes a job of the partition that has its turn, if it has one. One
-    /// for which there is no memory is asked for again when the others have had their turns. At the end it says
-    /// what it was told.
+    /// Moves what waits into the rings, asks the partition that has its turn for a job, and decodes it, if it
+    /// gives one. One for which there is no memory is asked for again when the others have had their turns.
     #[tactic(auto, using(crate::proofs::Pushes::each_kept))]
-    fn decode_once(&mut self, feeders: &mut Vec<Feeder>) -> Option<Reported>
+    fn decode_once(&mut self, feeders: &mut Vec<Feeder>) -> DecoderRound
         ensures rings { Each SameFeeder feeders.old.items feeders.new.items }
         ensures decodes { DecodesOnceWith self.old result feeders.old feeders.new }
         ensures rate { self.new.songs.rate ≡ self.old.songs.rate }
@@ -211,27 +240,31 @@ impl<'h, L: Ledgers, S: SongSource<M> + Drop, M: Media + Drop, R: Wait + Clock> 
         let place = next_place(places, self.place);
         self.place = place;
         match self.ask(place, owes, count_of(places)) {
-            Next::Ends(told) => Some(told),
-            Next::Again => None,
+            Next::Ends(told) => DecoderRound::Ends(told),
+            Next::Refused(fault) => DecoderRound::Refused(fault),
+            Next::Passes(told) => DecoderRound::Passes(told),
             Next::Decodes(job, changes) => {
                 let told = self.decode(feeders, place, &job);
-                self.pass_untold(told, changes, owes, count_of(places));
-                None
+                self.pass_untold(&told, changes, owes, count_of(places));
+                DecoderRound::Did(job, told)
             }
         }
     }
 
-    /// Asks a partition for a job. Where there is no answer it waits a while. There is no job while a ring of
-    /// one of the partition's outputs owes frames.
+    /// Asks a partition for a job. Where the asking is refused it waits a while. There is no job while a ring
+    /// of one of the partition's outputs owes frames.
     #[tactic(auto, using(crate::proofs::Wanted::owes_nothing))]
     fn ask(&mut self, place: u8, owes: [bool; 8], partitions: usize) -> Next
         ensures asks { AsksFor self.old.seat place owes result }
         ensures idle { GivesJob result → self.new.idle ≡ 0 }
         ensures rate { self.new.songs.rate ≡ self.old.songs.rate }
     {
-        let Ok(told) = self.want(place, owes) else {
-            self.pause();
-            return Next::Again;
+        let told = match self.want(place, owes) {
+            Ok(told) => told,
+            Err(fault) => {
+                self.pause();
+                return Next::Refused(fault);
+            }
         };
         match told.report() {
             Report::Ended => Next::Ends(told),
@@ -241,7 +274,7 @@ impl<'h, L: Ledgers, S: SongSource<M> + Drop, M: Media + Drop, R: Wait + Clock> 
             }
             _ => {
                 self.pass(told.changes(), owes, partitions);
-                Next::Again
+                Next::Passes(told)
             }
         }
     }
@@ -249,6 +282,7 @@ impl<'h, L: Ledgers, S: SongSource<M> + Drop, M: Media + Drop, R: Wait + Clock> 
     /// Asks a partition for a job, and says of which outputs frames still wait.
     fn want(&mut self, place: u8, owes: [bool; 8]) -> Result<Reported, PartitionFault>
         ensures told { IfOk result (TellsSomewhere self.old.seat (Want place owes)) }
+        ensures refused { IfErr result (RefusesSomewhere self.old.seat (Want place owes)) }
         ensures rate { self.new.songs.rate ≡ self.old.songs.rate }
     {
         self.house
@@ -258,7 +292,7 @@ impl<'h, L: Ledgers, S: SongSource<M> + Drop, M: Media + Drop, R: Wait + Clock> 
     /// Passes over a partition whose job was given up, of which nothing was told.
     fn pass_untold(
         &mut self,
-        told: Option<Reported>,
+        told: &Option<Reported>,
         changes: u64,
         owes: [bool; 8],
         partitions: usize,
@@ -299,8 +333,8 @@ impl<'h, L: Ledgers, S: SongSource<M> + Drop, M: Media + Drop, R: Wait + Clock> 
     }
 
     /// Moves frames into the rings. Where several blocks were decoded without a rest, it looks at full rings
-    /// again; but a ring that stayed full so long is not waited for until it has room, or an output that takes
-    /// nothing would hold up those of other partitions.
+    /// again; but a ring that stayed full so long is not waited for until it has room, or an output that
+    /// takes nothing would hold up those of other partitions.
     fn fill_rings(&mut self, feeders: &mut Vec<Feeder>)
         ensures kept { Each TakesNone feeders.old.items feeders.new.items }
         ensures rate { self.new.songs.rate ≡ self.old.songs.rate }
@@ -321,9 +355,9 @@ impl<'h, L: Ledgers, S: SongSource<M> + Drop, M: Media + Drop, R: Wait + Clock> 
         }
     }
 
-    /// Decodes a job of a partition, and hands its frames to the outputs that they are for, or tells that one of
-    /// its songs has failed. `None` where there was no memory: then nothing is told, and the partition gives the
-    /// job again. No ring of one of the partition's outputs owed frames when the job was given.
+    /// Decodes a job of a partition, and hands its frames to the outputs that they are for, or tells that one
+    /// of its songs has failed. `None` where there was no memory: then nothing is told, and the partition
+    /// gives the job again. No ring of one of the partition's outputs owed frames when the job was given.
     fn decode(&mut self, feeders: &mut Vec<Feeder>, place: u8, job: &Job) -> Option<Reported>
         requires { OwesNothingSomewhere place (owing_lem feeders.old.items) }
         ensures rings { Each SameFeeder feeders.old.items feeders.new.items }
@@ -334,8 +368,8 @@ impl<'h, L: Ledgers, S: SongSource<M> + Drop, M: Media + Drop, R: Wait + Clock> 
         self.finish_job(feeders, place, job, read)
     }
 
-    /// Tells what came of reading a job. Its frames are handed out as that is told; only where there was no memory
-    /// to read them nothing is told.
+    /// Tells what came of reading a job. Its frames are handed out as that is told; only where there was no
+    /// memory to read them nothing is told.
     fn finish_job(
         &mut self,
         feeders: &mut Vec<Feeder>,
@@ -466,9 +500,11 @@ impl<'h, L: Ledgers, S: SongSource<M> + Drop, M: Media + Drop, R: Wait + Clock> 
         unreachable!()
     }
 
-    /// Whether it decoded more blocks since its last rest than that was for, and one that went while the rest was
-    /// over late: frames are taken fast.
-    fn is_fast(&self) -> bool {
+    /// Whether it decoded more blocks since its last rest than that was for, and one that went while the rest
+    /// was over late: frames are taken fast.
+    fn is_fast(&self) -> bool
+        ensures { result ≡ is_fast_after self.now.blocks self.now.streak }
+    {
         self.streak > self.blocks.saturating_add(1)
     }
 
@@ -476,6 +512,7 @@ impl<'h, L: Ledgers, S: SongSource<M> + Drop, M: Media + Drop, R: Wait + Clock> 
     /// tells of them, whether a song is played or the last one has ended.
     fn rest(&mut self, seen: u64, owes: bool)
         ensures rests { self.new.streak ≡ 0 }
+        ensures wait { self.new.wait ≡ next_rest self.old.blocks self.old.streak self.old.wait self.old.look }
         ensures kept { (self.new.idle ≡ self.old.idle) × (self.new.seen ≡ self.old.seen) }
         ensures rate { self.new.songs.rate ≡ self.old.songs.rate }
     {
@@ -506,7 +543,9 @@ impl<'h, L: Ledgers, S: SongSource<M> + Drop, M: Media + Drop, R: Wait + Clock> 
 }
 
 /// How long it rests at most where nothing is played, and it does not look by time.
-fn idle_rest(owes: bool) -> Duration {
+fn idle_rest(owes: bool) -> Duration
+    ensures { as_nanos result ≡ idle_seconds owes * 1_000_000_000 }
+{
     Duration::from_millis(if owes { OWING_REST } else { IDLE_REST })
 }
 

@@ -1,5 +1,6 @@
-use Rattle.std.proofs.Common.{◌≡◌, inr, rules, subst}
-use Rattle.crew_steps.specs.Decoding.{IsGiven}
+use Rattle.std.proofs.Common.{◌≡◌, rules, subst}
+use Rattle.crew_steps.specs.Decoding.{AsksFor, IsGiven}
+use Rattle.crew_steps.specs.declared.decoder.Next.TheVariants as next
 use Rattle.crew_steps.specs.Causes.{HasCause}
 use Rattle.crew_steps.specs.Feeding.{DoesJob, OwesNothingSomewhere}
 use Rattle.crew_steps.specs.Shown.{songs_of}
@@ -16,8 +17,8 @@ returns-in-Decodes-clause-rings g c =
 
 pub returns-in-Decodes-clause-decodes : goal.returns-in-Decodes-clause-decodes
 returns-in-Decodes-clause-decodes g c =
-    let rate : c.ask.new.self.songs.rate ≡ c.args.self.now.songs.rate = search rules in inr (
-      record { place = c.next_place-place.result; job = c.in-Decodes.job },
+    let rate : c.ask.new.self.songs.rate ≡ c.args.self.now.songs.rate = search rules in (
+      c.next_place-place.result,
       (
         c.push-owes.new.feeders.items,
         c.push-owes.new.self.seat,
@@ -31,9 +32,26 @@ returns-in-Decodes-clause-decodes g c =
           search rules,
           c.ask.new.self.share.amount,
           c.decode-told.new.self.share.amount,
-          c.decode-told.result,
           subst (λ r. DoesJob (HasCause g.S.SongSource.answers g.M.Media.all_bytes g.M.Failing.call_counts r) (songs_of c.decode-told.new.self.songs) c.ask.new.self.seat c.ask.new.self.share.amount c.decode-told.new.self.share.amount
               c.next_place-place.result c.in-Decodes.job c.decode-told.result c.push-owes.new.feeders.items c.decode-told.new.feeders.items) rate c.decode-told.ensures.decodes,
         ),
       ),
     )
+
+pub returns-in-Ends-clause-decodes : goal.returns-in-Ends-clause-decodes
+returns-in-Ends-clause-decodes g c = (
+  c.push-owes.ensures.kept,
+  (c.push-owes.new.self.seat, c.next_place-place.result, c.push-owes.new.self.own, subst (λ owing. AsksFor c.push-owes.new.self.seat c.next_place-place.result owing (next.Ends c.in-Ends.told)) c.push-owes.ensures.owes c.in-Ends.ensures.asks),
+)
+
+pub returns-in-Refused-clause-decodes : goal.returns-in-Refused-clause-decodes
+returns-in-Refused-clause-decodes g c = (
+  c.push-owes.ensures.kept,
+  (c.push-owes.new.self.seat, c.next_place-place.result, c.push-owes.new.self.own, subst (λ owing. AsksFor c.push-owes.new.self.seat c.next_place-place.result owing (next.Refused c.in-Refused.fault)) c.push-owes.ensures.owes c.in-Refused.ensures.asks),
+)
+
+pub returns-in-Passes-clause-decodes : goal.returns-in-Passes-clause-decodes
+returns-in-Passes-clause-decodes g c = (
+  c.push-owes.ensures.kept,
+  (c.push-owes.new.self.seat, c.next_place-place.result, c.push-owes.new.self.own, subst (λ owing. AsksFor c.push-owes.new.self.seat c.next_place-place.result owing (next.Passes c.in-Passes.told)) c.push-owes.ensures.owes c.in-Passes.ensures.asks),
+)
