@@ -40,7 +40,7 @@ fn add_digit(all: &mut Vec<u8>, high: u8, digit: u8) -> Result<u8, AllocError> {
 }
 
 /// The bytes of hexadecimal digits.
-fn bytes(alloc: Global, digits: &str) -> Result<Vec<u8>, AllocError> {
+pub(crate) fn bytes(alloc: Global, digits: &str) -> Result<Vec<u8>, AllocError> {
     let mut all = Vec::new(alloc);
     let mut high = NO_VALUE;
     for digit in digits.as_bytes() {
@@ -241,7 +241,7 @@ fn files_and_devices(rt: HostRuntime) -> Result<(), Fail> {
 }
 
 /// Digits that are each of some others, so many times.
-fn digits(alloc: Global, parts: &[(&str, usize)]) -> Result<String, AllocError> {
+pub(crate) fn digits(alloc: Global, parts: &[(&str, usize)]) -> Result<String, AllocError> {
     let mut digits = Told::new(alloc);
     for (part, times) in parts {
         digits.add_made(part.repeat(alloc, *times));
