@@ -63,6 +63,7 @@ class Checks:
         self.wants('a file', ('scan', os.path.join(folder, 'x.wav')), 1, b'',
                    b'music_daemon: cannot read folder %s\n' % os.fsencode(os.path.join(folder, 'x.wav')))
         self.wants('no folder', ('scan', 'nosuch'), 1, b'', b'music_daemon: cannot read folder nosuch\n')
+        self.wants('a line break in its name', ('scan', 'no\nsuch'), 1, b'', b'music_daemon: cannot read folder no\\nsuch\n')
 
     def example(self):
         for name in example_music.files():

@@ -14,10 +14,8 @@ STEP = re.compile(r'! (?:bad|ok|none|stale|ended|refused [a-z ]+|job [\d a-z]+|f
 STARTS = ['cannot read ', 'bad setting ', 'cannot open shelf$', 'cannot read folder ', 'too many songs$', 'cannot listen at ', 'write fault$', 'history full$',
           'player limit reached$']
 REFUSAL = re.compile('music_daemon: (?:%s)' % '|'.join(STARTS))
-# A refusal repeats what the settings name, with its line breaks.
-NAMING = re.compile('music_daemon: (?:cannot read |bad setting |cannot listen at )')
 # what it says beside a good start
-REMARK = re.compile(r'music_daemon: (?:state: |\d+ songs|\d+ of \d+ files are at |the state with refused lines cannot be kept$)')
+REMARK = re.compile(r'music_daemon: (?:version |scan(?: in \d+ ms)?: |state: |end: |the state with refused lines cannot be kept$)')
 
 
 class Fault(Exception):

@@ -12,7 +12,7 @@ CHECKS = os.path.dirname(HERE)
 sys.path.insert(0, CHECKS)
 
 import rows
-from answers import NAMING, REFUSAL, REMARK, Fault, check_answer_line, check_step_line, shapes_of
+from answers import REFUSAL, REMARK, Fault, check_answer_line, check_step_line, shapes_of
 
 MARK = '9 ACK [5@0] {} unknown command "mark"'
 LIBRARY = ['! limit everyday 1', '! song a.wav 8000 Title=One Artist=Ann Date=2001', '! song b/c.wav 4000 "Title=It\'s \\"so\\"" Artist=Zo\u00eb',
@@ -115,8 +115,8 @@ def check_start(ended):
     if ended.status == 0 and ended.output.startswith(b'music: ') and all(REMARK.match(line) for line in lines):
         return ended.lines() + lines
     rest = list(itertools.dropwhile(REMARK.match, lines))
-    if ended.status == 1 and not ended.output and rest and REFUSAL.match(rest[0]) and (len(rest) == 1 or NAMING.match(rest[0])):
-        return lines[:len(lines) - len(rest) + 1]
+    if ended.status == 1 and not ended.output and len(rest) == 1 and REFUSAL.match(rest[0]):
+        return lines
     raise Fault('no refusal', ended.told())
 
 

@@ -1,5 +1,5 @@
 //! Texts as settings.
-use settings::{Settings, SettingsFault, settings};
+use settings::{OneLine, Settings, SettingsFault, settings};
 use std::alloc::{AllocError, Global};
 use std::test::Fail;
 use wanted::{Told, wants};
@@ -221,4 +221,16 @@ fn texts_as_settings(rt: HostRuntime) -> Result<(), Fail> {
         "/m 127.0.0.1:0 - - 44100 0 4096 8192 false a=/a:true a=/a:true a=/a:true a=/a:true a=/a:true a=/a:true a=/a:true a=/a:true",
     )?;
     wants(told_of_outputs(rt.alloc(), 9), "BadSetting(output)")
+}
+
+/// What stands for control characters, and that all else stays.
+#[test]
+fn texts_in_one_line(rt: HostRuntime) -> Result<(), Fail> {
+    let plain = OneLine("/m é\\n \"a\" ~");
+    wants(format!(in rt.alloc(); "{plain}"), "/m é\\n \"a\" ~")?;
+    let broken = OneLine("a\n\t\r\u{1b}[\u{0}\u{7f}\u{85}\u{a0}b");
+    wants(
+        format!(in rt.alloc(); "{broken}"),
+        "a\\n\\t\\r\\u{1b}[\\u{0}\\u{7f}\\u{85}\u{a0}b",
+    )
 }

@@ -2,3 +2,4 @@ pub mod Taken
 pub mod First
 pub mod Causes
 pub mod Texts
+pub mod OneLines

@@ -2,3 +2,4 @@ pub mod Keys
 pub mod Values
 pub mod Refusals
 pub mod Readings
+pub mod OneLines

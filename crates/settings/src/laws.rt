@@ -1,4 +1,5 @@
 //! Laws of the definitions. A caller that calls one may use it; each does nothing.
+ghost use Rattle.settings.specs.OneLines.{OneLines};
 ghost use Rattle.settings.specs.Readings.{Readings};
 ghost use Rattle.settings.specs.Refusals.{OneCause};
 
@@ -10,4 +11,9 @@ pub fn one_cause()
 /// What some texts are, and where the ranges end.
 pub fn readings()
     ensures { Readings }
+{}
+
+/// What is told of a text has one line, and is the text itself where that has no control character.
+pub fn one_lines()
+    ensures { OneLines }
 {}

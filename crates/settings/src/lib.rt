@@ -5,9 +5,11 @@ mod document;
 mod faults;
 mod keys;
 mod laws;
+mod one_line;
 mod reads;
 mod values;
 
 pub use document::settings;
-pub use laws::{one_cause, readings};
+pub use laws::{one_cause, one_lines, readings};
+pub use one_line::OneLine;
 pub use values::{OutputSettings, Settings, SettingsFault};
