@@ -1,9 +1,10 @@
 #!/usr/bin/env python3
-"""The state over starts: what is there again, kill -9 while a client edits, stops at each write, and files of a state that are none.
+"""The state over starts: what is there again, also of partitions, kill -9 while clients edit, stops at each write, and files of a state that are none.
 
     checks/serve/state.py [PROGRAM] [--times N] [--beside N]      (200 kills, 8 daemons at a time if left out)
 
-One client edits the queue without a pause; the daemon is killed at a random moment and started again on the same file of the state.
+One client edits the queue without a pause, and then one in each of three partitions; the daemon is killed at a random moment and started
+again on the same file of the state.
 The queue that comes back is one that stood at most three seconds before the kill, or, before the first write, the one of the start.
 The disk that is full is a small one in memory, and the file of another user is read as nobody: both need root.
 """
@@ -54,9 +55,10 @@ def started(program, folder, music, path, outputs=()):
 class Editor(threading.Thread):
     """A client that edits, and each queue that it made with the moments between which it stood."""
 
-    def __init__(self, daemon, songs, seed):
+    def __init__(self, daemon, songs, seed, room='default'):
         super().__init__()
         self.client, self.songs, self.draw = daemon.client(), songs, random.Random(seed)
+        self.client.must('partition ' + room)
         self.queues, self.wrong = [[time.monotonic(), None, queue_of(self.client)]], None
 
     def edit(self, queue):
@@ -172,11 +174,11 @@ def killed_once(program, folder, music, songs, number, moment):
     return None if editor.wrong or 'state' in told or not ages else max(0.0, min(ages)), len(editor.queues)
 
 
-def check_kills(program, folder, music, songs, times, beside):
-    table = Table('\nkill -9 while a client edits', 50, 60)
+def check_kills(program, folder, music, songs, times, beside, once=killed_once, title='kill -9 while a client edits'):
+    table = Table('\n' + title, 50, 60)
     draw = random.Random(7)
     with concurrent.futures.ThreadPoolExecutor(beside) as pool:
-        runs = [pool.submit(killed_once, program, folder, music, songs, number, draw.uniform(0, LONGEST)) for number in range(times)]
+        runs = [pool.submit(once, program, folder, music, songs, number, draw.uniform(0, LONGEST)) for number in range(times)]
         results = [run.result() for run in runs]
     wrong = [number for number, (age, _) in enumerate(results) if age is None]
     oldest = max([age for age, _ in results if age is not None] or [0.0])
@@ -184,6 +186,103 @@ def check_kills(program, folder, music, songs, times, beside):
     table.row('queues that never stood', str(wrong or 'none'), right=not wrong)
     table.row('the oldest that came back stood so long before', '%.2f s' % oldest, right=oldest <= OLDEST)
     return table.failed
+
+
+# Each partition: the outputs that come there, and what is said in it; the last lines leave it playing, paused or stopped.
+ROOMS = (
+    ('default', (), ('add ""', 'setvol 41', 'seek 3 2', 'pause 1')),
+    ('kitchen', ('out1', 'out3'), ('disableoutput 1', 'add "album 00/0003.wav"', 'add "album 00/0001.wav"', 'prio 7 1', 'crossfade 2', 'consume 1', 'seek 1 4.5', 'pause 1')),
+    ('bath', ('out2',), ('setvol 3', 'add "album 00/0002.wav"', 'random 1', 'play 0', 'stop')),
+)
+OUTPUTS = ['/dev/null'] * 4
+
+
+def open_rooms(client, rooms):
+    for name, outputs, lines in rooms:
+        if name != 'default':
+            client.must('newpartition ' + name)
+        for line in ('partition ' + name, *('moveoutput ' + output for output in outputs), *lines):
+            client.must(line)
+
+
+def rooms_of(client):
+    """Each partition with its state."""
+    found = {}
+    for line in client.must('listpartitions'):
+        name = line.partition(': ')[2]
+        client.must('partition ' + name)
+        found[name] = state_of(client)
+    client.must('partition default')
+    return found
+
+
+def check_rooms(program, folder, music):
+    """Partitions are there again with their outputs, after `kill` and after kill -9; and a song that is gone takes nothing with it."""
+    table = Table('\nPartitions', 50, 60)
+    kept = os.path.join(folder, 'rooms')
+    for ends in ('kill', 'kill -9'):
+        if os.path.exists(kept):
+            os.remove(kept)
+        daemon = started(program, folder, music, kept, OUTPUTS)
+        client = daemon.client()
+        open_rooms(client, ROOMS)
+        wanted = rooms_of(client)
+        if ends == 'kill':
+            daemon.end()
+        else:
+            time.sleep(OLDEST)
+            daemon.kill()
+        daemon = started(program, folder, music, kept, OUTPUTS)
+        found = rooms_of(daemon.client())
+        told = 'as it was' if found == wanted else '%s for %s' % (found, wanted)
+        table.row('three, after %s' % ends, told, right=found == wanted and daemon.errors().count('\n') == 0)
+        daemon.end()
+    with open(kept) as file:
+        lines = file.read()
+    with open(kept, 'w') as file:
+        file.write(lines.replace('album 00/0003.wav', 'gone.wav'))
+    daemon = started(program, folder, music, kept, OUTPUTS)
+    found = rooms_of(daemon.client())
+    right = found['kitchen'][1] == (('album 00/0001.wav', 7),) and found['bath'] == wanted['bath'] and found['kitchen'][2] == wanted['kitchen'][2]
+    table.row('a song that is gone', 'the others are there', right=right)
+    daemon.kill()
+    return table.failed
+
+
+def rooms_killed_once(program, folder, music, songs, number, moment):
+    """The greatest age of a queue that came back in one of three partitions; None where one never stood, or an output stands elsewhere or otherwise."""
+    own = os.path.join(folder, 'rooms killed %d' % number)
+    os.mkdir(own)
+    kept = os.path.join(own, 'state')
+    daemon = started(program, own, music, kept, OUTPUTS)
+    client = daemon.client()
+    open_rooms(client, (('kitchen', ('out1', 'out3'), ('disableoutput 1',)), ('bath', ('out2',), ())))
+    client.must('partition default')
+    client.must('disableoutput 0')
+    outputs = {name: state[2] for name, state in rooms_of(client).items()}
+    time.sleep(OLDEST)
+    editors = {name: Editor(daemon, songs, 3 * number + place, name) for place, (name, _, _) in enumerate(ROOMS)}
+    for editor in editors.values():
+        editor.start()
+    time.sleep(moment)
+    killed = time.monotonic()
+    daemon.kill()
+    for editor in editors.values():
+        editor.join()
+    daemon = started(program, own, music, kept, OUTPUTS)
+    found = rooms_of(daemon.client())
+    told = daemon.errors()
+    daemon.kill()
+    edits = sum(len(editor.queues) for editor in editors.values())
+    if 'state' in told or {name: state[2] for name, state in found.items()} != outputs or any(editor.wrong for editor in editors.values()):
+        return None, edits
+    ages = []
+    for name, editor in editors.items():
+        stood = [killed - (end or killed) for start, end, queue in editor.queues if queue == found[name][1]]
+        if not stood:
+            return None, edits
+        ages.append(max(0.0, min(stood)))
+    return max(ages), edits
 
 
 CALLS = ('openat', 'write', 'fsync', 'close', 'rename')
@@ -381,7 +480,9 @@ def main():
         songs = ['album %02d/%04d.wav' % (number // 10, number) for number in range(12)]
         failed = check_all_back(program, folder, music) + check_played(program, folder, music) + check_files(program, folder, music)
         failed += check_full(program, folder, music) + check_stops(program, folder, music, given.beside)
+        failed += check_rooms(program, folder, music)
         failed += check_kills(program, folder, music, songs, given.times, given.beside)
+        failed += check_kills(program, folder, music, songs, given.times, given.beside, rooms_killed_once, 'kill -9 while three clients edit in three partitions')
     print('\n%d failed' % failed)
     return 1 if failed else 0
 

@@ -3,3 +3,6 @@ pub mod Back
 pub mod Behind
 pub mod Told
 pub mod OneLine
+pub mod Sections
+pub mod HeardMore
+pub mod PlayersBack

@@ -27,7 +27,7 @@ later_or : (earlier value : Option (List ℕ)) (default : List ℕ) → unwrap_o
 later_or earlier None default = refl
 later_or earlier (Some value) default = refl
 
-text_more : (key default line : List ℕ) (lines : List (List ℕ)) → text_after key line (told_or key default lines) ≡ told_or key default (lines ++ line ∷ [])
+pub text_more : (key default line : List ℕ) (lines : List (List ℕ)) → text_after key line (told_or key default lines) ≡ told_or key default (lines ++ line ∷ [])
 text_more key default line lines =
     sym (ap (λ o. unwrap_or o default) (told_more key line lines) ∙ later_or (told key lines) (behind key line) default)
 

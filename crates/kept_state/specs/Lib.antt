@@ -1,6 +1,10 @@
 pub mod Heard
 pub mod Lines
+pub mod HeardPartitions
 pub mod Outputs
+pub mod Partitions
+pub mod PlayerReading
+pub mod Players
 pub mod Reading
 pub mod Storing
 pub mod Telling

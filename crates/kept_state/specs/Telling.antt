@@ -78,8 +78,9 @@ first_word line = before_first (λ b. b == 32) line
 -- the commands of a state
 abbrev pub state_commands : List (List ℕ)
 state_commands =
-    codes "add" ∷ codes "addid" ∷ codes "consume" ∷ codes "crossfade" ∷ codes "disableoutput" ∷ codes "enableoutput" ∷ codes "pause"
-    ∷ codes "play" ∷ codes "prio" ∷ codes "random" ∷ codes "repeat" ∷ codes "seek" ∷ codes "setvol" ∷ codes "single" ∷ codes "stop" ∷ []
+    codes "add" ∷ codes "addid" ∷ codes "consume" ∷ codes "crossfade" ∷ codes "disableoutput" ∷ codes "enableoutput" ∷ codes "moveoutput"
+    ∷ codes "newpartition" ∷ codes "partition" ∷ codes "pause" ∷ codes "play" ∷ codes "prio" ∷ codes "random" ∷ codes "repeat"
+    ∷ codes "seek" ∷ codes "setvol" ∷ codes "single" ∷ codes "stop" ∷ []
 
 abbrev pub is_of_state : List ℕ → Bool
 is_of_state line = list_any (λ name. bytes_eq (first_word line) name) state_commands

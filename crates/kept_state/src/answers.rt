@@ -10,7 +10,7 @@ use std::alloc::{AllocError, Global};
 
 /// What was heard of the answers so far.
 #[derive(Drop)]
-struct Heard {
+pub(crate) struct Heard {
     options: KeptOptions,
     /// The place of the current song in the queue, where there is one.
     place: Option<u32>,
@@ -53,7 +53,7 @@ fn shown(outputs: &[KeptOutput], number: usize) -> Option<bool>
     None
 }
 
-fn nothing_heard(alloc: Global) -> Result<Heard, AllocError>
+pub(crate) fn nothing_heard(alloc: Global) -> Result<Heard, AllocError>
     ensures { IfOk result (HasHeard []) }
 {
     Ok(Heard {
@@ -80,7 +80,7 @@ fn first_options(alloc: Global) -> Result<KeptOptions, AllocError>
     })
 }
 
-fn hear(alloc: Global, heard: &mut Heard, line: &str) -> Result<(), AllocError>
+pub(crate) fn hear(alloc: Global, heard: &mut Heard, line: &str) -> Result<(), AllocError>
     ensures { OnOk result (Hears line.now heard.old heard.new) }
 {
     hear_options(alloc, &mut heard.options, line)?;
@@ -105,7 +105,12 @@ fn hear_options(alloc: Global, options: &mut KeptOptions, line: &str) -> Result<
 }
 
 /// A text of which a line may tell another one.
-fn hear_text(alloc: Global, text: &mut Text, key: &str, line: &str) -> Result<(), AllocError>
+pub(crate) fn hear_text(
+    alloc: Global,
+    text: &mut Text,
+    key: &str,
+    line: &str,
+) -> Result<(), AllocError>
     ensures { OnOk result (text.new ≡ text_after key.now line.now text.old) }
 {
     if let Some(value) = value_behind(key, line) {
@@ -160,7 +165,7 @@ fn prioritize_last(songs: &mut Vec<KeptEntry>, priority: u32)
 }
 
 /// What stands in a line behind a key.
-fn value_behind<'l>(key: &str, line: &'l str) -> Option<&'l str>
+pub(crate) fn value_behind<'l>(key: &str, line: &'l str) -> Option<&'l str>
     ensures { MatchOption result (behind key.now line.now ≡ None) (λ value. behind key.now line.now ≡ Some value.now) }
 {
     line.strip_prefix(key)
@@ -173,7 +178,7 @@ fn number_or_0(text: &str) -> u32
 }
 
 /// What is kept by all that was heard.
-fn kept_by(alloc: Global, heard: Heard) -> Result<Kept, AllocError>
+pub(crate) fn kept_by(alloc: Global, heard: Heard) -> Result<Kept, AllocError>
     ensures { IfOk result (Keeps heard) }
 {
     let Heard {

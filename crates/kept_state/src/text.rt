@@ -33,7 +33,7 @@ fn option_text(alloc: Global, options: &KeptOptions) -> Result<String, AllocErro
 }
 
 /// A command with one argument.
-fn line(alloc: Global, name: &str, argument: &str) -> Result<String, AllocError>
+pub(crate) fn line(alloc: Global, name: &str, argument: &str) -> Result<String, AllocError>
     ensures { IfOk result (λ text. string_bytes text ≡ texts.line name.now argument.now) }
 {
     format!(in alloc; "{name} {argument}\n")

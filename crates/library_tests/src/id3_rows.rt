@@ -216,7 +216,7 @@ a0ff7f20 => \u{a0}\u{ff}\u{7f}
 fn title_len(alloc: Global, parts: &[(&str, usize)]) -> Result<usize, AllocError> {
     let digits = digits(alloc, parts)?;
     let texts = texts_of(alloc, bytes(alloc, digits.as_str())?.as_slice())?;
-    match texts.title {
+    match &texts.title {
         Some(text) => Ok(text.as_str().len()),
         None => Ok(0),
     }

@@ -2,8 +2,9 @@
 //!
 //! A step is a line, of a word and numbers, and tells what is answered. These functions are the only ones
 //! that hold a player.
-use crate::tables::{consume_of, first_word, number_of, single_of, songs, two_numbers};
+use crate::tables::{consume_of, single_of, songs};
 use player_core::{Job, Playback, Player, PlayerFault};
+use queue_tests::steps::{first_word, number_of, two_numbers};
 use song_queue::Queue;
 use std::alloc::{AllocError, Global};
 use std::mem;

@@ -2,32 +2,10 @@
 //!
 //! A test gives texts, of which each line is a step, and wants a text for each. So it knows nothing of what it
 //! calls, and is cheap to prove. What a test needs and cannot make counts as want of memory.
-use mpd_text::{Sequence, Song, number};
+use mpd_text::{Sequence, Song};
 use play_order::{Consume, Single};
 use song_db::SharedSong;
 use std::alloc::{AllocError, Global};
-
-/// The number of a word; 0 where there is none.
-pub fn number_of(word: &str) -> u32 {
-    match number(word) {
-        Some(number) => number,
-        None => 0,
-    }
-}
-
-/// The first word of a line, and what follows.
-pub fn first_word(line: &str) -> (&str, &str) {
-    match line.split_once(' ') {
-        Some(parts) => parts,
-        None => (line, ""),
-    }
-}
-
-/// The two numbers of a text; 0 for each that is not there.
-pub fn two_numbers(text: &str) -> (u32, u32) {
-    let (first, second) = first_word(text);
-    (number_of(first), number_of(second))
-}
 
 /// The song of a letter, without tags: `a`, `b` and `c` are of one, two and three seconds, others of four
 /// frames.

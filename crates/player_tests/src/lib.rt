@@ -14,6 +14,8 @@ mod folds;
 #[cfg(test)]
 mod returns;
 #[cfg(test)]
+mod rooms;
+#[cfg(test)]
 mod session;
 #[cfg(test)]
 mod sessions;

@@ -30,7 +30,7 @@ fn state_after(alloc: Global, uris: &str, steps: &str) -> Result<String, AllocEr
 }
 
 /// The steps of a client that says these lines.
-fn steps_of(alloc: Global, lines: &str) -> Result<String, AllocError> {
+pub(crate) fn steps_of(alloc: Global, lines: &str) -> Result<String, AllocError> {
     let mut steps = Told::new(alloc);
     let mut is_in_list = false;
     for line in lines.lines() {

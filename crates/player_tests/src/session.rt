@@ -9,7 +9,7 @@ use mpd_text::{Answer, SharedText, Song};
 use partition::{Limits, ListOutcome, Partition, Setup};
 use player_events::{Event, Outcome};
 use player_state::{Library, Outputs, Report, Scan};
-use queue_tests::steps::{entry, first_word, number_of, song};
+use queue_tests::steps::{entry, first_word, number_of, song, two_numbers};
 use shelf::MemShelf;
 use song_db::{Db, Rate, SharedDb};
 use std::alloc::{AllocError, Global};
@@ -352,12 +352,6 @@ fn scans(lent: &mut Lent, alloc: Global, word: &str, told: &mut Told) {
         Ok(library) => happens(lent, alloc, 5, Event::ScanResult(library, 0), told),
         Err(_) => told.fail(),
     }
-}
-
-/// The two numbers of a text.
-fn two_numbers(text: &str) -> (u32, u32) {
-    let (first, second) = first_word(text);
-    (number_of(first), number_of(second))
 }
 
 /// What the decoder asks or brings, at seat 6.

@@ -22,6 +22,12 @@ pub fn first_word(line: &str) -> (&str, &str) {
     }
 }
 
+/// The two numbers of a text; 0 for each that is not there.
+pub fn two_numbers(text: &str) -> (u32, u32) {
+    let (first, second) = first_word(text);
+    (number_of(first), number_of(second))
+}
+
 /// The song of this URI, of one second and without tags.
 pub fn song(alloc: Global, uri: &str) -> Result<Song, AllocError> {
     let uri = String::from_str(alloc, uri)?;

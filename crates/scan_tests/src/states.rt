@@ -1,8 +1,53 @@
 //! What is kept of a player, as lines.
-use kept_state::{kept_of, state_text};
+use kept_state::{kept_of, partitions_of, player_text, state_text};
 use std::alloc::{AllocError, Global};
 use std::test::Fail;
 use wanted::{wants, wants_made};
+
+/// What a player with two partitions answered, the other one first.
+const PARTITIONS: &str = "partition: bath
+partition: default
+volume: 30
+partition: bath
+state: stop
+outputid: 1
+outputname: a \"b\"
+outputenabled: 0
+outputid: 2
+outputname: c
+outputenabled: 1
+file: b.wav
+volume: 100
+partition: default
+state: stop
+outputid: 0
+outputname: d
+outputenabled: 1
+file: a.wav
+";
+
+const PARTITION_LINES: &str = "setvol 100
+repeat 0
+random 0
+single 0
+consume 0
+crossfade 0
+enableoutput 0
+addid \"a.wav\" 0
+newpartition \"bath\"
+partition \"bath\"
+moveoutput \"a \\\"b\\\"\"
+moveoutput \"c\"
+setvol 30
+repeat 0
+random 0
+single 0
+consume 0
+crossfade 0
+disableoutput 1
+enableoutput 2
+addid \"b.wav\" 0
+";
 
 const OPTIONS: &str = "setvol 100\nrepeat 0\nrandom 0\nsingle 0\nconsume 0\ncrossfade 0\n";
 
@@ -43,6 +88,25 @@ fn gives(alloc: Global, answers: &str, lines: &str) -> Result<(), Fail> {
     wants_made(
         text_of(alloc, answers),
         format!(in alloc; "{OPTIONS}{lines}"),
+    )
+}
+
+fn partitions_text(alloc: Global, answers: &str) -> Result<String, AllocError> {
+    match partitions_of(alloc, answers)? {
+        Some(partitions) => player_text(alloc, &partitions),
+        None => String::from_str(alloc, "not all"),
+    }
+}
+
+#[test]
+fn partitions(rt: HostRuntime) -> Result<(), Fail> {
+    wants(partitions_text(rt.alloc(), PARTITIONS), PARTITION_LINES)?;
+    wants(
+        partitions_text(
+            rt.alloc(),
+            "partition: bath\npartition: default\nvolume: 1\npartition: default\n",
+        ),
+        "not all",
     )
 }
 
