@@ -196,10 +196,10 @@ def ended(daemon, played, path):
     """The sort of the end of a daemon that was ended by `kill`: it wrote all; or its output could not be opened, and it discarded
     all; or it had no memory for the end."""
     status = daemon.process.wait(END)
-    if (status, daemon.output(), daemon.errors()) == (1, '', 'music_daemon: out of memory'):
+    if (status, daemon.output(), daemon.unusual()) == (1, '', 'music_daemon: out of memory'):
         return NO_SUMMARY
     summary = SUMMARY.match(daemon.output().strip())
-    if status != 0 or not summary or daemon.errors():
+    if status != 0 or not summary or daemon.unusual():
         raise Wrong('it ended with status %d, %r, %r' % (status, daemon.output(), daemon.errors()))
     decoded, written, discarded, left = map(int, summary.groups())
     if decoded != written + discarded + left:
@@ -221,7 +221,7 @@ def run(program, library, music, number):
         try:
             household = met(daemon)
             if not household:
-                status, errors, told = daemon.process.wait(END), daemon.errors(), daemon.output()
+                status, errors, told = daemon.process.wait(END), daemon.unusual(), daemon.output()
                 if (status, errors) != (1, 'music_daemon: out of memory') or told not in ('', IDLE):
                     raise Wrong('the start ended with status %d, %r, %r' % (status, told, errors))
                 return START_ENDED, '', count_in(report)

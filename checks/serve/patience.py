@@ -13,12 +13,11 @@ import re
 import signal
 import subprocess
 import sys
-import tempfile
 import time
 
 sys.dont_write_bytecode = True
 
-from daemon import Client, Daemon, Pacer, Process, Table, free_port, program_of, put_songs
+from daemon import Client, Daemon, Pacer, Process, Table, check_each, free_port, program_of
 
 RATE = 44100
 PATIENCE = 2        # seconds
@@ -167,6 +166,9 @@ def stand(table, program, folder, music, more, patience, seconds, most):
     for number in range(3):
         gap = readers[number].longest_gap(now - 1, now)
         table.row('output %d: longest gap' % number, '%.2f s' % gap, right=gap < STEADY)
+    told = [line.partition(': ')[2] for line in daemon.errors().splitlines() if 'switched' in line]
+    wanted = ['output 1: switched off, since %s takes nothing' % readers[1].path, 'output 1: switched on again (%s)' % readers[1].path]
+    table.row('on standard error', '; '.join(told).replace(folder, '..'), right=told == wanted)
     books = end(table, daemon, readers)
     discarded = [book[3] for book in books]
     table.row('frames that were discarded', discarded, right=len(books) == 3 and discarded[0] == discarded[2] == 0 < discarded[1])
@@ -395,13 +397,7 @@ def main():
     checks = [
         check_minute, check_stands, check_short, check_unread, check_by_hand, check_switches, check_stopped, check_moved, check_end, check_without,
         check_kept, check_clients]
-    for check in checks:
-        with tempfile.TemporaryDirectory() as folder:
-            music = os.path.join(folder, 'music')
-            put_songs(music, 3, 20 * RATE)
-            check(table, program, folder, music)
-    print('\n%d failed' % table.failed)
-    return 1 if table.failed else 0
+    return check_each(program, table, checks, RATE)
 
 
 if __name__ == '__main__':

@@ -4,11 +4,13 @@
     checks/serve/starts.py [PROGRAM]
 """
 import os
+import re
 import socket
 import sqlite3
 import subprocess
 import sys
 import tempfile
+import time
 
 sys.dont_write_bytecode = True
 
@@ -26,6 +28,7 @@ CASES = [
     ('no music', 'listen = ""', 'bad setting music'),
     ('history of 0', GOOD + 'history = 0', 'bad setting history'),
     ('an output without its path', GOOD + '[[output]]\nname = "a"', 'bad setting output'),
+    ('a line break in a key', GOOD + '"a\\nb" = 1', r'bad setting a\nb'),
     ('bad settings before a bad shelf', GOOD + 'shelf = "/nosuch/shelf"\nring = 1', 'bad setting ring'),
     ('a shelf in a folder that is not there', GOOD + 'shelf = "/nosuch/shelf"', 'cannot open shelf'),
     ('a shelf that is a folder', GOOD + 'shelf = "%(music)s"', 'cannot open shelf'),
@@ -34,8 +37,10 @@ CASES = [
     ('a shelf of another profile', GOOD + 'shelf = "%(ninth)s"', 'cannot open shelf'),
     ('a bad shelf before a bad folder', 'music = "/nosuch"\nlisten = ""\nshelf = "/nosuch/shelf"', 'cannot open shelf'),
     ('a folder that is not there', 'music = "/nosuch"\nlisten = ""', 'cannot read folder /nosuch'),
+    ('a line break in a folder', 'music = "/no\\nsuch"\nlisten = ""', r'cannot read folder /no\nsuch'),
     ('a file for a folder', 'music = "%(settings)s"\nlisten = ""', 'cannot read folder %(settings)s'),
     ('no address', 'music = "%(music)s"\nlisten = "here"', 'cannot listen at here, which is no address and port such as 127.0.0.1:6600'),
+    ('a line break in an address', 'music = "%(music)s"\nlisten = "a\\nb"', r'cannot listen at a\nb, which is no address and port such as 127.0.0.1:6600'),
     ('a name for an address', 'music = "%(music)s"\nlisten = "house:6600"', 'cannot listen at house:6600, which is no address and port such as 127.0.0.1:6600'),
     ('a state that is a folder', GOOD + 'state = "%(music)s"', 'cannot read %(music)s'),
     ('an address of another machine', 'music = "%(music)s"\nlisten = "192.0.2.1:6600"', 'cannot listen at 192.0.2.1:6600, which is no address of this machine'),
@@ -83,6 +88,16 @@ def check_one_start(program, folder, music):
     shelf, path = os.path.join(folder, 'shelf.db'), os.path.join(folder, 'never written')
     daemon = Daemon(program, folder, music, [path], shelf=shelf)
     client = daemon.client()
+    version = subprocess.run([program, '--version'], capture_output=True, text=True).stdout.split()[-1]
+    start = 'music_daemon: version %s listens at 127.0.0.1:%d, output out0 at %s; 12 songs' % (version, daemon.port, path)
+    told = daemon.errors()
+    table.row('the line of the start', told.replace(folder, '..'), right=told == start)
+    client.must('update')
+    wait = time.monotonic() + 30
+    while '\n' not in daemon.errors() and time.monotonic() < wait:
+        time.sleep(0.02)
+    told = daemon.errors().splitlines()[-1]
+    table.row('the line of a scan', told, right=re.fullmatch(r'music_daemon: scan in \d+ ms: 12 songs', told) is not None)
     table.row('ping', ' '.join(client.ask('ping')))
     second = subprocess.run([program, 'serve', '--config', daemon.settings], capture_output=True, timeout=60)
     table.row('a second daemon on the same shelf', second.stderr.decode().strip(), right=(second.returncode, second.stderr) == (1, b'music_daemon: cannot open shelf\n'))
@@ -90,6 +105,8 @@ def check_one_start(program, folder, music):
     client.must('save one')
     status, summary = daemon.end()
     table.row('the status, and the summary', '%d, %s' % (status, ' '.join(summary)), right=(status, summary) == (0, ['output 0: decoded 0 written 0 discarded 0 left 0']))
+    told = daemon.errors().splitlines()
+    table.row('the line of the end', told[-1], right=len(told) == 3 and told[-1] == 'music_daemon: end: decoded 0 written 0 discarded 0 left 0')
     table.row('an output that never played', 'no file' if not os.path.exists(path) else 'a file', right=not os.path.exists(path))
     alone = os.path.join(folder, 'copy.db')
     with open(shelf, 'rb') as file, open(alone, 'wb') as copy:

@@ -2,12 +2,13 @@
 //! system.
 #![tactic(auto)]
 
-use command_line::{LineFault, Program, command_line};
+use command_line::{LineFault, Program, VERSION, command_line};
 use counted_devices::Counting;
 use daemon_script::{ScriptFault, run_script};
 use library_scan::{ScanFault, SystemDisk, scan};
 use scan_report::{Progress, report_of};
-use shelf_file::{Purpose, serve_by_file};
+use settings::OneLine;
+use shelf_file::{Launch, Purpose, serve_by_file};
 use song_db::Rate;
 use std::io::{ErrorKind, IsTerminal, Write};
 use std::process::ExitCode;
@@ -25,7 +26,7 @@ fn main(rt: HostRuntime) -> io::Result<ExitCode> {
             rt,
             rt,
             file,
-            purpose_of(is_check),
+            launch_for(is_check),
         ) {
             Ok(()) => Ok(ExitCode::SUCCESS),
             Err(fault) => {
@@ -39,12 +40,15 @@ fn main(rt: HostRuntime) -> io::Result<ExitCode> {
     }
 }
 
-/// What a file of settings is read for.
-fn purpose_of(is_check: bool) -> Purpose {
-    if is_check {
-        Purpose::Check
-    } else {
-        Purpose::Serve
+/// How the daemon is started.
+fn launch_for(is_check: bool) -> Launch {
+    Launch {
+        version: VERSION,
+        purpose: if is_check {
+            Purpose::Check
+        } else {
+            Purpose::Serve
+        },
     }
 }
 
@@ -91,7 +95,7 @@ fn print_scan(rt: &HostRuntime, folder: &str, rate: &Rate) -> io::Result<ExitCod
     let scanned = match found {
         Ok(scanned) => scanned,
         Err(ScanFault::NoFolder) => {
-            eprintln!(rt; "music_daemon: cannot read folder {folder}")?;
+            eprintln!(rt; "music_daemon: cannot read folder {}", OneLine(folder))?;
             return Ok(ExitCode::FAILURE);
         }
         Err(ScanFault::TooMany) => return fail(rt, "too many songs"),

@@ -8,6 +8,7 @@ use crew_steps::Gate;
 use house::House;
 use partition::PartitionFault;
 use patient_output::{Off, Switch, Watch};
+use settings::OneLine;
 use std::alloc::{AllocError, Global};
 use std::sync::{Arc, Mutex, Wait};
 use std::time::{Clock, Duration, Instant};
@@ -28,6 +29,16 @@ impl Drop for Watched {
             watch: _,
         } = self;
     }
+}
+
+/// What came of it that an output asked whether it may go on.
+#[derive(Clone, Copy)]
+struct Asked {
+    goes_on: bool,
+    /// Whether it was off for its path alone before.
+    was_silent: bool,
+    /// Whether it is so now.
+    is_silent: bool,
 }
 
 /// The gates of all outputs. That of an output without patience is always open.
@@ -117,13 +128,28 @@ impl<L: Ledgers, R: Wait + Clock + Copy> Gate for Gates<L, R> {
 }
 
 impl<L: Ledgers, R: Wait + Clock + Copy> Gates<L, R> {
-    /// Whether an output with patience may go on. Its watch is held until it is known what came of it, so that who
-    /// sees the output off for its path alone sees also that it is.
+    /// Whether an output with patience may go on. Where it is switched off for its path or on again, that is
+    /// told on standard error.
     fn ask_for(&self, output: usize, watched: &Watched, client: &OwnClient<L, R>) -> bool {
+        let asked = self.ask_watch(output, watched, client);
+        let path = watched.through.path.as_str();
+        client.tell_silence(output, path, asked.was_silent, asked.is_silent);
+        asked.goes_on
+    }
+
+    /// What came of it that an output with patience asked. Its watch is held until that is known, so that who
+    /// sees the output off for its path alone sees also that it is.
+    fn ask_watch(&self, output: usize, watched: &Watched, client: &OwnClient<L, R>) -> Asked {
         let mut watch = watched.watch.lock(&self.rt);
         let now = self.now();
         let sight = watched.through.passage.sight(&self.rt);
-        watch.ask(sight, now, &OutputSwitch { client, output })
+        let was_silent = watch.is_to_return();
+        let goes_on = watch.ask(sight, now, &OutputSwitch { client, output });
+        Asked {
+            goes_on,
+            was_silent,
+            is_silent: watch.is_to_return(),
+        }
     }
 
     /// Milliseconds since the start; 0 where the clock cannot be read, so that nothing stands still.
@@ -160,7 +186,7 @@ impl<L: Ledgers, R: Wait + Clock + Copy> Gates<L, R> {
                 if left > 0 {
                     let _told = eprintln!(*host;
                         "music_daemon: output {number}: {} did not take {left} bytes that were written",
-                        watched.through.path
+                        OneLine(watched.through.path.as_str())
                     );
                 }
             }

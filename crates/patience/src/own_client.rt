@@ -3,6 +3,7 @@ use command_lists::ListForm;
 use counted_player::{Ledgers, Seat};
 use held_player::News;
 use house::House;
+use journal::{silence_text, tell};
 use kept_state::is_output_on;
 use mpd_text::quote;
 use own_lines::{answers_of, requests_of};
@@ -70,6 +71,21 @@ impl<L: Ledgers, R: Wait + Copy> OwnClient<L, R> {
                 is_away: false,
             }),
         })
+    }
+
+    /// Tells on standard error that an output was switched off for its path, or on again; and nothing where
+    /// it stays as it was.
+    pub(crate) fn tell_silence(
+        &self,
+        output: usize,
+        path: &str,
+        was_silent: bool,
+        is_silent: bool,
+    ) {
+        let text = silence_text(self.host.alloc(), output, path, was_silent, is_silent);
+        if let Ok(Some(text)) = text {
+            tell(&self.host, text.as_str());
+        }
     }
 
     /// Whether the daemon has ended.

@@ -40,7 +40,7 @@ pub fn output_paths<R: Threads + Wait + Clock + Copy + Send + 'static>(
     let mut writers = Vec::new(host.alloc());
     let mut patient = Vec::new(host.alloc());
     'outputs: for output in outputs {
-        let (path, through) = output_path(rt, host, output)?;
+        let (path, through) = output_path(rt, host, writers.len(), output)?;
         writers.push(Counting::new(path))?;
         patient.push(through)?;
     }
@@ -51,15 +51,20 @@ pub fn output_paths<R: Threads + Wait + Clock + Copy + Send + 'static>(
 fn output_path<R: Threads + Wait + Clock + Copy + Send + 'static>(
     rt: R,
     host: HostRuntime,
+    number: usize,
     output: &OutputSettings,
 ) -> Result<(OutputPath<HostRuntime, R>, Option<PatientPath>), AllocError>
     ensures { IfOk result (λ path. is_some path.1 ≡ is_some output.now.patience) }
 {
-    let path = String::from_str(host.alloc(), output.path.as_str())?;
+    let alloc = host.alloc();
+    let path = String::from_str(alloc, output.path.as_str())?;
     match output.patience {
-        None => Ok((OutputPath::Direct(OutputFile::new(host, path)), None)),
+        None => {
+            let file = OutputFile::new(host, alloc, number, path, false);
+            Ok((OutputPath::Direct(file), None))
+        }
         Some(seconds) => {
-            let (writer, through) = patient_path(rt, host, path, seconds)?;
+            let (writer, through) = patient_path(rt, host, number, path, seconds)?;
             Ok((OutputPath::Patient(writer), Some(through)))
         }
     }
@@ -70,13 +75,15 @@ fn output_path<R: Threads + Wait + Clock + Copy + Send + 'static>(
 fn patient_path<R: Threads + Wait + Clock + Copy + Send + 'static>(
     rt: R,
     host: HostRuntime,
+    number: usize,
     path: String,
     seconds: u32,
 ) -> Result<(PatientWriter<R>, PatientPath), AllocError> {
     let passage = Arc::new(host.alloc(), Passage::new())?;
     let (writer, load) = patient_output(rt, host.alloc(), &passage)?;
     let own = String::from_str(host.alloc(), path.as_str())?;
-    start_carrier(rt, host, load, own)?;
+    let file = OutputFile::new(host, host.alloc(), number, own, true);
+    start_carrier(rt, load, file)?;
     Ok((
         writer,
         PatientPath {
@@ -89,10 +96,9 @@ fn patient_path<R: Threads + Wait + Clock + Copy + Send + 'static>(
 
 fn start_carrier<R: Threads + Wait + Clock + Copy + Send + 'static>(
     rt: R,
-    host: HostRuntime,
     load: Load,
-    path: String,
+    path: OutputFile<HostRuntime>,
 ) -> Result<(), AllocError> {
-    let _detached = thread::spawn(&rt, move || carry(&rt, load, OutputFile::new(host, path)))?;
+    let _detached = thread::spawn(&rt, move || carry(&rt, load, path))?;
     Ok(())
 }

@@ -2,27 +2,28 @@
 use library_scan::ScanFault;
 use mpd_server::ServeFault;
 use partition::PartitionFault;
-use settings::SettingsFault;
+use settings::{OneLine, SettingsFault};
 use std::alloc::AllocError;
 use thiserror::Error;
 
-/// Each is told in one line, which names the key, the file or the folder.
+/// Each is told in one line, which names the key, the file or the folder: [`OneLine`] shows a line break in a
+/// name by an escape.
 #[derive(Debug, Drop, Error)]
 pub enum DaemonFault {
     /// The file of settings cannot be read, or is no text.
-    #[error("cannot read {0}")]
+    #[error("cannot read {}", OneLine(.0.as_str()))]
     CannotRead(String),
-    #[error("bad setting {0}")]
+    #[error("bad setting {}", OneLine(.0.as_str()))]
     BadSetting(String),
     /// The shelf's file cannot be opened or made, or is no shelf.
     #[error("cannot open shelf")]
     CannotOpenShelf,
-    #[error("cannot read folder {0}")]
+    #[error("cannot read folder {}", OneLine(.0.as_str()))]
     NoFolder(String),
     #[error("too many songs")]
     TooManySongs,
     /// Names the address, and what is wrong with it.
-    #[error("cannot listen at {0}")]
+    #[error("cannot listen at {}", OneLine(.0.as_str()))]
     CannotListen(String),
     /// The sockets cannot be waited for.
     #[error("cannot serve")]

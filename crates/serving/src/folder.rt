@@ -2,6 +2,8 @@
 use crate::fault::DaemonFault;
 use counted_devices::{Counting, ReadSeek};
 use crew::Scanner;
+use journal::rescan_text;
+pub(crate) use journal::tell;
 use library_scan::{
     Content, Refusal, Refused, Scanned, SystemDisk, Unwatched, Watcher, content_of, scan,
 };
@@ -11,6 +13,7 @@ use std::alloc::{AllocError, Global};
 use std::fs;
 use std::io::IsTerminal;
 use std::rt::Files;
+use std::time::{Clock, Instant};
 
 /// Rates that files are often at, in frames a second.
 const COMMON_RATES: [u32; 12] = [
@@ -153,11 +156,12 @@ impl<R: Files + Drop> FolderScanner<R> {
     }
 }
 
-impl<R: Files + AllocGlobal + Eprint + Clone + Drop> Scanner for FolderScanner<R>
+impl<R: Files + AllocGlobal + Eprint + Clock + Clone + Drop> Scanner for FolderScanner<R>
 where
     R::File: ReadSeek + Drop,
 {
     fn scan(&mut self, alloc: Global) -> Option<SharedDb> {
+        let start = Instant::now(&self.rt).ok();
         let found = songs_watched(
             &self.rt,
             alloc,
@@ -165,20 +169,31 @@ where
             &self.rate,
             &mut Unwatched,
         );
+        let time = milliseconds_since(&self.rt, start);
         match found {
             Ok(found) => {
-                tell(&self.rt, found.told.as_str());
+                tell_rescan(&self.rt, alloc, found.told.as_str(), time);
                 Some(found.songs)
             }
             Err(fault) => {
-                let _told = eprintln!(self.rt; "music_daemon: {fault}");
+                if let Ok(why) = format!(in alloc; "{fault}") {
+                    tell_rescan(&self.rt, alloc, why.as_str(), time);
+                }
                 None
             }
         }
     }
 }
 
-/// Tells a line on standard error. Where that fails nothing is told: the daemon does not end for it.
-pub(crate) fn tell<R: Eprint>(rt: &R, line: &str) {
-    let _told = eprintln!(rt; "music_daemon: {line}");
+/// Tells on standard error what came of a scan that a client asked for, and how long it took.
+fn tell_rescan<R: Eprint>(rt: &R, alloc: Global, told: &str, time: Option<u128>) {
+    if let Ok(line) = rescan_text(alloc, told, time) {
+        tell(rt, line.as_str());
+    }
+}
+
+/// How many milliseconds have passed, where the clock can be read.
+fn milliseconds_since<K: Clock>(clock: &K, start: Option<Instant>) -> Option<u128> {
+    let passed = start?.elapsed(clock).ok()?;
+    Some(passed.as_millis())
 }

@@ -1,18 +1,25 @@
 //! A client of the daemon's own that keeps the player's state in a file.
-ghost use Rattle.std.specs.Prelude.{IfOk, string_bytes};
+ghost use Rattle.std.specs.Prelude.{IfOk, Some, string_bytes};
+ghost use Rattle.std.specs.Str.Lines.{lines};
+ghost use Rattle.kept_state.specs.Partitions.{IsPlayerTold};
 ghost use Rattle.serving.specs.Keeping.{IsKeptBy, IsTextOf};
 
 use crate::folder::tell;
+use crate::questions::{changes_only, questions_of, short_questions};
 use crate::restoring::KEEPER;
 use crate::state_file::Disk;
 use command_lists::ListForm;
 use counted_player::{Ledgers, Seat};
 use held_player::{AnsweredList, News};
 use house::House;
-use kept_state::{Kept, StateFile, kept_of, state_text};
+use kept_state::{
+    KeptPartition, StateFile, names_of, partitions_of, player_text, plays_in_one, switched_on,
+};
 use mpd_command::{CommandSet, Request};
+use mpd_text::Text;
 use own_lines::{answers_of, requests_of};
 use patience::Gates;
+use settings::OneLine;
 use shelf::{MemShelf, Shelf};
 use std::alloc::{AllocError, Global};
 use std::sync::{Arc, Wait};
@@ -38,11 +45,15 @@ const PLAYING_WAIT: u64 = 1_000;
 /// How many milliseconds others have to take their notices out, before it is looked again.
 const HAND_OUT: u64 = 5;
 
-/// What is kept changes by these alone, but for the place in a song that is played.
-const IDLE: &str = "idle playlist player mixer options output";
+/// How many milliseconds lie between two looks for changes, while there are partitions of which no notice tells.
+const WATCHING: u64 = 500;
 
-/// What the player is asked.
-const QUESTIONS: &str = "status\noutputs\nplaylistinfo";
+/// What is kept of the client's own partition changes by these alone, but for the place in a song that is played; and
+/// with `partition` others come and go.
+const IDLE: &str = "idle playlist player mixer options output partition";
+
+/// The partition in which the client idles.
+const HOME: &str = "partition default";
 
 /// Starts the thread that keeps the state in the file of this path, where there is one. Where it cannot be
 /// started, that is told on standard error and nothing is kept.
@@ -113,6 +124,8 @@ fn keep<'h, L: Ledgers, R: Wait + Clock + Copy>(
         file,
         has_failed: false,
         plays: false,
+        names: Vec::new(host.alloc()),
+        signs: None,
     };
     keeper.keep();
 }
@@ -143,6 +156,10 @@ struct Keeper<'h, L: Ledgers, S: Shelf + Drop, R: Wait + Clock + Copy> {
     has_failed: bool,
     /// Whether a song was played at the last look.
     plays: bool,
+    /// The partitions that are asked.
+    names: Vec<Text>,
+    /// What they told before the last look, in short; none where it could not be told.
+    signs: Option<String>,
 }
 
 impl<'h, L: Ledgers, S: Shelf + Drop, R: Wait + Clock + Copy> Keeper<'h, L, S, R> {
@@ -166,14 +183,75 @@ impl<'h, L: Ledgers, S: Shelf + Drop, R: Wait + Clock + Copy> Keeper<'h, L, S, R
             // Asked before the last look, so that this sees all that was done until the end.
             let has_ended = self.house.has_ended(self.rt);
             let next = moment_after(self.rt, Duration::from_millis(PAUSE));
+            self.learn();
             let is_kept = self.look();
             if has_ended {
                 return;
             }
             rest(self.rt, self.house, &next);
-            if is_kept {
+            if !is_kept {
+                // A list that was refused may have left the client in another partition.
+                let _home = self.tell_player(HOME);
+            } else if self.names.len() > 1 {
+                self.watch();
+            } else {
                 self.await_change();
             }
+        }
+    }
+
+    /// Learns which partitions there are. The answers of the look show whether these are still all.
+    fn learn(&mut self) {
+        if let Some(answer) = self.say("listpartitions") {
+            if let Ok(names) = names_of(self.host.alloc(), answer.as_str()) {
+                self.names = names;
+            }
+        }
+        self.signs = if self.names.len() > 1 {
+            self.signs_now()
+        } else {
+            None
+        };
+    }
+
+    /// What the partitions tell in short, but for the place in a song. None where one of them does not tell.
+    fn signs_now(&mut self) -> Option<String> {
+        let lines = short_questions(self.host.alloc(), &self.names).ok()?;
+        let answer = self.say(lines.as_str())?;
+        changes_only(self.host.alloc(), answer.as_str()).ok()
+    }
+
+    /// What the player answers to lines that are said at one moment. None where one is refused, or there is no memory.
+    fn say(&mut self, lines: &str) -> Option<String> {
+        let alloc = self.host.alloc();
+        let requests = requests_of(alloc, lines).ok()?;
+        let (seat, shelf) = (&mut self.seat, &mut self.shelf);
+        let answered = self
+            .house
+            .list(self.rt, seat, shelf, KEEPER, ListForm::Plain, requests)
+            .ok()?;
+        answers_of(alloc, answered.answers().outcomes()).ok()?
+    }
+
+    /// Waits until what is kept may have changed in one of several partitions or the daemon has ended. A notice tells of the
+    /// client's own partition alone, and its way through the others raises all notices for it; so they are asked twice a
+    /// second for what is short to tell.
+    fn watch(&mut self) {
+        let rt = self.rt;
+        let last = self.last_moment();
+        for _ in rt.forever() {
+            if self.house.has_ended(rt) || is_past(rt, &last) {
+                return;
+            }
+            let now = self.signs_now();
+            if !is_same(&now, &self.signs) {
+                return;
+            }
+            rest(
+                rt,
+                self.house,
+                &moment_after(rt, Duration::from_millis(WATCHING)),
+            );
         }
     }
 
@@ -181,7 +259,7 @@ impl<'h, L: Ledgers, S: Shelf + Drop, R: Wait + Clock + Copy> Keeper<'h, L, S, R
     fn look(&mut self) -> bool
         ensures left { result ≡ false → self.new.file.written ≡ self.old.file.written }
         ensures state { result ≡ true → IsStateThen S.standing S.failed self.old.shelf self.new.shelf
-            self.old.seat self.new.seat (string_bytes self.new.file.written) }
+            self.old.seat self.new.seat self.old.names.items (string_bytes self.new.file.written) }
     {
         match self.state() {
             Ok(text) => self.write(text),
@@ -204,7 +282,7 @@ impl<'h, L: Ledgers, S: Shelf + Drop, R: Wait + Clock + Copy> Keeper<'h, L, S, R
                 if !self.has_failed {
                     let _told = eprintln!(*self.host;
                         "music_daemon: cannot write state {}: {fault}",
-                        self.file.path()
+                        OneLine(self.file.path())
                     );
                 }
                 self.has_failed = true;
@@ -218,20 +296,20 @@ impl<'h, L: Ledgers, S: Shelf + Drop, R: Wait + Clock + Copy> Keeper<'h, L, S, R
     fn state(&mut self) -> Result<String, AllocError>
         ensures file { self.new.file ≡ self.old.file }
         ensures state { IfOk result (λ text. IsStateThen S.standing S.failed self.old.shelf self.new.shelf
-            self.old.seat self.new.seat (string_bytes text)) }
+            self.old.seat self.new.seat self.old.names.items (string_bytes text)) }
     {
         let before = self.gates.off_for_paths();
         let kept = self.kept()?;
-        self.plays = kept.is_played();
+        self.plays = plays_in_one(&kept);
         let after = self.gates.off_for_paths();
         text_of(self.host.alloc(), kept, before, after)
     }
 
     /// What is kept by the player's answers to the questions.
-    fn kept(&mut self) -> Result<Kept, AllocError>
+    fn kept(&mut self) -> Result<Vec<KeptPartition>, AllocError>
         ensures file { self.new.file ≡ self.old.file }
         ensures kept { IfOk result (IsKeptThen S.standing S.failed self.old.shelf self.new.shelf
-            self.old.seat self.new.seat) }
+            self.old.seat self.new.seat self.old.names.items) }
     {
         let answered = self.ask()?;
         kept_by(self.host.alloc(), &answered)
@@ -241,9 +319,9 @@ impl<'h, L: Ledgers, S: Shelf + Drop, R: Wait + Clock + Copy> Keeper<'h, L, S, R
     fn ask(&mut self) -> Result<AnsweredList, AllocError>
         ensures file { self.new.file ≡ self.old.file }
         ensures answered { IfOk result (IsAnswered S.standing S.failed self.old.shelf self.new.shelf
-            self.old.seat self.new.seat) }
+            self.old.seat self.new.seat self.old.names.items) }
     {
-        let requests = requests_of(self.host.alloc(), QUESTIONS)?;
+        let requests = questions_of(self.host.alloc(), &self.names)?;
         let (seat, shelf) = (&mut self.seat, &mut self.shelf);
         match self
             .house
@@ -306,29 +384,46 @@ impl<'h, L: Ledgers, S: Shelf + Drop, R: Wait + Clock + Copy> Keeper<'h, L, S, R
 }
 
 /// What is kept by answers. A refusal must not be taken for the answer of an empty player.
-fn kept_by(alloc: Global, answered: &AnsweredList) -> Result<Kept, AllocError>
+fn kept_by(alloc: Global, answered: &AnsweredList) -> Result<Vec<KeptPartition>, AllocError>
     ensures { IfOk result (IsKeptBy answered.now) }
 {
     match answers_of(alloc, answered.answers().outcomes())? {
-        Some(text) => kept_of(alloc, text.as_str()),
+        Some(text) => all_of(alloc, text.as_str()),
         None => Err(AllocError),
     }
+}
+
+/// What is kept by the text of answers. Some of the partitions must not be taken for all of them.
+fn all_of(alloc: Global, answers: &str) -> Result<Vec<KeptPartition>, AllocError>
+    ensures { IfOk result (λ kept. IsPlayerTold (lines answers.now) (Some kept)) }
+{
+    let Some(kept) = partitions_of(alloc, answers)? else {
+        return Err(AllocError);
+    };
+    Ok(kept)
 }
 
 /// The text of what is kept. An output that is off for its path alone, before or after it was asked for, is kept as one
 /// that is on.
 fn text_of(
     alloc: Global,
-    kept: Kept,
+    kept: Vec<KeptPartition>,
     before: [bool; 8],
     after: [bool; 8],
 ) -> Result<String, AllocError>
-    ensures { IfOk result (λ text. IsTextOf before after kept (string_bytes text)) }
+    ensures { IfOk result (λ text. IsTextOf before after kept.items (string_bytes text)) }
 {
-    let mut kept = kept;
-    kept.switch_on(before);
-    kept.switch_on(after);
-    state_text(alloc, &kept)
+    let between = switched_on(alloc, kept, before)?;
+    let shown = switched_on(alloc, between, after)?;
+    player_text(alloc, &shown)
+}
+
+/// Whether both were told, and are the same.
+fn is_same(one: &Option<String>, other: &Option<String>) -> bool {
+    match (one, other) {
+        (Some(one), Some(other)) => one.as_str() == other.as_str(),
+        _ => false,
+    }
 }
 
 /// The moment after so long a time, if the clock can be read.

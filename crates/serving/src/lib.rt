@@ -8,6 +8,7 @@ mod folder;
 mod gear;
 mod hall;
 mod keeper;
+mod questions;
 mod restoring;
 mod run;
 mod serving;
@@ -15,4 +16,4 @@ mod state_file;
 mod summary;
 
 pub use fault::DaemonFault;
-pub use serving::{Purpose, serve};
+pub use serving::{Launch, Purpose, serve};

@@ -11,6 +11,7 @@ use held_player::{Answered, News};
 use house::House;
 use kept_state::{Hearer, is_of_state, tell_lines};
 use mpd_command::{CommandSet, Request};
+use settings::OneLine;
 use shelf::{MemShelf, Shelf};
 use std::marker::Model;
 use std::sync::Wait;
@@ -171,7 +172,9 @@ impl<'h, L: Ledgers, S: Shelf + Drop, R: Wait> Restorer<'h, L, S, R> {
     {
         self.refused = self.refused.saturating_add(1);
         if self.refused <= TOLD {
-            let _told = eprintln!(*self.host; "music_daemon: state: {line}: {}", why.trim_end());
+            let line = OneLine(line);
+            let why = OneLine(why.trim_end());
+            let _told = eprintln!(*self.host; "music_daemon: state: {line}: {why}");
         }
     }
 }

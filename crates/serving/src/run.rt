@@ -6,7 +6,7 @@ use crate::fault::DaemonFault;
 use crate::gear::Gear;
 use crate::hall::{Hall, shared};
 use crate::keeper::start_keeper_for;
-use crate::summary::print_summary;
+use crate::summary::{print_summary, tell_end};
 use counted_devices::{Media, Sink};
 use counted_player::{Ledgers, Seat};
 use crew::{Crew, Scanner, close, let_go, start_decoder, start_outputs, start_scanner};
@@ -140,6 +140,7 @@ fn end<L: Ledgers, R: Threads + Wait + Clock + Copy>(
             join_all(rt, others);
             gates.finish(host);
             let printed = print_summary(host, &settled);
+            tell_end(host, &settled);
             first_of(served, printed)
         }
         Err((crew, fault)) => {

@@ -18,6 +18,7 @@ use counted_player::Ledgers;
 use crew::second_now;
 use frame_ledger::Blanks as FrameBlanks;
 use held_player::Blanks;
+use journal::start_text;
 use mpd_server::Server;
 use opened_player::{commands_of, player_of};
 use settings::Settings;
@@ -39,6 +40,14 @@ pub enum Purpose {
     Check,
 }
 
+/// How a program starts the daemon.
+#[derive(Clone, Copy)]
+pub struct Launch {
+    /// The program's version, which is told at the start.
+    pub version: &'static str,
+    pub purpose: Purpose,
+}
+
 /// Scans the folder, listens, serves with this shelf until a client ends the daemon, and prints what became
 /// of each output's frames; or, for a check, prints what was found. Both handles are the program's: `rt` is
 /// what may wait and start threads, and `host` opens files and prints. Its type is written out, since what a
@@ -52,7 +61,7 @@ pub fn serve<S: Shelf, R: Threads + Wait + Clock + Net + Copy + Send + Sync + 's
     host: HostRuntime,
     settings: &Settings,
     shelf: &mut S,
-    purpose: Purpose,
+    launch: Launch,
 ) -> Result<(), DaemonFault>
     requires { AreWithin settings.now }
     // Nothing is served, or checked well, with the state and the shelf in one file.
@@ -61,10 +70,33 @@ pub fn serve<S: Shelf, R: Threads + Wait + Clock + Net + Copy + Send + Sync + 's
     if is_state_shelf(settings) {
         return Err(DaemonFault::BadSetting(String::from_str(host.alloc(), "state")?));
     }
-    let found = songs_of(&host, settings.music.as_str(), &settings.rate)?;
-    match purpose {
+    let found = found_for(&host, settings, launch)?;
+    match launch.purpose {
         Purpose::Serve => serve_with::<Brand, S, R>(rt, host, blanks(), settings, found, shelf),
         Purpose::Check => check(&host, settings, &found),
+    }
+}
+
+/// What is in the folder of the music, and the line that tells of it; where the daemon is to serve, that line is
+/// the one of its start.
+fn found_for(
+    host: &HostRuntime,
+    settings: &Settings,
+    launch: Launch,
+) -> Result<Found, DaemonFault> {
+    let found = songs_of(host, settings.music.as_str(), &settings.rate)?;
+    Ok(match launch.purpose {
+        Purpose::Serve => started(host.alloc(), settings, launch.version, found),
+        Purpose::Check => found,
+    })
+}
+
+/// The same, with the line of the start. Without memory for it, the line of the scan stays.
+fn started(alloc: Global, settings: &Settings, version: &str, found: Found) -> Found {
+    let Found { songs, told } = found;
+    match start_text(alloc, version, settings, told.as_str()) {
+        Ok(line) => Found { songs, told: line },
+        Err(_) => Found { songs, told },
     }
 }
 

@@ -3,7 +3,7 @@ ghost use Rattle.settings.specs.Values.{AreWithin};
 ghost use Rattle.std.specs.Prelude.{IfOk};
 
 use crate::file::serve_on_file;
-use serving::{DaemonFault, Purpose, serve};
+use serving::{DaemonFault, Launch, serve};
 use settings::{Settings, settings};
 use shelf::MemShelf;
 use std::fs;
@@ -23,17 +23,17 @@ pub fn serve_by_file<R: Threads + Wait + Clock + Net + Copy + Send + Sync + 'sta
     rt: R,
     host: HostRuntime,
     file: &str,
-    purpose: Purpose,
+    launch: Launch,
 ) -> Result<(), DaemonFault> {
     let settings = read_settings(&host, file)?;
     match &settings.shelf {
-        Some(path) => serve_on_file(rt, host, &settings, path.as_str(), purpose),
+        Some(path) => serve_on_file(rt, host, &settings, path.as_str(), launch),
         None => serve(
             rt,
             host,
             &settings,
             &mut MemShelf::new(host.alloc()),
-            purpose,
+            launch,
         ),
     }
 }

@@ -3,7 +3,7 @@ ghost use Rattle.settings.specs.Values.{AreWithin};
 ghost use Rattle.shelf_file.specs.Faults.{IsNoShelf, no_shelf as no_shelf_lem, unopened as unopened_lem};
 ghost use Rattle.std.specs.Prelude.{◌≡◌, Err, IfErr, IfOk};
 
-use serving::{DaemonFault, Purpose, serve};
+use serving::{DaemonFault, Launch, serve};
 use settings::Settings;
 use shelf::ShelfFault;
 use shelf_database::SqlShelf;
@@ -24,7 +24,7 @@ pub(crate) fn serve_with_database<
     host: HostRuntime,
     settings: &Settings,
     opened: Result<Connection<S>, (Error, L)>,
-    purpose: Purpose,
+    launch: Launch,
 ) -> (Result<(), DaemonFault>, Option<Connection<S>>)
     requires { AreWithin settings.now }
     // What cannot be opened is not served.
@@ -32,7 +32,7 @@ pub(crate) fn serve_with_database<
 {
     match shelf_of(host.alloc(), opened) {
         Ok(mut shelf) => {
-            let served = serve(rt, host, settings, &mut shelf, purpose);
+            let served = serve(rt, host, settings, &mut shelf, launch);
             (served, Some(shelf.into_connection()))
         }
         Err(fault) => (Err(fault), None),

@@ -5,7 +5,7 @@ ghost use Rattle.shelf_file.specs.Faults.{ends_with, unclosed as unclosed_lem, u
 ghost use Rattle.std.specs.Prelude.{◌≡◌, Err, IfErr};
 
 use crate::database::serve_with_database;
-use serving::{DaemonFault, Purpose};
+use serving::{DaemonFault, Launch};
 use settings::Settings;
 use sqlite::{Connection, Error, ErrorCode, FileStore, Leftover, Unknown};
 use sqlite_disk::Disk;
@@ -20,12 +20,12 @@ pub(crate) fn serve_on_file<R: Threads + Wait + Clock + Net + Copy + Send + Sync
     host: HostRuntime,
     settings: &Settings,
     path: &str,
-    purpose: Purpose,
+    launch: Launch,
 ) -> Result<(), DaemonFault>
     requires { AreWithin settings.now }
 {
     let opened = Connection::open_from(&host, path, false, Unknown);
-    serve_and_close(rt, host, settings, opened, purpose)
+    serve_and_close(rt, host, settings, opened, launch)
 }
 
 /// Serves with the shelf of a connection, and closes it, so that the one file holds all of it. Where that
@@ -35,12 +35,12 @@ fn serve_and_close<D: Disk + Drop, R: Threads + Wait + Clock + Net + Copy + Send
     host: HostRuntime,
     settings: &Settings,
     opened: Result<Connection<FileStore<D>>, (Error, Option<Leftover<D>>)>,
-    purpose: Purpose,
+    launch: Launch,
 ) -> Result<(), DaemonFault>
     requires { AreWithin settings.now }
     ensures { IfErr opened (λ left. result ≡ Err (unopened left.0)) }
 {
-    let (served, connection) = serve_with_database(rt, host, settings, opened, purpose);
+    let (served, connection) = serve_with_database(rt, host, settings, opened, launch);
     let closed = match connection {
         Some(connection) => connection.close(),
         None => Ok(()),

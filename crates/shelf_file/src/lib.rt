@@ -7,4 +7,4 @@ mod database;
 mod file;
 
 pub use daemon::serve_by_file;
-pub use serving::Purpose;
+pub use serving::{Launch, Purpose};

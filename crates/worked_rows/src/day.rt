@@ -8,7 +8,7 @@
 
 use crate::client::visits;
 use crate::files::{SETTINGS, print_files, write_settings};
-use shelf_file::{Purpose, serve_by_file};
+use shelf_file::{Launch, Purpose, serve_by_file};
 use std::fmt::Display;
 use std::net::Net;
 use std::process::ExitCode;
@@ -16,6 +16,11 @@ use std::sync::Wait;
 use std::thread::Threads;
 use std::time::Clock;
 use std::{io, thread};
+
+const LAUNCH: Launch = Launch {
+    version: "test",
+    purpose: Purpose::Serve,
+};
 
 /// Lives the day. Both handles are the program's, as of [`serve_by_file`]. Status 0 where all went well, 1
 /// after a line on standard error for each that did not.
@@ -25,11 +30,7 @@ pub fn live<R: Threads + Wait + Clock + Net + Copy + Send + Sync + 'static>(
 ) -> io::Result<ExitCode> {
     let address = write_settings(&host)?;
     let client = thread::spawn(&rt, move || visits(&host, address))?;
-    let served = went_well(
-        &host,
-        "daemon",
-        serve_by_file(rt, host, SETTINGS, Purpose::Serve),
-    );
+    let served = went_well(&host, "daemon", serve_by_file(rt, host, SETTINGS, LAUNCH));
     let visited = went_well(&host, "client", client.join(&rt));
     end(&host, served && visited)
 }

@@ -4,5 +4,5 @@ use Rattle.serving.proofs.keeper.text_of.Goals as goal
 
 pub returns : goal.returns
 returns c =
-    text_is_of string_bytes c.args.before c.args.after c.args.kept c.switch_on.new.self c.switch_on-2.new.self c.state_text.result
-    c.switch_on.ensures.outputs c.switch_on.ensures.others c.switch_on-2.ensures.outputs c.switch_on-2.ensures.others c.state_text.ensures
+    text_is_of string_bytes c.args.before c.args.after c.args.kept.items c.in_ok-between.between.items c.in_ok-shown.shown.items c.deref.result.now
+    c.player_text.result c.in_ok-between.ensures c.in_ok-shown.ensures c.deref.ensures.value c.player_text.ensures

@@ -1,0 +1,3 @@
+pub mod Scans
+pub mod Outputs
+pub mod End
