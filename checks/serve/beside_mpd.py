@@ -272,8 +272,7 @@ def main():
         for name, unit, figures in pairs.figures(program, apart, 'mpd' in servers):
             own, other = figures['music_daemon'], figures.get('mpd')
             table.row(name, shown(own, unit), '' if other is None else shown(other, unit), '%.2f' % (own / other) if other else '-')
-    print('\n%d failed' % table.failed)
-    return 1 if table.failed else 0
+    return table.status()
 
 
 if __name__ == '__main__':

@@ -1,9 +1,11 @@
 """A daemon that runs for a check, the clients that ask it, and the songs that it plays."""
 import os
+import re
 import socket
 import struct
 import subprocess
 import sys
+import tempfile
 import threading
 import time
 
@@ -13,6 +15,8 @@ BUILT = os.path.join(ROOT, 'crates', 'music_daemon', 'out', 'music_daemon')
 START = 30     # the seconds within which a daemon is to listen
 ANSWER = 30    # the seconds within which an answer is to come
 END = 30       # the seconds within which a daemon that was told to end is to end
+# what every daemon says on standard error, and one whose outputs fail
+USUAL = re.compile(r'music_daemon: (?:version |scan(?: in \d+ ms)?: |output \d+: |end: )')
 
 
 def program_of(path):
@@ -113,6 +117,14 @@ class Client:
         self.socket.close()
 
 
+def path_of_link(link):
+    """Where a link leads; none where it is gone."""
+    try:
+        return os.readlink(link)
+    except FileNotFoundError:
+        return None
+
+
 class Process:
     """A server that runs, and what the system says of it."""
 
@@ -145,6 +157,10 @@ class Process:
         self.faults.seek(0)
         return self.faults.read().decode(errors='replace').strip()
 
+    def unusual(self):
+        """What it says on standard error that is no news of its start, its scans, its outputs and its end."""
+        return '\n'.join(line for line in self.errors().splitlines() if not USUAL.match(line))
+
     def output(self):
         self.told.seek(0)
         return self.told.read().decode(errors='replace')
@@ -162,6 +178,11 @@ class Process:
 
     def files(self):
         return len(os.listdir('/proc/%d/fd' % self.process.pid))
+
+    def paths(self):
+        """What its open files are: paths, and `socket:` or another word of the system where there is none."""
+        folder = '/proc/%d/fd' % self.process.pid
+        return [path for path in map(path_of_link, [os.path.join(folder, name) for name in os.listdir(folder)]) if path]
 
     def kill(self):
         self.process.kill()
@@ -247,3 +268,18 @@ class Table:
         shown = [str(cell).rjust(-width) if width < 0 else str(cell).ljust(width) for cell, width in zip(cells, self.widths)]
         print('  ' + '  '.join(shown).rstrip() + ('' if right else '  FAILED'), flush=True)
         self.failed += not right
+
+    def status(self):
+        """The status to exit with, once it is told how many lines were wrong."""
+        print('\n%d failed' % self.failed)
+        return 1 if self.failed else 0
+
+
+def check_each(program, table, checks, rate):
+    """Each check with a folder of its own, which has three songs of twenty seconds; the status to exit with."""
+    for check in checks:
+        with tempfile.TemporaryDirectory() as folder:
+            music = os.path.join(folder, 'music')
+            put_songs(music, 3, 20 * rate)
+            check(table, program, folder, music)
+    return table.status()

@@ -174,8 +174,7 @@ def main():
     table = Table('A day: %d edits, %d songs' % (given.edits, given.songs), 34, 60)
     with tempfile.TemporaryDirectory() as folder:
         live(table, program_of(given.program), folder, given)
-    print('\n%d failed' % table.failed)
-    return 1 if table.failed else 0
+    return table.status()
 
 
 def live(table, program, folder, given):

@@ -354,8 +354,7 @@ def main():
     table = Table('Beside MPD', 24, -11, -9)
     with tempfile.TemporaryDirectory() as folder:
         compared_by(given, folder, table)
-    print('\n%d failed' % table.failed)
-    return 1 if table.failed else 0
+    return table.status()
 
 
 if __name__ == '__main__':

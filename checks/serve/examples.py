@@ -127,8 +127,7 @@ def main():
     for check in (check_three, check_two, check_ratings):
         with tempfile.TemporaryDirectory() as folder:
             check(table, program, folder)
-    print('\n%d failed' % table.failed)
-    return 1 if table.failed else 0
+    return table.status()
 
 
 if __name__ == '__main__':

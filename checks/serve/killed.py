@@ -125,8 +125,7 @@ def main():
         table.row('the shelf was as ' + name if name != 'WRONG' else 'the shelf was anything else', count, right=name != 'WRONG' or count == 0)
     table.row('a change was under way at a kill', counts['before'] + counts['after'], right=counts['before'] + counts['after'] > 0)
     table.row('the last start ended with status', status, right=status == 0)
-    print('\n%d failed' % table.failed)
-    return 1 if table.failed else 0
+    return table.status()
 
 
 if __name__ == '__main__':

@@ -286,8 +286,7 @@ def main():
         finally:
             daemon.kill()
             pacer.close()
-    print('\n%d failed' % table.failed)
-    return 1 if table.failed else 0
+    return table.status()
 
 
 if __name__ == '__main__':

@@ -258,8 +258,7 @@ def main():
         first, later = seconds_to_start(trial), seconds_to_start(trial)
         right = is_kept(trial.path, {}, trial.stickers) and read(trial.path)[0] == 2
         table.row('%d stickers are moved' % MOST, '%.2f s, and %.2f s once they are' % (first, later), right=right)
-    print('\n%d failed' % table.failed)
-    return 1 if table.failed else 0
+    return table.status()
 
 
 if __name__ == '__main__':

@@ -208,8 +208,7 @@ def main():
             music = os.path.join(folder, 'music')
             put_songs(music, 20, 20 * 44100)
             check(table, program, folder, music)
-    print('\n%d failed' % table.failed)
-    return 1 if table.failed else 0
+    return table.status()
 
 
 if __name__ == '__main__':

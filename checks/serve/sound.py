@@ -160,8 +160,7 @@ def main():
         check_queue(table, program, folder, music, 'from within a song', ['add b.wav', 'add d.wav', 'seek 0 1.5'], played([songs[1][12000:], songs[3]]))
         check_queue(table, program, folder, music, 'silence at volume 0', ['add e.wav', 'setvol 0', 'play'], gained(songs[4], 0))
         check_a_seek(table, program, folder, music, songs)
-    print('\n%d failed' % table.failed)
-    return 1 if table.failed else 0
+    return table.status()
 
 
 if __name__ == '__main__':
