@@ -216,6 +216,13 @@ def rooms_of(client):
     return found
 
 
+def rounded(rooms):
+    """The partitions with the place in a song in tenths of a second, since a song begins again at a whole frame."""
+    def tenths(state):
+        return {key: '%.1f' % float(value) if key == 'elapsed' and value else value for key, value in state.items()}
+    return {name: (tenths(state), queue, outputs) for name, (state, queue, outputs) in rooms.items()}
+
+
 def check_rooms(program, folder, music):
     """Partitions are there again with their outputs, after `kill` and after kill -9; and a song that is gone takes nothing with it."""
     table = Table('\nPartitions', 50, 60)
@@ -234,8 +241,9 @@ def check_rooms(program, folder, music):
             daemon.kill()
         daemon = started(program, folder, music, kept, OUTPUTS)
         found = rooms_of(daemon.client())
-        told = 'as it was' if found == wanted else '%s for %s' % (found, wanted)
-        table.row('three, after %s' % ends, told, right=found == wanted and daemon.errors().count('\n') == 0)
+        is_same = rounded(found) == rounded(wanted)
+        told = 'as it was' if is_same else '%s for %s' % (found, wanted)
+        table.row('three, after %s' % ends, told, right=is_same and 'music_daemon: state: ' not in daemon.errors())
         daemon.end()
     with open(kept) as file:
         lines = file.read()
@@ -243,7 +251,7 @@ def check_rooms(program, folder, music):
         file.write(lines.replace('album 00/0003.wav', 'gone.wav'))
     daemon = started(program, folder, music, kept, OUTPUTS)
     found = rooms_of(daemon.client())
-    right = found['kitchen'][1] == (('album 00/0001.wav', 7),) and found['bath'] == wanted['bath'] and found['kitchen'][2] == wanted['kitchen'][2]
+    right = found['kitchen'][1] == (('album 00/0001.wav', 7),) and rounded(found)['bath'] == rounded(wanted)['bath'] and found['kitchen'][2] == wanted['kitchen'][2]
     table.row('a song that is gone', 'the others are there', right=right)
     daemon.kill()
     return table.failed
