@@ -47,7 +47,7 @@ fn scan<'a>(alloc: Global) -> Result<Command<'a>, AllocError>
     ensures local { IfOk result (λ command. (fields_of command).has_globals ≡ false) }
 {
     Command::new(alloc, "scan")
-        .about("Prints the songs of a folder, and on standard error why other files are none")
+        .about("Prints the songs of a folder, and on standard error why other files are not songs")
         .arg(rate(alloc))?
         .arg(folder(alloc))
 }

@@ -1,4 +1,4 @@
-//! A folder of WAVE files as the songs of a library, and why others of its files are none.
+//! A folder of WAVE files as the songs of a library, and why others of its files are not songs.
 #![tactic(auto)]
 
 mod content;

@@ -212,9 +212,14 @@ a0ff7f20 => \u{a0}\u{ff}\u{7f}
 419d42 => none
 ";
 
-/// How many bytes the title has of a tag of these digits; 0 where it has none.
-fn title_len(alloc: Global, parts: &[(&str, usize)]) -> Result<usize, AllocError> {
-    let digits = digits(alloc, parts)?;
+/// How many bytes the title has of a tag of these digits, behind which others stand so often; 0 where it has none.
+fn title_len(
+    alloc: Global,
+    head: &str,
+    character: &str,
+    times: usize,
+) -> Result<usize, AllocError> {
+    let digits = digits(alloc, &[(head, 1), (character, times)])?;
     let texts = texts_of(alloc, bytes(alloc, digits.as_str())?.as_slice())?;
     match &texts.title {
         Some(text) => Ok(text.as_str().len()),
@@ -227,45 +232,39 @@ fn title_len(alloc: Global, parts: &[(&str, usize)]) -> Result<usize, AllocError
 fn lengths_told(alloc: Global) -> Result<String, AllocError> {
     let ascii = title_len(
         alloc,
-        &[
-            ("4944330400000000080b 54495432000008010000 00", 1),
-            ("61", 1_024),
-        ],
+        "4944330400000000080b 54495432000008010000 00",
+        "61",
+        1_024,
     )?;
     let ascii_more = title_len(
         alloc,
-        &[
-            ("4944330400000000080c 54495432000008020000 00", 1),
-            ("61", 1_025),
-        ],
+        "4944330400000000080c 54495432000008020000 00",
+        "61",
+        1_025,
     )?;
     let latin = title_len(
         alloc,
-        &[
-            ("4944330400000000040b 54495432000004010000 00", 1),
-            ("eb", 512),
-        ],
+        "4944330400000000040b 54495432000004010000 00",
+        "eb",
+        512,
     )?;
     let latin_more = title_len(
         alloc,
-        &[
-            ("4944330400000000040c 54495432000004020000 00", 1),
-            ("eb", 513),
-        ],
+        "4944330400000000040c 54495432000004020000 00",
+        "eb",
+        513,
     )?;
     let wide = title_len(
         alloc,
-        &[
-            ("49443304000000000535 544954320000052b0000 02", 1),
-            ("266b", 341),
-        ],
+        "49443304000000000535 544954320000052b0000 02",
+        "266b",
+        341,
     )?;
     let wide_more = title_len(
         alloc,
-        &[
-            ("49443304000000000537 544954320000052d0000 02", 1),
-            ("266b", 342),
-        ],
+        "49443304000000000537 544954320000052d0000 02",
+        "266b",
+        342,
     )?;
     format!(in alloc; "{ascii} {ascii_more} {latin} {latin_more} {wide} {wide_more}")
 }

@@ -86,7 +86,7 @@ fn run_input(rt: &HostRuntime) -> io::Result<ExitCode> {
     }
 }
 
-/// Prints the songs of a folder, and on standard error why other files are none.
+/// Prints the songs of a folder, and on standard error why other files are not songs.
 fn print_scan(rt: &HostRuntime, folder: &str, rate: &Rate) -> io::Result<ExitCode> {
     let mut progress = Progress::new(rt, rt.stderr().is_terminal());
     let mut disk = SystemDisk::new(rt, folder);

@@ -33,8 +33,8 @@ use Rattle.player_events.specs.Events.{ends_list}
 abbrev pub Answered : Type 0
 Answered = Request × StoreReply
 
--- the entries that a list's requests make, side by side, from this place on: up to and with the first that
--- ends the list
+-- the entries that a list's requests make, one directly after the other, from this place on: up to and with
+-- the first that ends the list
 unfoldable pub entries_of : ℕ → Image → ℕ → ListForm → ℕ → List Answered → List LogEntry
 entries_of seat i client form place [] = []
 entries_of seat i client form place (a ∷ more) =
@@ -73,11 +73,11 @@ next_after tolds = next_in (slice_get tolds (length tolds - 1))
 abbrev pub counted : ℕ → ℕ
 counted bytes = if nat_le bytes 18446744073709551615 then bytes else 18446744073709551615
 
--- answers side by side
+-- answers, joined
 abbrev pub answers_of : List OutcomeData → List ℕ
 answers_of tolds = flat_map (λ t. t.answer.text) tolds
 
--- answers side by side, and after them this end, unless one of them ended the list
+-- answers, joined, and after them this end, unless one of them ended the list
 abbrev pub text_with : List ℕ → List OutcomeData → List ℕ
 text_with end tolds = answers_of tolds ++ (if list_any ends_list tolds then [] else end)
 

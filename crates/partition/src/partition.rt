@@ -295,9 +295,9 @@ impl Partition {
         Ok(())
     }
 
-    /// Runs the requests of a client's command list, each as an event of its own, side by side in the
-    /// history, up to the first that ends the list: one that is refused, or that closes the client. Each is
-    /// lent the shelf.
+    /// Runs the requests of a client's command list, each as an event of its own, one directly after the
+    /// other in the history, up to the first that ends the list: one that is refused, or that closes the
+    /// client. Each is lent the shelf.
     ///
     /// # Errors
     ///
@@ -343,7 +343,7 @@ impl Partition {
         }
     }
 
-    /// Runs requests side by side, and puts their outcomes where there is room for all.
+    /// Runs requests one directly after the other, and puts their outcomes where there is room for all.
     fn run_requests<S: Shelf>(
         &mut self,
         seat: u8,

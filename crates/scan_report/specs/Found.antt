@@ -33,17 +33,17 @@ commonest refused =
     let third = commoner refused second NoData in
     commoner refused third ReadFault
 
--- how many files are none, and a reason with its number
+-- how many files are not songs, and a reason with its number
 abbrev pub reason_text : ℕ → Refusal → ℕ → List ℕ
 reason_text files refusal most =
-    codes ", " ++ (decimal files ++ (codes " files are none (" ++ (name_of refusal ++ (codes " " ++ (decimal most ++ codes ")")))))
+    codes ", " ++ (decimal files ++ (codes " files are not songs (" ++ (name_of refusal ++ (codes " " ++ (decimal most ++ codes ")")))))
 
--- what stands behind the number of songs where some files are none: the commonest reason
+-- what stands behind the number of songs where some files are not songs: the commonest reason
 unfoldable pub refused_text : List Refused → List ℕ
 refused_text files =
     if length files == 0 then [] else reason_text (length files) (commonest files) (count_of (commonest files) files)
 
--- how many songs were found, how many files are none, and the commonest reason with its number
+-- how many songs were found, how many files are not songs, and the commonest reason with its number
 abbrev pub found_text : ℕ → List Refused → List ℕ
 found_text songs refused = decimal songs ++ (codes " songs" ++ refused_text refused)
 

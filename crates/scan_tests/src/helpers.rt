@@ -37,7 +37,7 @@ fn add_found(told: &mut Told, scanned: &Scanned) {
     }
 }
 
-/// How many songs a scan found, how long the URI of the last is, and how many files are none; or why there is
+/// How many songs a scan found, how long the URI of the last is, and how many files are not songs; or why there is
 /// no scan.
 pub fn size_of(alloc: Global, scanned: &Result<Scanned, ScanFault>) -> Result<String, AllocError> {
     match scanned {

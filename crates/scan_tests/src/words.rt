@@ -90,7 +90,7 @@ Usage: music_daemon <COMMAND>
 
 Commands:
   serve   Serves clients and plays to outputs, as a file of settings says
-  scan    Prints the songs of a folder, and on standard error why other files are none
+  scan    Prints the songs of a folder, and on standard error why other files are not songs
   script  Runs standard input as a script
   help    Print this message or the help of the given subcommand(s)
 
@@ -110,7 +110,7 @@ Options:
 ";
 
 const SCAN_HELP: &str =
-    "0: Prints the songs of a folder, and on standard error why other files are none
+    "0: Prints the songs of a folder, and on standard error why other files are not songs
 
 Usage: music_daemon scan [OPTIONS] <DIR>
 

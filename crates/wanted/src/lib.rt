@@ -3,6 +3,7 @@
 #![tactic(auto)]
 
 ghost use Rattle.std.specs.Prelude.{◌≡◌, ◌≢◌, IfOk, IsOk, OnErr, OnOk, string_bytes};
+ghost use Rattle.wanted.specs.Both.{IfBoth};
 
 mod parting;
 mod told;
@@ -47,8 +48,8 @@ pub fn wants_made<E: Drop>(
 ) -> Result<(), Fail>
     ensures told { OnOk result (IsOk told) }
     ensures made { OnOk result (IsOk wanted) }
-    ensures wanted { OnOk result (IfOk told (λ text. IfOk wanted (λ made. string_bytes text ≡ string_bytes made))) }
-    ensures differs { OnErr result (IfOk told (λ text. IfOk wanted (λ made. string_bytes text ≢ string_bytes made))) }
+    ensures wanted { OnOk result (IfBoth told wanted (λ text made. string_bytes text ≡ string_bytes made)) }
+    ensures differs { OnErr result (IfBoth told wanted (λ text made. string_bytes text ≢ string_bytes made)) }
 {
     wants(told, wanted?.as_str())
 }

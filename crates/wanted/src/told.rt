@@ -44,7 +44,7 @@ impl Told {
 
     /// Adds a piece, or keeps that there was no memory for it.
     pub fn add<D: Display + Drop>(&mut self, piece: D)
-        ensures added { IfSome self.new (λ text. IfSome self.old (λ begun. AppendsText begun text (D.output piece))) }
+        ensures added { IfSome self.new (λ new. IfSome self.old (λ old. AppendsText old new (D.output piece))) }
         ensures kept { self.old ≡ None → self.new ≡ None }
     {
         if self.text.write_fmt(piece).is_err() {
