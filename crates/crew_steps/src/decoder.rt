@@ -45,6 +45,9 @@ const LONGEST_REST: u64 = 100_000;
 /// How often it looks by time at rings into which no frame goes, before it looks each second.
 const VAIN_LOOKS: u32 = 16;
 
+/// After how many jobs, given one after the other, it asks again which partitions there are.
+const JOBS_IN_A_ROW: u8 = 16;
+
 /// How many milliseconds it rests at most where nothing is played: while frames wait for room in a ring,
 /// since nothing tells of the room, and while none do.
 const OWING_REST: u64 = 1_000;
@@ -61,6 +64,10 @@ pub struct Decoder<'h, L: Ledgers, S: SongSource<M> + Drop, M: Media + Drop, R: 
     seat: Seat<L>,
     share: Share<Decoded<L>>,
     songs: Songs<S, M>,
+    /// Of sixteen numbers those of a partition, as the house last answered.
+    places: [bool; 16],
+    /// How many jobs were given since then, one after the other.
+    given: u8,
     /// The number of the partition that was last asked for a job.
     place: u8,
     /// How many were asked one after the other that have none.
@@ -182,6 +189,8 @@ impl<'h, L: Ledgers, S: SongSource<M> + Drop, M: Media + Drop, R: Wait + Clock> 
             seat: Seat::of_crew(0),
             share,
             songs: Songs::new(alloc, source, rate),
+            places: [false; 16],
+            given: 0,
             place: 0,
             idle: 0,
             seen: 0,
@@ -235,8 +244,7 @@ impl<'h, L: Ledgers, S: SongSource<M> + Drop, M: Media + Drop, R: Wait + Clock> 
         ensures rate { self.new.songs.rate ≡ self.old.songs.rate }
     {
         let owes = self.push(feeders);
-        let places = self.house.places(self.rt);
-        self.songs.close_gone(places);
+        let places = self.known_places();
         let place = next_place(places, self.place);
         self.place = place;
         match self.ask(place, owes, count_of(places)) {
@@ -251,6 +259,21 @@ impl<'h, L: Ledgers, S: SongSource<M> + Drop, M: Media + Drop, R: Wait + Clock> 
         }
     }
 
+    /// Which partitions there are, as the house answers it. Each question takes its lock, so while one job after
+    /// the other is given it asks only before each sixteenth: a new partition has its first turn a little later,
+    /// and one that is gone has no job. The songs of those that are gone are closed.
+    fn known_places(&mut self) -> [bool; 16]
+        ensures kept { KeepsSeat self.old self.new }
+        ensures rate { self.new.songs.rate ≡ self.old.songs.rate }
+    {
+        if self.given == 0 || self.given >= JOBS_IN_A_ROW {
+            self.given = 0;
+            self.places = self.house.places(self.rt);
+            self.songs.close_gone(self.places);
+        }
+        self.places
+    }
+
     /// Asks a partition for a job. Where the asking is refused it waits a while. There is no job while a ring
     /// of one of the partition's outputs owes frames.
     #[tactic(auto, using(crate::proofs::Wanted::owes_nothing))]
@@ -262,6 +285,7 @@ impl<'h, L: Ledgers, S: SongSource<M> + Drop, M: Media + Drop, R: Wait + Clock> 
         let told = match self.want(place, owes) {
             Ok(told) => told,
             Err(fault) => {
+                self.given = 0;
                 self.pause();
                 return Next::Refused(fault);
             }
@@ -270,6 +294,7 @@ impl<'h, L: Ledgers, S: SongSource<M> + Drop, M: Media + Drop, R: Wait + Clock> 
             Report::Ended => Next::Ends(told),
             Report::ToDecode(Some(job)) => {
                 self.idle = 0;
+                self.given = self.given.saturating_add(1);
                 Next::Decodes(job, told.changes())
             }
             _ => {
@@ -314,6 +339,7 @@ impl<'h, L: Ledgers, S: SongSource<M> + Drop, M: Media + Drop, R: Wait + Clock> 
         ensures goes_on { all_passed self.old.idle partitions ≡ false → self.new.streak ≡ self.old.streak }
         ensures rate { self.new.songs.rate ≡ self.old.songs.rate }
     {
+        self.given = 0;
         self.seen = if self.idle == 0 { changes } else { self.seen };
         self.idle = self.idle.saturating_add(1);
         if are_all(self.idle, partitions) {

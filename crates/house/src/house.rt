@@ -31,7 +31,12 @@ use song_db::SharedSong;
 use std::alloc::{AllocError, Global};
 use std::sync::ledger::Share;
 use std::sync::{Condvar, Mutex, MutexGuard, Wait};
+use std::thread;
 use std::time::{Clock, Duration};
+
+/// How often a thread looks whether the lock is free before it sleeps until it is. Most of what is done under
+/// the lock takes a microsecond or two, and being woken takes ten times as long.
+const LOOKS: u32 = 20;
 
 /// A player that any thread may use.
 pub struct House<L: Ledgers> {
@@ -96,7 +101,7 @@ impl<L: Ledgers> House<L> {
     pub fn seat(&self, rt: &impl Wait) -> Result<Seat<L>, NoSeat>
         ensures { IfOk result IsUnused }
     {
-        self.held.lock(rt).seat()
+        self.lock(rt).seat()
     }
 
     /// One line of a client. The reply, the notice in front aside, is the one-thread player's after some past
@@ -181,14 +186,14 @@ impl<L: Ledgers> House<L> {
     pub fn outbox(&self, rt: &impl Wait, client: u32) -> Option<Notice>
         ensures { IfSome result (λ notice. notice.client ≡ client) }
     {
-        self.held.lock(rt).outbox(client)
+        self.lock(rt).outbox(client)
     }
 
     /// The clients that notices wait for, all by one taking of the lock.
     ///
     /// A hint: a client that is missing is told later, by [`House::outbox`] or in front of its next reply.
     pub fn addressees(&self, rt: &impl Wait, alloc: Global) -> Result<Vec<u32>, AllocError> {
-        self.held.lock(rt).addressees(alloc)
+        self.lock(rt).addressees(alloc)
     }
 
     /// Frames of a partition's job were decoded.
@@ -259,7 +264,7 @@ impl<L: Ledgers> House<L> {
         requires room { (room.items ≡ []) × (vec_len rings ≤ vec_capacity room) }
         ensures { ClosesBooks shares rings.items result.items }
     {
-        self.held.lock(rt).settle_all(shares, rings, room)
+        self.lock(rt).settle_all(shares, rings, room)
     }
 
     /// The end: from now on nothing is decoded and no scan begins. Each thread of the house is told of it at
@@ -273,7 +278,7 @@ impl<L: Ledgers> House<L> {
         ensures fault { OnErr result (seat.new ≡ seat.old) }
         ensures refused { IfErr result (RefusesSomewhere seat.old End) }
     {
-        let ended = self.held.lock(rt).end(seat);
+        let ended = self.lock(rt).end(seat);
         self.ring(Rung {
             state_changed: true,
             notices_wait: true,
@@ -289,7 +294,7 @@ impl<L: Ledgers> House<L> {
     pub fn places(&self, rt: &impl Wait) -> [bool; 16]
         ensures { ArePlacesSomewhere result }
     {
-        self.held.lock(rt).player().places()
+        self.lock(rt).player().places()
     }
 
     /// The song of the entry that has this id in the present queue of the partition of a number. It is no
@@ -300,7 +305,7 @@ impl<L: Ledgers> House<L> {
     pub fn song(&self, rt: &impl Wait, place: u8, id: u32) -> Result<Option<SharedSong>, AllocError>
         ensures { IfOk result (IsSongSomewhere place id) }
     {
-        self.held.lock(rt).player().song(place, id)
+        self.lock(rt).player().song(place, id)
     }
 
     /// Whether the daemon has ended. It is no event.
@@ -310,7 +315,7 @@ impl<L: Ledgers> House<L> {
     pub fn has_ended(&self, rt: &impl Wait) -> bool
         ensures { (past : Chronicle) × IsPast past × (result ≡ past.present.shared.ended) }
     {
-        self.held.lock(rt).player().has_ended()
+        self.lock(rt).player().has_ended()
     }
 
     /// Rests until something changed since the house had changed so often, but no longer than a time: one
@@ -331,12 +336,9 @@ impl<L: Ledgers> House<L> {
         while_idle: Duration,
     ) -> u64 {
         let most = self.longest_rest(rt, while_playing, while_idle);
-        let (held, _is_late) = self.state_changed.wait_timeout_while(
-            rt,
-            self.held.lock(rt),
-            most,
-            |held| held.changes() == seen,
-        );
+        let (held, _is_late) = self
+            .state_changed
+            .wait_timeout_while(rt, self.lock(rt), most, |held| held.changes() == seen);
         held.changes()
     }
 
@@ -352,7 +354,7 @@ impl<L: Ledgers> House<L> {
     ) -> Duration
         ensures { IsByPlaying while_playing while_idle result }
     {
-        let plays = self.held.lock(rt).player().plays();
+        let plays = self.lock(rt).player().plays();
         time_by(plays, while_playing, while_idle)
     }
 
@@ -361,7 +363,7 @@ impl<L: Ledgers> House<L> {
     pub fn await_notice<R: Wait + Clock>(&self, rt: &R, most: Duration) -> bool {
         let (held, _is_late) = self.notices_wait.wait_timeout_while(
             rt,
-            self.held.lock(rt),
+            self.lock(rt),
             most,
             |held| !held.has_notices() && !held.player().has_ended(),
         );
@@ -377,16 +379,28 @@ impl<L: Ledgers> House<L> {
     {
         let (held, _is_late) = self.scan_runs.wait_timeout_while(
             rt,
-            self.held.lock(rt),
+            self.lock(rt),
             most,
             |held| !held.player().scans() && !held.player().has_ended(),
         );
         held.player().scans()
     }
 
+    /// Takes the lock. While another thread holds it, it looks a few times whether it is free, and lets others
+    /// run in between, before it sleeps.
+    fn lock(&self, rt: &impl Wait) -> MutexGuard<'_, Held<L>> {
+        for _ in 0..LOOKS {
+            if let Some(held) = self.held.try_lock() {
+                return held;
+            }
+            thread::yield_now();
+        }
+        self.held.lock(rt)
+    }
+
     /// Takes the lock. With it comes how often what it holds had changed.
     fn take(&self, rt: &impl Wait) -> (MutexGuard<'_, Held<L>>, u64) {
-        let held = self.held.lock(rt);
+        let held = self.lock(rt);
         let before = held.changes();
         (held, before)
     }

@@ -21,11 +21,11 @@ returns-in-Decodes-clause-decodes g c =
       c.next_place-place.result,
       (
         c.push-owes.new.feeders.items,
-        c.push-owes.new.self.seat,
+        c.known_places-places.new.self.seat,
         c.ask.new.self.seat,
         c.push-owes.ensures.kept,
-        c.push-owes.new.self.own,
-        subst (λ owing. IsGiven c.push-owes.new.self.seat c.next_place-place.result owing c.in-Decodes.job) c.push-owes.ensures.owes c.in-Decodes.ensures.asks.0,
+        c.known_places-places.new.self.own,
+        subst (λ owing. IsGiven c.known_places-places.new.self.seat c.next_place-place.result owing c.in-Decodes.job) c.push-owes.ensures.owes c.in-Decodes.ensures.asks.0,
         c.ask.new.self.own,
         (
           songs_of c.decode-told.new.self.songs,
@@ -41,17 +41,17 @@ returns-in-Decodes-clause-decodes g c =
 pub returns-in-Ends-clause-decodes : goal.returns-in-Ends-clause-decodes
 returns-in-Ends-clause-decodes g c = (
   c.push-owes.ensures.kept,
-  (c.push-owes.new.self.seat, c.next_place-place.result, c.push-owes.new.self.own, subst (λ owing. AsksFor c.push-owes.new.self.seat c.next_place-place.result owing (next.Ends c.in-Ends.told)) c.push-owes.ensures.owes c.in-Ends.ensures.asks),
+  (c.known_places-places.new.self.seat, c.next_place-place.result, c.known_places-places.new.self.own, subst (λ owing. AsksFor c.known_places-places.new.self.seat c.next_place-place.result owing (next.Ends c.in-Ends.told)) c.push-owes.ensures.owes c.in-Ends.ensures.asks),
 )
 
 pub returns-in-Refused-clause-decodes : goal.returns-in-Refused-clause-decodes
 returns-in-Refused-clause-decodes g c = (
   c.push-owes.ensures.kept,
-  (c.push-owes.new.self.seat, c.next_place-place.result, c.push-owes.new.self.own, subst (λ owing. AsksFor c.push-owes.new.self.seat c.next_place-place.result owing (next.Refused c.in-Refused.fault)) c.push-owes.ensures.owes c.in-Refused.ensures.asks),
+  (c.known_places-places.new.self.seat, c.next_place-place.result, c.known_places-places.new.self.own, subst (λ owing. AsksFor c.known_places-places.new.self.seat c.next_place-place.result owing (next.Refused c.in-Refused.fault)) c.push-owes.ensures.owes c.in-Refused.ensures.asks),
 )
 
 pub returns-in-Passes-clause-decodes : goal.returns-in-Passes-clause-decodes
 returns-in-Passes-clause-decodes g c = (
   c.push-owes.ensures.kept,
-  (c.push-owes.new.self.seat, c.next_place-place.result, c.push-owes.new.self.own, subst (λ owing. AsksFor c.push-owes.new.self.seat c.next_place-place.result owing (next.Passes c.in-Passes.told)) c.push-owes.ensures.owes c.in-Passes.ensures.asks),
+  (c.known_places-places.new.self.seat, c.next_place-place.result, c.known_places-places.new.self.own, subst (λ owing. AsksFor c.known_places-places.new.self.seat c.next_place-place.result owing (next.Passes c.in-Passes.told)) c.push-owes.ensures.owes c.in-Passes.ensures.asks),
 )
