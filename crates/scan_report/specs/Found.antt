@@ -36,7 +36,7 @@ commonest refused =
 -- how many files are not songs, and a reason with its number
 abbrev pub reason_text : ℕ → Refusal → ℕ → List ℕ
 reason_text files refusal most =
-    codes ", " ++ (decimal files ++ (codes " files are not songs (" ++ (name_of refusal ++ (codes " " ++ (decimal most ++ codes ")")))))
+    codes ", " ++ (decimal files ++ (codes " other files (" ++ (name_of refusal ++ (codes " " ++ (decimal most ++ codes ")")))))
 
 -- what stands behind the number of songs where some files are not songs: the commonest reason
 unfoldable pub refused_text : List Refused → List ℕ

@@ -6,7 +6,7 @@ use library_scan::{Refusal, Refused, Scanned};
 use std::alloc::{AllocError, Global};
 
 /// How many songs a scan found, how many files are not songs, and the commonest reason with its number, as
-/// `3 songs, 2 files are not songs (NotRiff 2)`.
+/// `3 songs, 2 other files (NotRiff 2)`.
 pub fn found_text(alloc: Global, scanned: &Scanned) -> Result<String, AllocError>
     ensures { IfOk result (λ text. string_bytes text
         ≡ found.found_text (length scanned.now.songs.items) scanned.now.refused.items) }
@@ -90,5 +90,5 @@ fn reason_text(
     ensures { IfOk result (λ text. string_bytes text ≡ found.reason_text files refusal most) }
 {
     let name = refusal.name();
-    format!(in alloc; ", {files} files are not songs ({name} {most})")
+    format!(in alloc; ", {files} other files ({name} {most})")
 }

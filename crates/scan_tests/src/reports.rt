@@ -67,11 +67,11 @@ fn what_is_told(rt: HostRuntime) -> Result<(), Fail> {
     wants(report(rt.alloc()), REPORT)?;
     wants(
         found(rt.alloc(), "c.wav\nd.wav"),
-        "2 songs, 2 files are not songs (NotRiff 1)",
+        "2 songs, 2 other files (NotRiff 1)",
     )?;
     wants(
         found(rt.alloc(), "c.wav\nd.wav\ne.wav"),
-        "2 songs, 3 files are not songs (ReadFault 2)",
+        "2 songs, 3 other files (ReadFault 2)",
     )?;
     wants(found(rt.alloc(), ""), "2 songs")?;
     wants(
