@@ -1,44 +1,44 @@
-"""Benchmark: times and memory of the built program beside the wanted values. It asserts nothing."""
+"""Benchmark: times and memory of the built program, next to the targets. It only prints them; nothing fails."""
 import os
 import statistics
 import tempfile
 import time
 
-ENTRIES = 16384  # of the longest queue that is measured
-RUNS = 5         # of which the best counts
-PAIRS = 51       # of which the median counts where the difference of two runs is short
+ENTRIES = 16384  # how many entries the longest queue has that is measured
+RUNS = 5         # how many runs are made, of which the best counts
+PAIRS = 51       # how many pairs of runs are made, of which the median counts, if the runs of a pair take nearly the same time
 SONG = b'! song a.wav 8000\n'
 ADD, DELETE, STATUS, CHANGES, PING = b'1 add a.wav\n', b'1 delete 0\n', b'1 status\n', b'1 plchangesposid 0\n', b'1 ping\n'
 NO_SONG = b'1 add nosuch\n'
 ALL, WINDOW, NEW = b'1 playlistinfo\n', b'1 playlistinfo 0:50\n', b'1 plchanges %d\n'
 PING_TEXTS, NO_SONG_TEXTS = len(b'OK\n'), len(b'nosuch' + b'ACK [50@0] {add} no such song\n')
-SONGS = 5000     # of the library that is measured; search/bench.sh measures 100,000
+SONGS = 5000     # how many songs the library has that is measured; search/bench.sh measures one of 100,000
 
 
 class Time:
-    """Seconds that passed, and seconds of the processor (less disturbed by other programs)."""
+    """Seconds that elapsed, and seconds of processor time, which other programs disturb less."""
 
     def __init__(self, passed, processor):
         self.passed, self.processor = passed, processor
 
     def each(self, less, times):
-        """Microseconds of each of so many lines, by which this run is longer than another."""
+        """How many microseconds longer this run took than another, for each of so many lines."""
         return Time((self.passed - less.passed) / times * 1e6, (self.processor - less.processor) / times * 1e6)
 
 
 def song_texts(number):
-    """The URI and the three tags of the song of a number: in a folder of a thousand, of one of a hundred artists."""
+    """The URI and the three tags of the song with this number. Each folder has a thousand songs; there are a hundred artists."""
     folder = number // 1000
     return b'%03d/%06d.wav' % (folder, number), (b'Title=T%06d' % number, b'Artist=A%02d' % (number % 100), b'Album=B%03d' % folder)
 
 
 def library(count):
-    """The lines that collect so many songs."""
+    """The lines that put so many songs into the library."""
     return b''.join(b'! song %s 8000 %s\n' % (uri, b' '.join(tags)) for uri, tags in map(song_texts, range(count)))
 
 
 def timed(path, script):
-    """One run of a script file, its output dropped."""
+    """Times one run of a script file; its output is thrown away."""
     actions = [(os.POSIX_SPAWN_OPEN, 0, script, os.O_RDONLY, 0), (os.POSIX_SPAWN_OPEN, 1, os.devnull, os.O_WRONLY, 0)]
     start = time.perf_counter()
     process = os.posix_spawn(path, [path, 'script'], os.environ, file_actions=actions)
@@ -50,7 +50,7 @@ def timed(path, script):
 
 
 def turns(path, inputs, count):
-    """The times of each of the inputs, which take turns, so that a change of the machine's speed meets all alike."""
+    """Times each of the inputs so many times. They take turns, so that a change in the machine's speed affects all of them alike."""
     with tempfile.TemporaryDirectory() as folder:
         scripts = []
         for lines in inputs:
@@ -61,12 +61,12 @@ def turns(path, inputs, count):
 
 
 def best(times):
-    """The best of the runs, of each of the two times alone."""
+    """The best of the runs, separately for each of the two times."""
     return Time(min(t.passed for t in times), min(t.processor for t in times))
 
 
 def median(more, less, lines):
-    """Microseconds of each of so many lines: the median over pairs of runs that stood in one turn."""
+    """Microseconds for each of so many lines: the median difference of two runs that were made in the same turn."""
     each = [m.each(l, lines) for m, l in zip(more, less)]
     return Time(statistics.median(t.passed for t in each), statistics.median(t.processor for t in each))
 
@@ -84,7 +84,7 @@ def both(measured):
 
 
 def show_long_times(path, queue):
-    row('best of %d' % RUNS, ('passed', 'processor'), 'wanted')
+    row('best of %d' % RUNS, ('elapsed', 'processor'), 'target')
     pings, = map(best, turns(path, [PING * 100000], RUNS))
     row('ping, lines a second', ('%.0f' % (1e5 / pings.passed), '%.0f' % (1e5 / pings.processor)), '1000000 or more')
     full, deleted, listed = map(best, turns(path, [queue, queue + DELETE * 10000, queue + CHANGES * 20], RUNS))
@@ -93,7 +93,7 @@ def show_long_times(path, queue):
 
 
 def show_songs(path, start, queue):
-    """What the queue shows, and edits by id at its front; each answer costs the bytes that it shows."""
+    """Commands that show the queue, and edits by id at its front. What an answer costs depends on how many bytes it has."""
     small = start + ADD * 100
     changed = queue + b'1 prio 1 0\n'
     new = NEW % (ENTRIES + 1)
@@ -111,7 +111,7 @@ def show_songs(path, start, queue):
 
 
 def show_lists(path, start):
-    """A list of adds beside the same lines alone."""
+    """A command list of `add`s, compared with the same lines outside a list."""
     before = start + ADD * 15000
     alone = before + ADD * 1000
     listed = before + b'1 command_list_begin\n' + ADD * 1000 + b'1 command_list_end\n'
@@ -123,7 +123,7 @@ def show_lists(path, start):
 
 
 def show_library(path):
-    """What is asked of a library; the answers stand in the time."""
+    """Questions to the library; the times include writing the answers."""
     start = library(SONGS) + PING
     questions = [('find artist', b'1 find "(Artist == \'A07\')"\n', ''), ('find artist, a window of 10', b'1 find "(Artist == \'A07\')" window 0:10\n', ''),
                  ('search any, a window of 10', b'1 search any a07 window 0:10\n', ''), ('list artist', b'1 list artist\n', ''),
@@ -134,7 +134,7 @@ def show_library(path):
 
 
 def show_playback(path, queue):
-    """What the order of play costs at a long queue."""
+    """What play order costs with a long queue."""
     random = queue + b'1 random 1\n'
     playing = random + b'1 play\n'
     inputs = [queue, random, playing, playing + b'1 next\n' * 1000, queue + b'1 shuffle\n' * 20, queue + b'1 random 1\n1 random 0\n' * 20,
@@ -151,7 +151,7 @@ def show_playback(path, queue):
 
 
 def show_short_times(path, start, queue):
-    row('median of %d differences of two runs' % PAIRS, ('passed', 'processor'), 'wanted')
+    row('median of %d differences of two runs' % PAIRS, ('elapsed', 'processor'), 'target')
     none, few, most, full, full_status, one, one_status = turns(path, [
         start, start + ADD * 1000, start + ADD * (ENTRIES - 1000), queue, queue + STATUS * 1000,
         start + ADD, start + ADD + STATUS * 1000], PAIRS)
@@ -165,14 +165,14 @@ def show_short_times(path, start, queue):
 
 def show_memory(program):
     def peak(lines):
-        """The most memory that the program held, in KiB."""
+        """The most memory that the program used, in KiB."""
         return program.run_with(lines).counts['peak_kib']
 
     def each(line):
-        """Bytes by which the peak grows with each event, from 2,100 to 4,000 of them: the greatest window has 4,096."""
+        """By how many bytes the peak grows with each event, between 2,100 and 4,000 events; a window holds at most 4,096."""
         return '%.0f' % ((peak(line * 4000) - peak(line * 2100)) * 1024 / 1900)
 
-    row('memory', ('', ''), 'wanted')
+    row('memory', ('', ''), 'target')
     row('peak, 1 ping (KiB)', (peak(PING), ''))
     row('peak, 100000 pings (KiB)', (peak(PING * 100000), ''))
     row('peak, %d adds, 10000 deletes (KiB)' % ENTRIES, (peak(SONG + ADD * ENTRIES + DELETE * 10000), ''))
@@ -181,8 +181,8 @@ def show_memory(program):
 
 
 def check(program):
-    """Prints a table; no failures."""
-    print('Benchmark (load of the machine %.1f, %d processors)' % (os.getloadavg()[0], os.cpu_count()))
+    """Prints a table; returns 0, since nothing here fails."""
+    print('Benchmark (load average %.1f, %d processors)' % (os.getloadavg()[0], os.cpu_count()))
     start = SONG + PING
     queue = start + ADD * ENTRIES
     show_long_times(program.path, queue)

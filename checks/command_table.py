@@ -1,4 +1,4 @@
-"""The table of commands, commands.txt, as values. Its head says what each line means."""
+"""Reads the table of commands, commands.txt. The comment at the top of that file says what each line means."""
 import os
 import re
 from dataclasses import dataclass, field
@@ -6,7 +6,8 @@ from dataclasses import dataclass, field
 TOP = os.path.dirname(os.path.dirname(os.path.abspath(__file__)))
 TABLE = 'commands.txt'
 MOST_ROWS = 7
-# where the sources of a group, its definitions, and what its commands do are, if not under the group's own name
+# SOURCES: the source file of a group, if it is not named after the group; DOING: the crate that says what the group's commands do, if it is
+# not `status_commands`
 SOURCES = {'stickers': 'sticker'}
 DOING = {
     'database': 'library_commands', 'playlists': 'library_commands', 'stickers': 'library_commands', 'partitions': 'partition_commands',
@@ -21,7 +22,7 @@ class Misread(Exception):
 
 @dataclass
 class Command:
-    """A command; without a row, one more form of the command above it."""
+    """A command; if it has no row, it is one more form of the command above it."""
     form: str
     does: str
     variant: str = ''
@@ -39,11 +40,11 @@ class Command:
 
     @property
     def doc(self):
-        """The doc of its variant."""
+        """The doc comment of its variant."""
         return '`%s`%s' % (self.form, ': ' + self.does if self.does else '.')
 
     def pattern(self, prefix):
-        """The command as a pattern of a definition."""
+        """The command, as a pattern in a definition."""
         words = ' '.join(['%s.%s' % (prefix, self.variant), *self.arguments])
         return '(%s)' % words if self.arguments else words
 
@@ -77,15 +78,15 @@ class Group:
 
     @property
     def doing(self):
-        """The crate of what its commands do."""
+        """The crate that says what its commands do."""
         return DOING.get(self.key, 'status_commands')
 
     def row_names(self):
-        """The names of its tables' definitions."""
+        """The names of the definitions of its tables."""
         return ['rows', *('rows_from_' + rows[0].name for rows in self.rows[1:])]
 
     def takes_set(self, at):
-        """Whether the definition of a table takes which commands there are: a row of it, or of one behind it, asks that."""
+        """Whether the definition of a table needs to know which set of commands there is, since a row of it, or of a later table, does."""
         return any(re.search(r'\bset\b', command.row) for rows in self.rows[at:] for command in rows)
 
 
@@ -95,7 +96,7 @@ def read(path):
 
 
 def add_line(command, line):
-    """Adds what an indented line says of a command."""
+    """Adds what an indented line says about a command."""
     key, colon, value = line.partition(': ')
     if colon and key in KEYS:
         command.keys[key] = value
@@ -103,7 +104,7 @@ def add_line(command, line):
     left, _, command.row = line.partition(' = ')
     command.variant, *command.arguments = left.split()
     if not re.fullmatch(r'[A-Z]\w*', command.variant):
-        raise Misread('neither a variant nor one of %s' % ', '.join(sorted(KEYS)))
+        raise Misread('it begins neither with a variant nor with one of %s' % ', '.join(sorted(KEYS)))
 
 
 def add_to(groups, missing, line):
@@ -123,10 +124,10 @@ def add_to(groups, missing, line):
 
 
 def wrong_in(group):
-    """What a group of the table has wrong."""
+    """What is wrong in a group of the table."""
     for rows in group.rows:
         if len(rows) > MOST_ROWS:
-            yield '%s: a table has at most %d rows; begin another by --' % (rows[0].name, MOST_ROWS)
+            yield '%s: a table of readers has at most %d rows; begin another one with --' % (rows[0].name, MOST_ROWS)
     names = [command.name for rows in group.rows for command in rows]
     if names != sorted(names):
         yield 'the commands of %s are not in byte order' % group.key
@@ -134,11 +135,11 @@ def wrong_in(group):
         if not command.variant:
             yield '%s has no variant' % command.form
         if 'TODO' in ' '.join([command.form, command.does, command.row, *command.arguments, *command.keys.values()]):
-            yield '%s is still to be filled in' % command.form
+            yield '%s still has a TODO' % command.form
 
 
 class Table:
-    """The groups, and the names of the commands that are missing, each with whether README and the manual name it."""
+    """The groups, and the names of MPD's commands that the daemon lacks, each with whether README and the manual name it."""
 
     def __init__(self, text):
         self.groups, self.missing = [], []
@@ -147,11 +148,11 @@ class Table:
                 try:
                     add_to(self.groups, self.missing, line.rstrip())
                 except (IndexError, Misread) as fault:
-                    raise SystemExit('%s:%d: cannot be read: %s' % (TABLE, number, fault)) from None
+                    raise SystemExit('%s:%d: this line cannot be read: %s' % (TABLE, number, fault)) from None
         self.groups = [group for group in self.groups if group.key != 'missing']
 
     def named(self):
-        """The commands in the byte order of their names, without further forms."""
+        """The commands in the byte order of their names, each once, whatever forms it has."""
         return sorted((command for group in self.groups for command in group.commands if command.row), key=lambda it: it.name)
 
     def names(self):
@@ -161,11 +162,11 @@ class Table:
         return [command.name for command in self.named() if command.is_everyday]
 
     def wrong(self):
-        """What the table itself has wrong."""
+        """What is wrong in the table itself."""
         found = [fault for group in self.groups for fault in wrong_in(group)]
         names = self.names()
-        found += ['%s stands twice' % name for name in sorted(set(names)) if names.count(name) > 1]
-        found += ['%s is there, and below `== missing`' % name for name, _ in self.missing if name in names]
+        found += ['%s occurs twice' % name for name in sorted(set(names)) if names.count(name) > 1]
+        found += ['%s is a command, and is listed below `== missing` too' % name for name, _ in self.missing if name in names]
         return ['%s: %s' % (TABLE, fault) for fault in found]
 
 

@@ -1,19 +1,20 @@
 #!/usr/bin/env python3
-"""The lists of commands, made from the table commands.txt.
+"""Makes all lists of commands from the table commands.txt.
 
-    checks/commands.py              says which list is not as the table makes it, and which row of a command is missing
+    checks/commands.py              says which list differs from the table, and which row of a command is missing
     checks/commands.py --write      writes the lists
 
 It writes
-- in `mpd_command`: the rows of each group's definitions, and what they import; the docs of the variants and the arms of their `drop`; the
-  names in byte order and where each letter begins (src/name.rt), which of them the everyday profile adds, and which tables are unfolded;
-- the rows of the base profile and of its proof (`command_laws`), and which subsystem tells of which answer (`notice_laws`);
-- the sessions of `worked_rows` that list the names; the manual's list; what the manual, README and docs/DIFFERENCES.md say is missing.
+- in `mpd_command`: the rows of each group's definitions, and their imports; the doc comments of the variants, and the arms of `drop`; the
+  names in byte order and where each letter begins (src/name.rt), which names the everyday profile adds, and which tables proofs unfold;
+- the rows of the base profile and of its proof (`command_laws`), and which subsystem of `idle` reports that an answer has changed
+  (`notice_laws`);
+- the sessions of `worked_rows` that list all names; the list in the manual; and the commands that the manual, README and
+  docs/DIFFERENCES.md name as missing.
 
-Regions are found by their own text, so that a source has no mark of this script. One that differs only in its line breaks stays as it is.
-What a command does is written by hand, and so is what is proved of it: of these lists (`BY_HAND`) the script says which row is missing, and
-of the skeleton that checks/new_command writes, where it is still to be filled in.
-The exit status is 1 where something differs.
+The script finds each list by the text around it, so the sources need no marks. A list that differs only in its line breaks is left alone.
+What a command does, and what is proved about it, is written by hand: for such lists (`BY_HAND`) the script only says which rows are
+missing. It also names each TODO that is left of a skeleton that checks/new_command wrote. The exit status is 1 if anything differs.
 """
 import glob
 import os
@@ -33,13 +34,13 @@ ROWS = 'crates/worked_rows/data/%s.row'
 MANUAL, README, DIFFERENCES = 'packaging/music_daemon.1', 'README.md', 'docs/DIFFERENCES.md'
 EDITS = 'checks/edits/mpd_command/*.edit'
 NAME_COLUMNS, SPEC_COLUMNS, CODE_COLUMNS = 106, 130, 110
-# the words of rows, by the module that has them; those of Tables and Forms are read there
+# the words that rows use, by the module that defines them; those of the modules Tables and Forms are read from the modules themselves
 MODULES = {
     'mpd_text.specs.Answers.Number': {'number_of'}, 'mpd_text.specs.Answers.Range': {'range_of'}, 'mpd_text.specs.Answers.Millis': {'millis_of'},
     'filters.specs.declared.expression.Test.TheVariants': {'Equals', 'Contains'},
 }
-# the lists of commands that a proof or a handler needs by hand: the group, which of its commands (all, or those that are told of), the file
-# and the definition
+# the lists of commands that are written by hand, in proofs and definitions: the group; which of its commands it lists (all, or those with a
+# line `told`); the file; and the definition
 BY_HAND = [
     ('queue', 'all', 'crates/queue_laws/proofs/Edits.antt', 'all-good'),
     ('options', 'all', 'crates/queue_laws/proofs/Options.antt', 'set-is-shown'),
@@ -59,26 +60,26 @@ BY_HAND = [
 
 
 class Lost(Exception):
-    """A region that is not found."""
+    """A list was not found."""
 
 
-# ---- regions of a text
+# ---- lists in a text
 
 def words_of(text):
     return text.replace('///', ' ').split()
 
 
 def put(text, pattern, new):
-    """The text with what the one group of a pattern finds written anew, where its words are others."""
+    """The text with the part that the pattern's group matches replaced, unless it has the same words already."""
     found = list(re.finditer(pattern, text, re.M | re.S))
     if len(found) != 1:
-        raise Lost('%s regions like %s' % (len(found) or 'no', pattern))
+        raise Lost('%s places match %s, and one should' % (len(found) or 'no', pattern))
     start, end = found[0].span(1)
     return text if words_of(text[start:end]) == words_of(new) else text[:start] + new + text[end:]
 
 
 def filled(items, columns, lead='    '):
-    """Items in lines that are as long as they may be."""
+    """The items in lines that are as full as they may be."""
     lines = [lead + items[0]]
     for item in items[1:]:
         if len(lines[-1]) + 1 + len(item) > columns:
@@ -91,7 +92,7 @@ def filled(items, columns, lead='    '):
 # ---- the names
 
 def unfolded(groups):
-    """The definitions of all tables, as attributes name them, by the names of their files."""
+    """The definitions of all tables, in the form that attributes need, in the order of their files' names."""
     return ['crate::specs::%s::%s' % (group.spec, name) for group in by_spec(groups) for name in group.row_names()]
 
 
@@ -100,19 +101,19 @@ def by_spec(groups):
 
 
 def starts_of(made):
-    """How many names come before each letter, and before the character after `z`."""
+    """How many names come before each letter, and how many before the character after `z`."""
     return [sum(name < chr(code) for name in made.names()) for code in range(ord('a'), ord('z') + 2)]
 
 
 def written_edit(text, made):
-    """The wrong body by which the names of `d` begin one late."""
+    """The edit (a wrong function body) by which the names with `d` begin one place too late."""
     a, b, c, d, e, *_ = starts_of(made)
     text = put(text, r'^old: ([^\n]*)\n', '%d, %d, %d, %d, %d,' % (a, b, c, d, e))
     return put(text, r'^new: ([^\n]*)\n', '%d, %d, %d, %d, %d,' % (a, b, c, d + 1, e))
 
 
 def written_names(text, made):
-    """src/name.rt: the names, where each letter begins, and what is unfolded."""
+    """src/name.rt: the names, where each letter begins, and what its proofs unfold."""
     commands = ['"%s": %s,' % (it.name, 'ADDED' if it.is_everyday else 'BASE') for it in made.named()]
     starts = ['%d,' % start for start in starts_of(made)]
     text = put(text, r'^const COMMANDS: [^\n]* \{\n(.*?)\n\};', filled(commands, NAME_COLUMNS))
@@ -131,7 +132,7 @@ def written_everyday(text, made):
 
 
 def with_rows_used(text, groups):
-    """A proof that names the definitions of the tables of these groups."""
+    """A proof with imports of the definitions of these groups' tables."""
     for group in groups:
         names = ', '.join(['rows as %s_rows' % group.key, *group.row_names()[1:]])
         text = put(text, r'^use Rattle\.mpd_command\.specs\.%s\.\{([^}\n]*)\}' % group.spec, names)
@@ -139,12 +140,12 @@ def with_rows_used(text, groups):
 
 
 def unfolded_here(groups):
-    """The definitions of the tables of these groups, as a proof names them."""
+    """The definitions of these groups' tables, by the names that a proof gives them."""
     return [word for group in by_spec(groups) for word in ['%s_rows' % group.key, *group.row_names()[1:]]]
 
 
 def written_known(text, made):
-    """proofs/Known.antt: the tables that it computes with."""
+    """proofs/Known.antt: the tables that its proofs unfold."""
     text = with_rows_used(text, made.groups)
     words = ['all_names', *unfolded_here(made.groups)]
     for proof, more in (('all-stand', ['starts']), ('starts-fit', ['starts']), ('added-named', [])):
@@ -159,7 +160,7 @@ def defined_in(path):
 
 
 def imported(text, module, words):
-    """A file that imports these words of a module of definitions too."""
+    """A file, with these words of a module of definitions imported too."""
     used = re.search(r'^((?:ghost )?use Rattle\.%s\.)\{([^}\n]*)\}' % re.escape(module), text, re.M)
     has = [word.strip() for word in used.group(2).split(',')] if used else []
     lacks = [word for word in dict.fromkeys(words) if word not in has]
@@ -171,7 +172,7 @@ def imported(text, module, words):
 
 
 def with_imports(text, words):
-    """A file of definitions that imports these words of rows too."""
+    """A file of definitions, with imports of these words, which its rows use."""
     modules = dict(MODULES)
     modules['mpd_command.specs.Tables'] = defined_in('crates/mpd_command/specs/Tables.antt')
     modules['command_arguments.specs.Forms'] = defined_in('crates/command_arguments/specs/Forms.antt')
@@ -183,7 +184,7 @@ def with_imports(text, words):
 
 def written_rows(group):
     def written(text, _made):
-        """specs/GROUP.antt: the rows of its tables, and what they import."""
+        """specs/GROUP.antt: the rows of its tables, and their imports."""
         names = group.row_names()
         for at, rows in enumerate(group.rows):
             behind = (names[at + 1] + (' set' if group.takes_set(at + 1) else '')) if at + 1 < len(names) else '[]'
@@ -195,20 +196,20 @@ def written_rows(group):
 
 
 def enum_in(text, name=r'\w+Command'):
-    """The name of an enum, and its variants with what each has."""
+    """The name of an enum, and its variants, each with the types of its values."""
     enum = re.search(r'^pub enum (%s) \{\n(.*?)^\}' % name, text, re.M | re.S)
     return enum.group(1), re.findall(r'^    ([A-Z]\w*)(?:\((.*)\))?,$', enum.group(2), re.M)
 
 
 def arity(types):
-    """How many values a variant has: its types, without those inside of a type."""
+    """How many values a variant has; types inside another type do not count."""
     while re.search(r'<[^<>]*>', types):
         types = re.sub(r'<[^<>]*>', '', types)
     return len([it for it in types.split(',') if it.strip()])
 
 
 def with_drop(text, name):
-    """A source whose enum has a `drop` that is written out."""
+    """A source, with the arms of its enum's `drop` written again, if it has one."""
     if 'impl Drop for %s {' % name not in text:
         return text
     values = [('%s::%s' % (name, variant), arity(types)) for variant, types in enum_in(text, name)[1]]
@@ -218,7 +219,7 @@ def with_drop(text, name):
 
 def written_source(group):
     def written(text, _made):
-        """src/GROUP.rt: the docs of its variants, and the arms of its `drop`."""
+        """src/GROUP.rt: the doc comments of its variants, and the arms of its `drop`."""
         for command in group.commands:
             doc = filled(('/// ' + command.doc).split(' '), CODE_COLUMNS).replace('\n    ', '\n    /// ')
             text = put(text, r'^((?: +///[^\n]*\n)+)(?= +%s(?:\(|,))' % command.variant, doc + '\n')
@@ -235,7 +236,7 @@ def in_order(group):
 # ---- the laws
 
 def predicate_of(group, text):
-    """The definition in Base.antt that says which commands of a group are the base profile's; none where all are."""
+    """The definition in Base.antt that says which commands of a group are in the base profile; None if all are."""
     found = re.search(r'^abbrev pub (IsBase\w+) : %s → Type 0' % enum_in(read(group.source))[0], text, re.M)
     return found and found.group(1)
 
@@ -251,7 +252,7 @@ def written_base(text, made):
 
 
 def proof_of(command, predicate):
-    """Why what a row reads in the base profile is the base profile's."""
+    """The proof that in the base profile a row reads only commands of the base profile."""
     if 'law' in command.keys:
         return command.keys['law']
     if command.is_everyday:
@@ -275,7 +276,7 @@ def written_base_rows(text, made):
 
 
 def told_of(command):
-    """Which subsystems tell that its answer has changed."""
+    """Which subsystems of `idle` report that the command's answer has changed."""
     told = command.keys.get('told', '').split()
     if not told:
         return 'None'
@@ -283,7 +284,7 @@ def told_of(command):
 
 
 def written_tellers(text, made):
-    """notice_laws/specs/Tellers.antt: first the commands that ask, then the others."""
+    """notice_laws/specs/Tellers.antt: first the commands that only ask something, then the others."""
     for group in made.groups:
         found = re.search(r'^abbrev pub (\w+_tellers) : %s →' % enum_in(read(group.source))[0], text, re.M)
         if found and group.key != 'stickers':
@@ -298,7 +299,7 @@ def written_tellers(text, made):
 
 def written_session(names):
     def written(text, made):
-        """A session of `worked_rows`: what `commands` answers, without `kill`, which a script may not run."""
+        """A session of `worked_rows`: the answer to `commands`, without `kill`, which a script may not run."""
         found = [name for name in names(made) if name != 'kill']
         text = re.sub(r'there are \d+ names', 'there are %d names' % len(found), text)
         return put(text, r'^> 1 commands\n(?:< 1 OK MPD [^\n]*\n)?((?:< 1 command: \w+\n)+)', ''.join('< 1 command: %s\n' % it for it in found))
@@ -310,7 +311,7 @@ def base_names(made):
 
 
 def shown(commands):
-    """Forms as the manual's source has them."""
+    """The forms of commands, as the manual's source has them."""
     notes = [' (%s)' % it.keys['note'] if 'note' in it.keys else '' for it in commands]
     return ', '.join('\\fB%s\\fR%s' % (it.form.replace('-', '\\-'), note) for it, note in zip(commands, notes))
 
@@ -342,7 +343,7 @@ def written_differences(text, made):
 
 
 def lists(made):
-    """Each file that has a list, and the function that writes it."""
+    """Each file that has a list, with the function that writes the list."""
     for group in made.groups:
         yield group.definitions, written_rows(group)
         yield group.source, written_source(group)
@@ -363,39 +364,39 @@ def has_row(text, definition, variant):
 
 
 def wrong_by_hand(group):
-    """The rows of a group that are missing where they are written by hand."""
+    """The rows of a group that are missing in the lists which are written by hand."""
     source, (enum, variants) = read(group.source), enum_in(read(group.source))
     has, listed = {variant for variant, _ in variants}, {it.variant for it in group.commands}
     yield from ('%s: %s has no variant %s' % (group.source, enum, it) for it in sorted(listed - has))
     yield from ('%s: the variant %s is not in %s' % (group.source, it, TABLE) for it in sorted(has - listed))
     names = [command.name for rows in group.rows for command in rows]
-    yield from ('%s: `read` has no row of %s' % (group.source, name) for name in names if '        "%s" => ' % name not in source)
+    yield from ('%s: `read` has no row for %s' % (group.source, name) for name in names if '        "%s" => ' % name not in source)
     places = [('all', 'crates/%s/specs/%s.antt' % (group.doing, group.spec), 'planned' if group.key == 'partitions' else 'result_of')]
     places += [place[1:] for place in BY_HAND if place[0] == group.key]
     for which, path, definition in places:
         text = read(path)
         asked = [it for it in group.commands if which == 'all' or told_of(it) != 'None']
-        yield from ('%s: `%s` has no row of %s' % (path, definition, it.variant) for it in asked if not has_row(text, definition, it.variant))
+        yield from ('%s: `%s` has no row for %s' % (path, definition, it.variant) for it in asked if not has_row(text, definition, it.variant))
 
 
 def stale_edits():
-    """The edits of `mpd_command` whose text is no longer in its file, as where a list has grown."""
+    """The edits of `mpd_command` whose old text is no longer in its file, for instance because a list has grown."""
     for path in sorted(glob.glob(os.path.join(TOP, EDITS))):
         edit = read(path)
         file, old = (re.search(r'(?m)^%s:(?: (.*)|$)' % key, edit) for key in ('file', 'old'))
         if file and old and old.group(1) and old.group(1).strip() not in read('crates/mpd_command/' + file.group(1)):
-            yield '%s: its text is no longer in %s' % (os.path.relpath(path, TOP), file.group(1))
+            yield '%s: its old text is no longer in %s' % (os.path.relpath(path, TOP), file.group(1))
 
 
 def to_be_filled_in():
-    """Where the skeleton of a command says so still."""
+    """Where the skeleton of a command still says TODO."""
     for part in ('src/*.rt', 'specs/*.antt', 'proofs/*.antt', 'data/*.row'):
         for path in sorted(glob.glob(os.path.join(TOP, 'crates', '*', part))):
             yield from ('%s:%d: TODO' % (os.path.relpath(path, TOP), number) for number, line in enumerate(read(path).split('\n'), 1) if re.search(r'\bTODO\b', line))
 
 
 def differing(made):
-    """Each file with its text as the table makes it, where that differs; or why it has no such list."""
+    """Each file that differs from the table, with the text that it should have. Raises `Lost` if a file has no such list."""
     texts = {}
     for path, written in lists(made):
         texts.setdefault(path, read(path))
@@ -407,11 +408,11 @@ def differing(made):
 
 
 def faults():
-    """What differs from the table, and what is missing."""
+    """What differs from the table, what is missing, and what is not filled in yet."""
     made = table()
     wrong = made.wrong()
     try:
-        wrong += ['%s does not list the commands of %s: checks/commands.py --write' % (path, TABLE) for path in differing(made)]
+        wrong += ['%s differs from %s: run checks/commands.py --write' % (path, TABLE) for path in differing(made)]
     except Lost as fault:
         wrong.append(str(fault))
     for group in made.groups:
@@ -435,7 +436,7 @@ def main():
         except Lost as fault:
             sys.exit(str(fault))
     wrong = faults()
-    print('\n'.join(wrong) or 'all lists are as %s makes them, of %d commands' % (TABLE, len(table().names())))
+    print('\n'.join(wrong) or 'all lists agree with %s, which has %d commands' % (TABLE, len(table().names())))
     return bool(wrong)
 
 

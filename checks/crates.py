@@ -1,12 +1,13 @@
 #!/usr/bin/env python3
-"""The crates of crates.txt, those that stand below some of them, and a copy of these that a check's program is built on.
+"""Reads crates.txt: prints the crates that some crates depend on, or copies these, so that a check's program can be built on them.
 
-    crates.py ROOT CRATE...                     prints the lines of these crates and of all below them, in the order of crates.txt
-    crates.py ROOT CRATE... --for PROGRAM WORK  copies them into the folder WORK, with a crate of the folder PROGRAM above them
-    crates.py ROOT CRATE... --sources-for PROGRAM WORK
+    crates.py ROOT CRATE...                             prints their lines, and those of all crates below them, in the order of crates.txt
+    crates.py ROOT CRATE... --for PROGRAM WORK          copies all these into the folder WORK, and the folder PROGRAM as a crate above them
+    crates.py ROOT CRATE... --sources-for PROGRAM WORK  the same, without what these crates have proved already
 
-ROOT is a repository's top folder; a CRATE that its crates.txt does not name is a library of the kit. PROGRAM has
-src/main.rt.txt, which is main.rt in the copy: WORK/crates/PROGRAM. What the crates have proved is copied along, but with --sources-for.
+A crate is below another one if that one depends on it, directly or through others. ROOT is the top folder of a repository. A CRATE that
+is not in its crates.txt is a library of the toolchain. PROGRAM contains a file src/main.rt.txt, which becomes src/main.rt in the copy,
+WORK/crates/PROGRAM.
 """
 import os
 import shutil
@@ -34,7 +35,7 @@ def table_of(root):
 
 
 def headings_of(root):
-    """The headings of crates.txt in its order, each with the names of the crates below it; '' has what stands before the first."""
+    """The headings of crates.txt in its order, each with the names of the crates under it; '' has those before the first heading."""
     found, crates = {}, None
     for line in lines_of(root):
         if line.startswith(HEADING):
@@ -46,7 +47,7 @@ def headings_of(root):
 
 
 def below(root, crates):
-    """The lines of these crates and of all that they stand on, by name."""
+    """The lines of these crates and of all that they depend on, by name."""
     lines = table_of(root)
     found, rest = set(), list(crates)
     while rest:
@@ -58,7 +59,7 @@ def below(root, crates):
 
 
 def copy_below(root, crates, program, work, left_out=()):
-    """Copies them with the program, and says which folder is the program's."""
+    """Copies these crates, all that they depend on, and the program, and returns the program's folder."""
     lines = below(root, crates)
     for crate in lines:
         shutil.copytree(os.path.join(root, 'crates', crate), os.path.join(work, 'crates', crate), symlinks=True, ignore=shutil.ignore_patterns(*left_out))

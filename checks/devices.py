@@ -1,4 +1,4 @@
-"""Device faults: in each run one read or one write of the program fails."""
+"""Failing devices: in each run, one read or one write of the program fails."""
 import os
 
 from program import MOST_FAILURES, PIPE, show_failures
@@ -10,14 +10,14 @@ def fails_as(run, fault):
 
 
 def check_whole(program, steps, piece):
-    """Without a fault all is written, however the bytes are cut."""
+    """Checks that everything is written if nothing fails, in whatever pieces the bytes are read and written."""
     run = program.run_with(input_of(steps), piece=piece)
     right = run.status == 0 and not run.errors and run.output == output_of(steps)
     return [] if right else ['no fault: ' + run.told(output_of(steps))]
 
 
 def check_reads(program, steps, piece):
-    """After a failing read the output is that of the lines read before, and nothing more is read."""
+    """Checks that after a failed read the output is that of the lines which were read before, and that nothing more is read."""
     data, failures, number = input_of(steps), [], 0
     while len(failures) < MOST_FAILURES:
         number += 1
@@ -33,7 +33,7 @@ def check_reads(program, steps, piece):
 
 
 def check_writes(program, steps, piece):
-    """After a failing write a front of the output was written, and no write is tried again."""
+    """Checks that after a failed write the beginning of the output has been written, and that no write is tried again."""
     data, full, failures, number = input_of(steps), output_of(steps), [], 0
     while len(failures) < MOST_FAILURES:
         number += 1
@@ -47,7 +47,7 @@ def check_writes(program, steps, piece):
 
 
 def check_system(program):
-    """Faults of the system's own devices, without the library: a folder as input, a full device as output."""
+    """Real failures, without the library: a folder as input, and a full device as output."""
     failures = []
     folder = os.open(FOLDER, os.O_RDONLY)
     run = program.run_on(folder, PIPE)
@@ -62,9 +62,9 @@ def check_system(program):
 
 
 def check(program):
-    """Prints a table; the number of failures."""
-    print('Device faults: one read or one write of the run fails')
-    print('  %-32s %14s %12s %12s %7s' % ('session', 'bytes at once', 'reads', 'writes', 'FAILED'))
+    """Prints a table, and returns the number of failures."""
+    print('Failing devices: one read or one write of each run fails')
+    print('  %-32s %14s %12s %12s %7s' % ('session', 'bytes a call', 'reads', 'writes', 'FAILED'))
     failed = 0
     for name, steps in sessions():
         for piece in (7 if len(input_of(steps)) < 10000 else 1000, 0):
@@ -75,5 +75,5 @@ def check(program):
             print('  %-32s %14s %12d %12d %7d' % (name, piece or 'all', reads, writes, len(failures)))
             failed += show_failures(failures)
     failures = check_system(program)
-    print('  %-32s %14s %12d %12d %7d' % ('a folder read, a full device', '', 1, 1, len(failures)))
+    print('  %-32s %14s %12d %12d %7d' % ('reads a folder; a full device', '', 1, 1, len(failures)))
     return failed + show_failures(failures)

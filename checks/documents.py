@@ -1,17 +1,18 @@
 #!/usr/bin/env python3
-"""Whether the documents are true to the sources.
+"""Checks that what the documents name exists in the sources.
 
     checks/documents.py
 
-It fails where
-- a word in backquotes stands nowhere in the code, the checks or the packaging (comments do not count), or in a crate's README neither in
-  this crate nor in one that it stands on;
-- a call `Type::name` is named and no file has both the type and the name; a path is none of the repository;
-- a library of crates.txt has no README, or a list of commands is not as `checks/commands.py` makes it from commands.txt;
-- a drawing of docs/MAP.md is not as `checks/map.py` draws it, or the manual or CHANGELOG.md is not of the code's version (`checks/release.py`);
-- README's first screen, all before its first heading, has more than 25 lines of 100 columns.
+It fails if
+- a word in backquotes is nowhere in the code, the checks or the packaging (comments in the code do not count); a word in a crate's README
+  must be in that crate, in one that it depends on directly, or outside all crates;
+- a document names a call `Type::name`, and no file has both the type and the name; or it names a path that is not in the repository;
+- a library of crates.txt has no README, or a list of commands is not what `checks/commands.py` makes from commands.txt;
+- a drawing in docs/MAP.md is not what `checks/map.py` draws, or the manual or CHANGELOG.md has another version than the code
+  (`checks/release.py`);
+- README's first screen, which is everything before its first heading, has more than 25 lines of 100 columns.
 
-A word of the protocol that the daemon does not know, of a tool or of another program is in OTHERS.
+OTHERS lists the words that come from elsewhere: from MPD, from the toolchain, or from a package.
 """
 import os
 import re
@@ -32,7 +33,7 @@ BESIDE = ('checks', 'packaging', 'examples')
 BUILT = {'out', '__pycache__', '.git'}
 OTHERS = {
     'MPD': {'connection_timeout'},
-    'the toolchain': {'lemma', 'plant', 'dac8208d650f15bf', 'verdict', 'tidy'},
+    'the toolchain': {'kit', 'lemma', 'plant', 'dac8208d650f15bf', 'verdict', 'tidy'},
     'packages of Debian': {'alsa', 'sudo', 'xvfb'},
 }
 WORD = re.compile(r'[A-Za-z_][A-Za-z0-9_]*')
@@ -54,7 +55,7 @@ def read(path):
 
 
 def code_of(path):
-    """A file's text; of code what is no comment."""
+    """A file's text; of code, without its comments."""
     text = read(path)
     if path.endswith('.rt'):
         return re.sub(r'(?m)^\s*//.*$', '', text)
@@ -62,7 +63,7 @@ def code_of(path):
 
 
 def sources():
-    """The files of each crate, each a path with its text."""
+    """The files of each crate, each as its path and its text."""
     return {crate: [(path, code_of(path)) for part in PARTS for path in files_in('crates/%s/%s' % (crate, part))]
             for crate in table_of(TOP)}
 
@@ -93,7 +94,7 @@ def words_beside():
 
 
 def documents():
-    """Each document, with the crate that it is of, if it is of one."""
+    """Each document, with the crate that it belongs to, or None."""
     crates = table_of(TOP)
     for path in files_in('.'):
         if path.endswith('.md'):
@@ -106,7 +107,7 @@ def stands_on(crate):
 
 
 def is_call(kind, name, files):
-    """Whether a file has a type (or what is written for it) and an item of a name."""
+    """Whether a file has both this type (or an `impl` of it) and an item of this name."""
     type_of = re.compile(r'(?m)^\s*(?:pub |unsafe )*(?:struct|enum|trait|type|impl)\b.*\b%s\b' % kind)
     item = re.compile(r'(?:\bfn %s\b|(?m:^\s+%s\b))' % (name, name))
     return any(type_of.search(text) and item.search(text) for path, text in files if path.endswith('.rt'))
@@ -118,7 +119,7 @@ def is_path(path, crate):
 
 
 def named_wrong(path, crate, files, words, beside):
-    """What a document names that is not there, line by line."""
+    """What a document names and does not exist, line by line."""
     crates = [crate, *(it for it in stands_on(crate) if it in files)] if crate else list(files)
     known = set().union(beside, *(words[it] for it in crates))
     for number, line in enumerate(read(path).split('\n'), 1):
@@ -158,8 +159,8 @@ def check(_program=None):
     wrong += release.faults()
     lines = screen_lines()
     if lines > SCREEN_LINES:
-        wrong.append("README's first screen has %d lines, at most %d are wanted" % (lines, SCREEN_LINES))
-    print('\n'.join(wrong + ["documents: README's first screen %d lines, %d wrong" % (lines, len(wrong))]))
+        wrong.append("README's first screen has %d lines, and should have at most %d" % (lines, SCREEN_LINES))
+    print('\n'.join(wrong + ["documents: README's first screen has %d lines; faults: %d" % (lines, len(wrong))]))
     return len(wrong)
 
 

@@ -1,8 +1,8 @@
 #!/usr/bin/env python3
-"""Makes examples/music: three small WAVE files with tags, and a text that only has the name of one.
+"""Makes examples/music: three small WAVE files with tags, and a text file that is only named like one.
 
     checks/example_music.py            writes the files
-    checks/example_music.py --check    says whether they are as this script makes them; the exit status is 1 where not
+    checks/example_music.py --check    checks that they are what this script writes; if not, the exit status is 1
 """
 import math
 import os
@@ -23,7 +23,7 @@ def tags(texts):
 
 
 def wave(channels, bits, samples, texts):
-    """A file of these samples, which lie between -1 and 1; those of one frame are side by side."""
+    """A file with these samples, which are between -1 and 1; the samples of a frame follow one another."""
     width = bits // 8
     form = struct.pack('<HHIIHH', 1, channels, RATE, RATE * channels * width, channels * width, bits)
     if bits == 8:
@@ -35,7 +35,7 @@ def wave(channels, bits, samples, texts):
 
 
 def tone(pitch, frames):
-    """A sine that fades."""
+    """A sine wave that fades out."""
     return [math.sin(2 * math.pi * pitch * n / RATE) * (1 - n / frames) for n in range(frames)]
 
 
@@ -62,7 +62,7 @@ def main(words):
         with open(path, 'wb') as file:
             file.write(data)
     for name in wrong:
-        print('examples/music/%s is not as this script makes it' % name)
+        print('examples/music/%s is not what this script writes' % name)
     return 1 if wrong else 0
 
 

@@ -1,15 +1,15 @@
-/* A preload library for checks from outside: the Nth allocation, read or write of a program fails.
+/* A preload library for the checks from outside. It makes the Nth allocation, read or write of a program fail.
  *
  *   gcc -shared -fPIC -O2 -o faulty.so faulty.c -ldl
  *   FAULTY_ALLOCATION=3 LD_PRELOAD=./faulty.so PROGRAM ..
  *
- * The environment says what fails; N counts from 1, and nothing fails where it is absent or 0.
- *   FAULTY_ALLOCATION=N  the Nth malloc or realloc finds no memory (ENOMEM)
+ * Environment variables say what fails. N counts from 1; a variable that is not set, or is 0, makes nothing fail.
+ *   FAULTY_ALLOCATION=N  the Nth malloc or realloc gets no memory (ENOMEM)
  *   FAULTY_READ=N        the Nth read or pread fails (EIO)
  *   FAULTY_WRITE=N       the Nth write or pwrite fails (EIO); those to standard error neither fail nor count
- *   FAULTY_STOP=N        at the Nth such write the program is killed, and nothing is written
- *   FAULTY_PIECE=N       no read and no such write moves more than N bytes
- *   FAULTY_REPORT=FILE   at exit or _exit FILE gets a line 'NAME COUNT' for each count and for the peak memory
+ *   FAULTY_STOP=N        the program is killed at the Nth such write, before it writes anything
+ *   FAULTY_PIECE=N       no read and no such write transfers more than N bytes
+ *   FAULTY_REPORT=FILE   at exit or _exit, each count and the peak memory are written to FILE, as a line 'NAME COUNT'
  */
 #define _GNU_SOURCE
 #include <dlfcn.h>
@@ -32,7 +32,7 @@ static ssize_t (*real_write)(int, const void *, size_t);
 static ssize_t (*real_pread)(int, void *, size_t, off_t);
 static ssize_t (*real_pwrite)(int, const void *, size_t, off_t);
 
-/* The C library may allocate before `begin` has run, so this may be called first from there. */
+/* The C library may allocate memory before `begin` has run; then this is called by the first allocation. */
 static void find_real_calls(void) {
     real_malloc = dlsym(RTLD_NEXT, "malloc");
     real_realloc = dlsym(RTLD_NEXT, "realloc");
@@ -102,7 +102,7 @@ ssize_t pwrite(int file, const void *from, size_t size, off_t at) {
     return real_pwrite(file, from, cut(size), at);
 }
 
-/* The most memory that the process held, in KiB, or 0 where the system does not say. */
+/* The most memory that the process has used, in KiB, or 0 if the system does not say. */
 static long peak_memory(void) {
     char text[4096];
     int file = open("/proc/self/status", O_RDONLY);
@@ -124,7 +124,7 @@ static void report(void) {
     close(file);
 }
 
-/* A program with threads ends by this call, and what is to be done at its exit is then not done. */
+/* A program with threads ends with this call, which does not run what was registered with `atexit`. */
 void _exit(int status) {
     if (getenv("FAULTY_REPORT")) report();
     void (*real_exit)(int) __attribute__((noreturn)) = dlsym(RTLD_NEXT, "_exit");
@@ -139,5 +139,5 @@ __attribute__((constructor)) static void begin(void) {
     stopping_write = number_in("FAULTY_STOP");
     piece = number_in("FAULTY_PIECE");
     if (getenv("FAULTY_REPORT")) atexit(report);
-    allocations = 0; /* those of the program alone are counted */
+    allocations = 0; /* count only what the program itself allocates */
 }

@@ -1,11 +1,12 @@
 #!/usr/bin/env python3
-"""Runs the commands that stand in docs/GATE.md and docs/PERFORMANCE.md, and writes below each what it printed.
+"""Runs the commands in docs/GATE.md and docs/PERFORMANCE.md, and writes below each what it printed.
 
     checks/figures.py [--list] [WORD...]
 
-A block that begins with `$ COMMAND` is that command, run at the top of the repository, and what it printed when it was last run. With
-WORDs only the commands that have one of them are run; --list prints them. Where a command fails its output is written all the same,
-so that the document says so, and the exit status is 1. All but the gate need the built program, and a machine with nothing else to do.
+A block that begins with `$ COMMAND` holds a command, which is run at the top of the repository, and what it printed the last time.
+With WORDs, only the commands that contain one of them are run; --list prints all commands and runs none. If a command fails, its output
+is written all the same, so that the document shows it, and the exit status is 1. Every command except those of the gate needs the built
+program, and a machine that has nothing else to do.
 """
 import os
 import re
@@ -23,14 +24,14 @@ def read(path):
 
 
 def printed_by(command):
-    """Whether a command failed, and what it printed, as lines of a block."""
+    """Runs a command: whether it failed, and what it printed, as lines of a block."""
     ran = subprocess.run(['bash', '-c', command], cwd=TOP, stdout=subprocess.PIPE, stderr=subprocess.STDOUT, text=True, errors='replace')
     lines = [('    ' + line).rstrip() for line in ran.stdout.strip('\n').splitlines()]
     return ran.returncode != 0, '\n'.join(lines)
 
 
 def run_in(path, words):
-    """Runs the chosen commands of a document; how many failed."""
+    """Runs the chosen commands of a document, and returns how many failed."""
     failed = 0
     for command in [found[1] for found in BLOCK.finditer(read(path))]:
         if words and not any(word in command for word in words):

@@ -1,5 +1,5 @@
-"""Folds of the history: memory and time of long runs, and the longest wait for an answer, beside the wanted values. It fails where a
-run ends badly, or where `! window` shows other counts than it has to; it asserts no time and no memory."""
+"""Folds of the history (checkpoints): time and memory of long runs, and the longest wait for an answer, next to the targets. It fails
+if a run ends badly, or if `! window` shows other counts than it should; times and memory are only printed."""
 import os
 import re
 import statistics
@@ -10,13 +10,13 @@ import time
 
 from benchmark import ADD, ENTRIES, PING, SONG, row, shown
 
-MOST = 4096         # the events of a window where a script sets no limit
-PINGS, MIXED = 10_000_000, 1_000_000  # the events of the long runs
-FEW, RUNS = 3500, 31  # the events of a run that folds nothing, and how many such runs there are
-WINDOWS, BLOCK = 5, 1 << 20  # the windows through which each wait is timed, and about the bytes that are written at once
+MOST = 4096         # how many events a window holds, if a script sets no limit
+PINGS, MIXED = 10_000_000, 1_000_000  # how many events the long runs have
+FEW, RUNS = 3500, 31  # about how many events a run has that is too short for a fold, and how many such runs are made
+WINDOWS, BLOCK = 5, 1 << 20  # for how many windows each wait is timed, and about how many bytes are written at once
 WINDOW = re.compile(rb'(?:^|\n)! window (\d+) (\d+)\n\Z')
 START, STARTED = SONG + b'! song b.wav 16000 Artist=Ann\n' + PING + b'2 ping\n', 4
-# Events of many kinds that leave what they found, so that answers are of like size.
+# Events of many kinds, which leave everything as it was before them, so that the answers stay about as long.
 CYCLE = (ADD + b'1 add b.wav\n1 setvol 40\n1 setvol 60\n2 idle mixer\n1 repeat 1\n1 repeat 0\n2 noidle\n1 play 0\n! want\n! turn 0 9 1\n'
          b'1 status\n1 playlistinfo\n1 move 0 1\n1 prio 7 0\n1 stop\n1 playlistadd x a.wav\n1 listplaylist x\n1 playlistdelete x 0\n'
          b'1 sticker set song a.wav r 5\n1 sticker get song a.wav r\n1 find artist Ann\n1 nosuch\n2 subscribe c\n1 sendmessage c hi\n'
@@ -24,7 +24,7 @@ CYCLE = (ADD + b'1 add b.wav\n1 setvol 40\n1 setvol 60\n2 idle mixer\n1 repeat 1
 
 
 class Child:
-    """A run of the program that is fed through a pipe."""
+    """A run of the program, which gets its lines through a pipe."""
     def __init__(self, path):
         self.process = subprocess.Popen([path, 'script'], stdin=subprocess.PIPE, stdout=subprocess.PIPE)
 
@@ -34,11 +34,12 @@ class Child:
         self.process.stdin.flush()
 
     def heard(self):
-        """What it printed, as much as there is."""
+        """Waits until it has printed something, and returns that."""
         return os.read(self.process.stdout.fileno(), BLOCK) or sys.exit('folds: the program ended with status %d' % self.process.wait())
 
     def window(self, *blocks):
-        """The events of the window and all events once these lines are run: another thread feeds them, while their answers are taken."""
+        """Runs these lines, and returns how many events the window then has, and how many there were in all. Another thread writes
+        the lines, while this one reads the answers."""
         feeder = threading.Thread(target=self.feed, args=(*blocks, b'! window\n'))
         feeder.start()
         tail, found = b'', None
@@ -49,7 +50,7 @@ class Child:
         return tuple(map(int, found.groups()))
 
     def timed(self, *blocks):
-        """Seconds that passed and those of the processor, until these lines are run; and the same counts."""
+        """Runs these lines, and returns the seconds that it took (elapsed, and of processor time), and the same counts."""
         began, ran = time.perf_counter(), self.processor()
         counts = self.window(*blocks)
         return (time.perf_counter() - began, self.processor() - ran), counts
@@ -59,21 +60,22 @@ class Child:
             return int(times.read().split()[0]) / 1e9
 
     def peak(self):
-        """The most memory that it held so far, in KiB."""
+        """The most memory that it has used so far, in KiB."""
         with open('/proc/%d/status' % self.process.pid, encoding='ascii') as status:
             return next(int(line.split()[1]) for line in status if line.startswith('VmHWM'))
 
     def fails(self, counts, events):
-        """Ends the run: 1 where it ends badly, or the counts are not those of so many events; else 0."""
+        """Ends the run, and returns 1 if it ends badly or if these are not the counts after so many events, otherwise 0."""
         self.process.stdin.close()
         told, wanted = (self.process.wait(), *counts), (0, (events - 1) % MOST + 1, events)
         if told != wanted:
-            print('    status, window and events are %s, wanted %s  FAILED' % (told, wanted))
+            print('    status, window and events are %s, expected %s  FAILED' % (told, wanted))
         return int(told != wanted)
 
 
 def show_long_run(path, name, lines, events, count):
-    """These lines of so many events, again and again, until there were some `count` of them; beside a few that fold nothing."""
+    """Runs these lines, which are so many events, again and again, for about `count` events; and before that, to compare, some runs
+    that are too short for a fold."""
     few, failed, each = FEW // events, 0, []
     for _ in range(RUNS):
         child = Child(path)
@@ -94,7 +96,7 @@ def show_long_run(path, name, lines, events, count):
 
 
 def show_waits(path):
-    """The time from each line to its answer, one after the other, at the longest queue in random order."""
+    """The time from each line to its answer, one line after the other, with the longest queue in random order."""
     child, waits = Child(path), []
     kept, _ = child.window(START + ADD * ENTRIES + b'1 random 1\n1 play\n')
     for _ in range(WINDOWS * MOST):
@@ -105,14 +107,14 @@ def show_waits(path):
     folds = [wait for place, wait in enumerate(waits) if (kept + place) % MOST == 0]
     row('answer at %d entries, median of %d (us)' % (ENTRIES, len(waits)), (shown(statistics.median(waits)), ''))
     row('.. longest (us)', (shown(max(waits)), ''))
-    row('.. median of the %d behind a fold (us)' % len(folds), (shown(statistics.median(folds)), ''), 'less than 2000')
+    row('.. median of the %d after a fold (us)' % len(folds), (shown(statistics.median(folds)), ''), 'less than 2000')
     row('.. longest of these (us)', (shown(max(folds)), ''), 'less than 2000')
     return child.fails(child.window(), STARTED + ENTRIES + 2 + len(waits))
 
 
 def check(program):
-    """Prints a table; the number of failures."""
-    print('Folds of the history (load of the machine %.1f, %d processors)' % (os.getloadavg()[0], os.cpu_count()))
-    row('median of %d runs, and one long run' % RUNS, ('passed', 'processor'), 'wanted')
+    """Prints a table, and returns the number of failures."""
+    print('Folds of the history (load average %.1f, %d processors)' % (os.getloadavg()[0], os.cpu_count()))
+    row('median of %d runs, and one long run' % RUNS, ('elapsed', 'processor'), 'target')
     return (show_long_run(program.path, 'ping', PING, 1, PINGS) + show_waits(program.path)
             + show_long_run(program.path, 'mixed', CYCLE, CYCLE.count(b'\n') - 2, MIXED))

@@ -1,4 +1,4 @@
-"""Hostile bytes for the program: a minute of each kind."""
+"""Feeds hostile bytes to the program, for a minute with each kind of input."""
 import os
 import subprocess
 
@@ -6,5 +6,5 @@ RUN = os.path.join(os.path.dirname(os.path.abspath(__file__)), 'fuzz', 'run')
 
 
 def check(program):
-    """Prints the table of the kinds; 1 where an input was answered wrongly."""
+    """Prints the table of the kinds, and returns 1 if an input got a wrong answer, otherwise 0."""
     return int(subprocess.run([RUN, program.path]).returncode != 0)

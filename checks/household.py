@@ -1,7 +1,7 @@
-"""What an installed package does for a household, in a Debian folder (checks/package.py): the queue that is kept over `kill -9`, the sound
-card by what the unit runs, the FIFOs of the settings, the daemon on the network by Avahi, and the licences.
+"""Tests what the installed package does for a household, in the Debian folder of checks/package.py: the queue comes back after `kill -9`, the
+sound card plays by the command of its unit, the FIFOs are those of the settings, Avahi finds the daemon, and the licences are there.
 
-A sound card is a file here: ALSA's `file` over `null`, which takes frames as fast as they come.
+The sound card is a file here (ALSA's `file` on top of `null`), which takes frames as fast as they come.
 """
 import os
 import re
@@ -22,9 +22,9 @@ from daemon import ROOT, Process, wave
 STATE, RUN, SETTINGS = 'var/lib/music_daemon', 'run/music_daemon', 'etc/music_daemon.toml'
 SCRIPTS, DOCUMENTS = '/usr/lib/music_daemon/', 'usr/share/doc/music-daemon'
 ALSA_UNIT, AVAHI = 'usr/lib/systemd/system/music_daemon_alsa@.service', 'etc/avahi/services/music_daemon.service'
-# Debian's packages that this needs in the folder
+# the Debian packages that these tests need in the folder
 NEEDED = ('alsa-utils', 'avahi-daemon', 'avahi-utils', 'dbus')
-SECONDS = 30          # within which what is waited for is to come
+SECONDS = 30          # how long to wait at most
 KEPT = ('volume', 'repeat', 'random', 'single', 'playlistlength')
 SOUND_FRAMES = 44100
 TONE, ALSA_SETTINGS = STATE + '/music/tone.wav', 'etc/asound.conf'
@@ -40,7 +40,7 @@ def last_of(told):
 
 
 def soon(is_so, seconds=SECONDS):
-    """Whether something comes to be so."""
+    """Waits until something is so; whether it was in time."""
     end = time.monotonic() + seconds
     while not is_so():
         if time.monotonic() > end:
@@ -56,7 +56,7 @@ def put_port(debian, port):
 
 
 def serve(debian, port, folder, environment):
-    """The daemon with the settings of the package, as its user."""
+    """Starts the daemon with the settings of the package, as the package's user."""
     words = ['chroot', '--userspec=music_daemon:audio', debian.root, '/usr/bin/music_daemon', 'serve', '--config', '/' + SETTINGS]
     return Process(words, port, folder, environment=environment)
 
@@ -64,24 +64,24 @@ def serve(debian, port, folder, environment):
 # ---- the licences
 
 def check_licences(rows, debian):
-    """The copyright file has the project's own licence word for word, and a text for each licence that it names."""
+    """Checks that the copyright file has the project's own licence word for word, and the text of each licence that it names."""
     text = content(debian.path(DOCUMENTS + '/copyright')).decode()
     words = re.sub(r'(?m)^ \.$', '', text).split()
     own = content(os.path.join(ROOT, 'LICENSE')).decode().partition('\n')[2].split('\n')
     holder = next(line for line in own if line.startswith('Copyright'))
     licence = ' '.join(own[own.index(holder) + 1:]).split()
     has_own = ' '.join(licence) in ' '.join(words) and 'Copyright: ' + holder.partition('(c) ')[2] in text
-    rows.row("the project's licence", 'word for word' if has_own else 'not there', right=has_own)
+    rows.row("the project's licence", 'word for word' if has_own else 'missing', right=has_own)
     paragraphs = text.split('\n\n')
     named = {name for part in paragraphs if part.startswith('Files:') and not re.search(r'(?m)^License: .*\n ', part)
              for name in re.search(r'(?m)^License: (.*)$', part).group(1).split(' and ')}
     texts = {part.split('\n')[0][len('License: '):] for part in paragraphs if part.startswith('License:') and '\n ' in part}
     rows.row('licences that are named', ', '.join(sorted(named)), right=bool(named) and named == texts)
     missing = release.unnamed(text)
-    rows.row('libraries', ', '.join(missing) or '%d, each named' % len(release.libraries()), right=not missing)
+    rows.row('libraries', 'missing: ' + ', '.join(missing) if missing else '%d, each named' % len(release.libraries()), right=not missing)
 
 
-# ---- what is kept
+# ---- the saved state
 
 def known_of(client):
     files = [line for line in client.must('playlistinfo') if line.startswith('file: ')]
@@ -89,17 +89,17 @@ def known_of(client):
 
 
 def check_state(rows, debian, daemon, folder, environment):
-    """The queue and the modes are there again after `kill -9`, by the settings as they were installed; the daemon that runs then."""
+    """Checks that with the installed settings the queue and the modes are there again after `kill -9`. Returns the daemon that runs then."""
     client = daemon.client()
     for line in ('add "album 00/0003.wav"', 'add "album 01/0011.wav"', 'add "album 00/0001.wav"', 'prio 7 1', 'setvol 41', 'repeat 1',
                  'random 1', 'single 1'):
         client.must(line)
     before = known_of(client)
     kept = soon(lambda: os.path.exists(debian.path(STATE + '/state')) and b'0001.wav' in content(debian.path(STATE + '/state')))
-    time.sleep(3)    # a change is written two seconds after it at most
+    time.sleep(3)    # a change is written after two seconds at most
     client.close()
     daemon.kill()
-    rows.row('the state that it kept', ' '.join(map(str, debian.owner(STATE + '/state') or ['is not there'])),
+    rows.row('the saved state', ' '.join(map(str, debian.owner(STATE + '/state') or ['is not there'])),
              right=kept and debian.owner(STATE + '/state')[0] == 'music_daemon')
     daemon = serve(debian, daemon.port, folder, environment)
     client = daemon.client()
@@ -115,13 +115,13 @@ def check_state(rows, debian, daemon, folder, environment):
 # ---- the sound card
 
 def words_of_unit(debian, instance):
-    """What the unit of the sound card runs for an instance."""
+    """The command that the sound card's unit runs for an instance."""
     line = re.search(r'(?m)^ExecStart=(.*)$', content(debian.path(ALSA_UNIT)).decode()).group(1)
     return line.replace('%i', instance).split()
 
 
 def check_fifos(rows, debian):
-    """A start makes the FIFOs that the settings name, and takes away those that they name no more."""
+    """Checks that a start makes the FIFOs that the settings name, and removes those that they no longer name."""
     folder, settings = debian.path('tmp/fifos'), debian.path('tmp/fifos.toml')
     os.makedirs(folder)
     open(os.path.join(folder, 'notes'), 'w').close()
@@ -137,14 +137,14 @@ def check_fifos(rows, debian):
     with open(settings, 'w') as file:
         file.write("path = '/tmp/fifos/speakers'\n")
     refused = debian.run(SCRIPTS + 'fifos', '/tmp/fifos.toml', '/tmp/fifos')
-    rows.row('a plain file in the place of one', last_of(refused[1]), right=refused[0] == 1 and 'File exists' in refused[1])
+    rows.row('a plain file in place of a FIFO', last_of(refused[1]), right=refused[0] == 1 and 'File exists' in refused[1])
     shutil.rmtree(folder)
     right = seen == [(0, '', True)] * 3
-    rows.row('FIFOs as the settings name them', 'yes' if right else seen, right=right)
+    rows.row('just the FIFOs that the settings name', 'yes' if right else seen, right=right)
 
 
 def check_rate(rows, debian):
-    """aplay is told the settings' rate; a program in its place writes down its words."""
+    """Checks that aplay gets the rate of the settings; a program in its place prints its arguments."""
     os.makedirs(debian.path('tmp/bin'))
     with open(debian.path('tmp/bin/aplay'), 'w') as file:
         file.write('#!/bin/sh\necho "$*"\n')
@@ -156,12 +156,12 @@ def check_rate(rows, debian):
         told.append(debian.run('env', 'PATH=/tmp/bin:/usr/bin:/bin', SCRIPTS + 'alsa', '/tmp/rate.toml', '/tmp/fifo')[1])
     shutil.rmtree(debian.path('tmp/bin'))
     rates = [re.search(r'-r (\d+) ', it + ' ').group(1) if '-r ' in it else it for it in told]
-    rows.row("the settings' rate", ' '.join(rates), right=rates == ['48000', '44100', '96000'])
-    rows.row('frames for aplay', told[0], right=told[0] == '-q -t raw -f S16_LE -c 2 -r 48000 --period-time=25000 /tmp/fifo')
+    rows.row('the rate of the settings', ' '.join(rates), right=rates == ['48000', '44100', '96000'])
+    rows.row('the arguments of aplay', told[0], right=told[0] == '-q -t raw -f S16_LE -c 2 -r 48000 --period-time=25000 /tmp/fifo')
 
 
 def play_tone(debian, daemon):
-    """Puts a song beside the others, and plays it to its end: the bytes that are to be heard, and whether the output is still on."""
+    """Adds a song to the music, and plays it to its end: the bytes that should be heard, and whether the output is still on."""
     frames = [((7 * at) % 65536 - 32768, (-11 * at) % 65536 - 32768) for at in range(SOUND_FRAMES)]
     with open(debian.path(TONE), 'wb') as file:
         file.write(wave(frames, tags=[(b'INAM', 'Tone')]))
@@ -177,7 +177,7 @@ def play_tone(debian, daemon):
 
 
 def ended_with(daemon, card):
-    """How aplay ends where the daemon does."""
+    """How aplay ends when the daemon does."""
     daemon.process.send_signal(signal.SIGTERM)
     daemon.process.wait(SECONDS)
     try:
@@ -189,7 +189,7 @@ def ended_with(daemon, card):
 
 
 def check_sound(rows, debian, daemon):
-    """A song is heard on the card by what the unit runs, as the package's user. The daemon is ended."""
+    """Checks that the unit's command, run as the package's user, plays a song on the sound card. The daemon is ended here."""
     with open(debian.path(ALSA_SETTINGS), 'w') as file:
         file.write('pcm.!default { type file slave.pcm null file /tmp/heard.raw format raw }\n')
     words = ['chroot', '--userspec=music_daemon:audio', debian.root, *words_of_unit(debian, 'speakers')]
@@ -197,7 +197,7 @@ def check_sound(rows, debian, daemon):
                             env={'PATH': '/usr/sbin:/usr/bin:/bin', 'LC_ALL': 'C'})
     wanted, is_on = play_tone(debian, daemon)
     heard = debian.path('tmp/heard.raw')
-    # What is short of a period is handed on when the FIFO ends.
+    # Frames that do not fill a period are passed on only when the FIFO ends.
     soon(lambda: os.path.exists(heard) and os.path.getsize(heard) > len(wanted) // 2)
     time.sleep(2)
     ended = ended_with(daemon, card)
@@ -211,19 +211,19 @@ def check_sound(rows, debian, daemon):
 
 
 def check_listening(rows, debian, daemon):
-    """What ends a start: status 0 where a process listens, and 1 where it ends before."""
+    """Checks how the wait for a start ends: with status 0 when the process listens, and with 1 if it ends before that."""
     status = debian.run(SCRIPTS + 'listening', str(daemon.process.pid), user='music_daemon:audio')
-    rows.row('a start is over once it listens', 'status %d' % status[0], right=status == (0, ''))
+    rows.row('a start is complete once the daemon listens', 'status %d' % status[0], right=status == (0, ''))
     other = subprocess.Popen(['sleep', '1'])
     ask = subprocess.Popen(['chroot', debian.root, SCRIPTS + 'listening', str(other.pid)])
     other.wait()
-    rows.row('or has ended', 'status %d' % ask.wait(SECONDS), right=ask.returncode == 1)
+    rows.row('a start has failed if the daemon has ended', 'status %d' % ask.wait(SECONDS), right=ask.returncode == 1)
 
 
 # ---- the network
 
 def check_avahi(rows, debian):
-    """avahi-browse finds the daemon, in a network of its own that has the loopback alone."""
+    """Checks that avahi-browse finds the daemon, in a network namespace that has only the loopback interface."""
     found = xml.etree.ElementTree.parse(debian.path(AVAHI)).getroot().find('service')
     told = found.findtext('type'), found.findtext('port')
     rows.row('the Avahi file', ' '.join(told), right=told == ('_mpd._tcp', '6600'))
@@ -234,11 +234,11 @@ def check_avahi(rows, debian):
 
 
 def browse(root):
-    """Run within a network of its own: prints what avahi-browse finds there."""
+    """Prints what avahi-browse finds; this runs in the network namespace."""
     import fcntl
     import socket
     with socket.socket() as door:
-        # lo is up, and has multicast
+        # bring `lo` up, with multicast
         fcntl.ioctl(door, 0x8914, struct.pack('16sh14x', b'lo', 0x1 | 0x8 | 0x40 | 0x1000))
     for name in ('dbus', 'avahi-daemon'):
         shutil.rmtree(os.path.join(root, 'run', name), ignore_errors=True)
@@ -262,7 +262,7 @@ def browse(root):
 
 
 def check(rows, debian, daemon, folder, environment):
-    """All of it, with a daemon that runs; the one that runs at the end."""
+    """Makes all these tests, with the daemon that runs, and returns the one that runs at the end."""
     check_licences(rows, debian)
     check_fifos(rows, debian)
     check_rate(rows, debian)

@@ -3,10 +3,11 @@
 
     checks/many_lines.py [--program PROGRAM] [--lines 2000000] [--start 1]
 
-Nine clients and the steps of decoder, output and scan say lines with random arguments, right and wrong, alone and in lists. The lines
-are made by a generator with a fixed start. The first run is fed some sixty lines at a time, so that steps can name the job that was
-given last; the second reads all of them from a file. Both have to end well and to print the same. The table says after how many lines
-the program had how much memory: it is flat, since the history is folded, but for what the window holds of the longest answers.
+The lines are commands of nine clients, and steps of a decoder, an output and a scan, with random arguments, right and wrong; commands
+also come in command lists. The random generator begins with --start. The first run gets about sixty lines at a time, so that a step can
+name the job that was given last; the second run reads all lines from a file. Both must end well, and print the same. The table says how
+much memory the program used after how many lines. It stays flat, since the history is folded, except that the window of past events may
+hold the longest answers.
 """
 import argparse
 import hashlib
@@ -36,7 +37,7 @@ FORMS = {
     'output': 'enableoutput disableoutput toggleoutput', 'channel': 'subscribe unsubscribe', 'channel word': 'sendmessage',
     'subsystem subsystem': 'idle', 'none': 'idle play pause',
 }
-# Of each form, every command that has it, as often as the others.
+# Every command with each form of its arguments; all of these are equally frequent.
 KINDS = [(name, form.split()) for form, names in FORMS.items() for name in names.split()]
 SUBSYSTEMS = 'database update stored_playlist playlist player mixer output options partition sticker subscription message'.split()
 FILTERS = ['artist Ann', 'title x artist Bo', "\"(Artist == 'Ann')\"", "\"(!(title contains 'o'))\"", "\"((any contains 'a') AND (base 'rock'))\"",
@@ -81,7 +82,7 @@ class Lines:
         return ' '.join(filter(None, words))
 
     def client(self):
-        """One line of a client, or a list of its own."""
+        """One line of a client, or a whole command list."""
         client, chance = self.random.randrange(1, 10), self.random.random()
         if chance < 0.03:
             begin = self.random.choice(['command_list_begin', 'command_list_ok_begin'])
@@ -103,7 +104,7 @@ class Lines:
         ])
 
     def some(self):
-        """Some sixty lines; the last is a turn, whose answer says that all of them were run."""
+        """About sixty lines; the last is a turn, whose answer shows that all of them were run."""
         lines = []
         while len(lines) < 60:
             lines += [self.step()] if self.random.random() < 0.25 else self.client()
@@ -121,7 +122,8 @@ def memory_of(pid):
 
 
 def first_run(program, count, start, kept):
-    """Feeds the lines as they are made, and keeps them. What it printed, as a digest, and its memory by the number of lines."""
+    """Feeds the program the lines as they are made, and keeps them. Returns a digest of what it printed, its exit status, its memory after
+    so many lines, and how many lines there were."""
     lines, made, digest, memory = Lines(start), 0, hashlib.sha256(), []
     child = subprocess.Popen([program, 'script'], stdin=subprocess.PIPE, stdout=subprocess.PIPE, bufsize=0)
     pending, more = b'', opening()
@@ -151,10 +153,10 @@ def first_run(program, count, start, kept):
 
 
 def main():
-    parser = argparse.ArgumentParser(description='Runs many lines of every kind of command.')
-    parser.add_argument('--program', default=PROGRAM)
-    parser.add_argument('--lines', type=int, default=2000000)
-    parser.add_argument('--start', type=int, default=1)
+    parser = argparse.ArgumentParser(description='Runs many random lines of every kind of command through `music_daemon script`.')
+    parser.add_argument('--program', default=PROGRAM, help='the built program (default: crates/music_daemon/out/music_daemon)')
+    parser.add_argument('--lines', type=int, default=2000000, help='about how many lines (default: 2000000)')
+    parser.add_argument('--start', type=int, default=1, help='the seed of the random generator (default: 1)')
     given = parser.parse_args()
     with tempfile.NamedTemporaryFile(prefix='many_lines-') as kept:
         began = time.time()
@@ -167,8 +169,8 @@ def main():
         for count, kilobytes in memory:
             print('| {:,} | {:,.1f} |'.format(count, kilobytes / 1024))
         same = hashlib.sha256(second.stdout).hexdigest() == first
-        print('\n{:,} lines, {:,} bytes printed; statuses {} and {}; {}; {:.0f} s as they were made, {:.0f} s from a file'.format(
-            made, len(second.stdout), status, second.returncode, 'the same twice' if same else 'NOT THE SAME', passed, time.time() - again))
+        print('\n{:,} lines, {:,} bytes printed; exit statuses {} and {}; both runs printed {}; the first took {:.0f} s, the second {:.0f} s'.format(
+            made, len(second.stdout), status, second.returncode, 'the same' if same else 'NOT THE SAME', passed, time.time() - again))
     return 0 if same and status == second.returncode == 0 else 1
 
 

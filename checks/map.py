@@ -1,13 +1,14 @@
 #!/usr/bin/env python3
-"""The drawings of docs/MAP.md, made from crates.txt and the sources.
+"""Makes the drawings of docs/MAP.md from crates.txt and the sources.
 
-    checks/map.py              says whether they are as they are drawn here, and what a drawing says that is not so
-    checks/map.py --write      writes them there
+    checks/map.py              says whether they are up to date, and what in them is not true
+    checks/map.py --write      writes them to docs/MAP.md
 
-The layers are the headings of crates.txt, and the crates and what they stand on are its lines: each stands below those that it depends on,
-so that no layer depends on one above it. What is drawn beside them stands in the tables below, and each line of these is looked up: a call is
-in its crate, and the crate of a step stands on that of the step which it makes; a field is one of the struct, and none is left out; a
-definition is in its file, a law and a clause in their crate. The exit status is 1 where something differs.
+The layers are the headings of crates.txt. Its lines are the crates, each with what it depends on; in that file a crate comes after all that
+it depends on, so that no layer depends on a higher one. The other drawings come from the tables in this script, and each line of these is
+looked up in the sources: the call is in its crate, and the crate of a step depends on the crate of each step that it makes; a field is one of
+the struct's, and no field is left out; a definition is in its file, and a law and a clause are in their crate. If something is wrong, the
+exit status is 1.
 """
 import os
 import re
@@ -19,9 +20,10 @@ from crates import headings_of, table_of
 
 TOP = os.path.dirname(os.path.dirname(os.path.abspath(__file__)))
 MAP = 'docs/MAP.md'
-TESTS = 'tests'   # the last heading of crates.txt, which is no layer
+TESTS = 'tests'   # the last heading of crates.txt, which is not a layer
 
-# A way: a step is its depth, crate, call and what it does; a step stands on the one above it that is less deep. A text alone is a mark.
+# The way of a line, and of a frame. A step is its depth, crate, call and what it does; it is made by the nearest step above it that is less
+# deep. A text by itself is drawn as a mark between steps.
 LINE = [
     (0, 'mpd_server', 'Server::serve', 'one loop over all sockets; a turn for each that is ready'),
     (1, 'mpd_session', 'Session::turn', 'bytes are read, and unsent bytes written'),
@@ -31,12 +33,12 @@ LINE = [
     (3, 'mpd_command', 'Request::of_line', 'a typed command, or the first refusal'),
     (3, 'house', 'House::command', 'or `House::list`, for a command list'),
     '---- the lock is taken',
-    (4, 'held_player', 'Held::command', 'a waiting notice goes in front of the reply'),
+    (4, 'held_player', 'Held::command', 'a pending notice is put in front of the reply'),
     (5, 'counted_player', 'Counted::apply', 'the event is counted for its seat'),
     (6, 'partition', 'Partition::apply', 'a full history window is folded; the playlist store is asked'),
     (7, 'queue_commands', 'run', 'or another group: decides what to do; nothing changes yet'),
     (7, 'transitions', 'Transition::carry_out', 'the partition and the library change'),
-    (7, 'idle_clients', 'notify_all', 'changes become pending, waiting clients are told'),
+    (7, 'idle_clients', 'notify_all', 'changes become pending; waiting clients get their notices'),
     '---- the lock is free',
     (2, 'mpd_answers', 'Owed::push_to', 'the answer joins the unsent bytes'),
 ]
@@ -44,26 +46,26 @@ FRAME = [
     (0, 'crew_steps', 'Decoder::run', "the decoder's thread"),
     (1, 'house', 'House::notice', 'lock: the player gives it a job'),
     (1, 'wave', 'Reader::frames_at', 'frames of the song, and of the one to fade into'),
-    (1, 'house', 'House::have', 'lock: for which outputs, with which cut and volume'),
+    (1, 'house', 'House::have', 'lock: learns for which outputs, and with which cut and volume'),
     (1, 'pcm_mix', 'mix', 'first the fade, then the volume'),
     (1, 'output_ring', 'Feeder::take', 'into the ring of each of these outputs'),
     '---- the ring: no lock, no waiting',
     (0, 'crew_steps', 'Draining::run', "an output's thread"),
     (1, 'output_ring', 'Drainer::pop', 'a batch of frames into its hand'),
-    (1, 'house', 'House::turn', 'lock: reports fates; learns the cut, and whether enabled, paused'),
+    (1, 'house', 'House::turn', 'lock: reports fates; learns the cut, and whether it is enabled or paused'),
     (1, 'output_ring', 'Drainer::write_out', 'each frame of the hand is written or discarded'),
     '---- the end',
     (0, 'crew', 'close', 'all threads are joined'),
     (1, 'house', 'House::settle_all', 'lock'),
-    (2, 'frame_ledger', 'settle', 'compares the ring with the frame counts, names a difference'),
+    (2, 'frame_ledger', 'settle', 'compares the ring with the frame counts, and names any difference'),
 ]
 
-# What the lock holds: depth, crate, struct and its fields with what they are; None for a field that is only named.
+# What the lock protects: depth, crate, struct, and its fields with what they are; a field with None is drawn by its name only.
 HELD = [
     (0, 'house', 'House', {'held': 'the lock', 'state_changed': None, 'notices_wait': None, 'scan_runs': None}),
     (1, 'held_player', 'Held', {
         'core': 'the player with its notices, below', 'books': 'how many frames were decoded, written, discarded',
-        'free': 'seats that nobody has', 'closed': "all threads' shares of these books, once the outputs are settled", 'alloc': None}),
+        'free': 'the seats that are free', 'closed': "the shares of all threads in the frame counts, once the outputs are settled", 'alloc': None}),
     (2, 'held_player', 'Core', {'counted': 'the player, below', 'waiting': 'notices that are not delivered yet', 'changes': None}),
     (3, 'counted_player', 'Counted', {'partition': 'below', 'seats': 'how many events each counted seat made'}),
     (4, 'partition', 'Partition', {
@@ -73,11 +75,12 @@ HELD = [
         'parts': 'each partition, below', 'openings': 'what a new partition starts with', 'library': 'the songs, and the scan', 'made': 'how many events each seat made', 'books': 'frames of each output',
         'ended': 'whether the daemon has ended', 'clients': 'the partition of each, its tags, what it waits for, what is pending'}),
     (6, 'player_state', 'Part', {
-        'place': 'its number', 'name': None, 'queue': 'slots, stamps, ids', 'player': 'what is played', 'volume': None,
-        'outputs': 'which are enabled or failed', 'channels': 'who listens, and messages', 'played': None}),
+        'place': 'its number', 'name': None, 'queue': 'slots, stamps, ids', 'player': 'what it plays', 'volume': None,
+        'outputs': 'which are enabled or failed', 'channels': 'subscriptions of clients, and messages to them', 'played': None}),
 ]
 
-# The theorems: what is promised; the call that carries it and its clause; the file and definition that the clause names; laws of that.
+# The theorems: what is promised; then for each part the crate and the call whose contract says it, and the clause; the file and the
+# definition that the clause names; and laws about that definition.
 THEOREMS = [
     'whenever the lock is free',
     ('held_player', 'Held::history', 'legal', 'partition/Legal', 'IsPast', ''),
@@ -93,7 +96,7 @@ THEOREMS = [
     ('partition', 'Partition::history', 'pending', 'partition/Since', 'AllHavePending', 'partition: reads_pending'),
     ('notice_laws', 'answers_are_told_of', 'queue', 'notice_laws/Told', 'QueueIsTold', ''),
     ('notice_laws', 'lines_are_told_of', 'told', 'notice_laws/Told', 'LinesAreTold', 'notice_laws: messages_are_told_of'),
-    'every reply is the single-threaded player\'s at its point of the history',
+    'every reply is the one that the single-threaded player gives at that point of the history',
     ('partition', 'Partition::apply', 'ok', 'partition/Lent', 'RecordsBy', 'partition: replays_worlds'),
     ('partition', 'Partition::apply', 'refused', 'partition/Lent', 'RefusesBy', ''),
     ('partition', 'Partition::run_list', 'ok', 'partition/Lists', 'RunsBy', 'partition: entries_are_whole'),
@@ -109,7 +112,7 @@ THEOREMS = [
     ('output_ring', 'Drainer::write_out', 'played', 'output_ring/Turns', 'WritesHand', 'partition_laws: moves_rise reports_tell_moves'),
     ('partition_laws', 'feeds_owe_nothing', '', 'partition_laws/Owing', 'FeedsOweNothing', ''),
     ('partition_laws', 'feeds_no_newcomer', '', 'partition_laws/Owing', 'FeedsNoNewcomer', ''),
-    'decoded frames are written or discarded, in order, then left',
+    'decoded frames are written or discarded, in order, and the rest is left over',
     ('crew', 'close', 'settled', 'crew/Closing', 'ClosesRuns', ''),
     ('crew_steps', 'Decoder::run', 'decodes', 'crew_steps/Decoders', 'RunsWith', ''),
     ('crew_steps', 'Draining::run', 'runs', 'crew_steps/Drainings', 'RunsOut', ''),
@@ -154,7 +157,7 @@ def read(path):
 
 
 def code_of(crate, part='src', ending='.rt'):
-    """The files of a crate's part, joined."""
+    """The files in a folder of a crate, joined."""
     texts = []
     for at, folders, names in os.walk(os.path.join(TOP, 'crates', crate, part)):
         folders.sort()
@@ -163,17 +166,17 @@ def code_of(crate, part='src', ending='.rt'):
 
 
 def layers():
-    """The layers with their crates, the highest first."""
+    """The layers with their crates, the highest layer first."""
     return [(title, crates) for title, crates in reversed(headings_of(TOP).items()) if title != TESTS]
 
 
 def libraries():
-    """The crates of the layers, the lowest first."""
+    """The crates of all layers, the lowest first."""
     return [crate for _, crates in reversed(layers()) for crate in crates]
 
 
 def below():
-    """Of each crate those of crates.txt that its line names."""
+    """For each crate those crates of crates.txt that its line names."""
     lines = table_of(TOP)
     return {crate: [it for it in line.split(':')[1].split() if it in lines] for crate, line in lines.items()}
 
@@ -187,23 +190,23 @@ def all_below(crate, deps, found=None):
     return found
 
 
-# ---- what the tables say that is not so
+# ---- what the tables say that is not true
 
 def wrong_layers(deps):
     headings = headings_of(TOP)
-    yield from ('%s is below no heading of crates.txt' % crate for crate in headings.get('', []))
+    yield from ('%s is not under a heading of crates.txt' % crate for crate in headings.get('', []))
     if list(headings)[-1] != TESTS:
-        yield 'the last heading of crates.txt is %s, and not %s' % (list(headings)[-1], TESTS)
+        yield 'the last heading of crates.txt is %s, and should be %s' % (list(headings)[-1], TESTS)
     if [crate for crates in headings.values() for crate in crates] != list(deps):
-        yield 'a heading of crates.txt stands twice'
+        yield 'a heading of crates.txt occurs twice'
     seen = set()
     for crate in deps:
-        yield from ('%s stands on %s, whose line comes after it' % (crate, it) for it in deps[crate] if it not in seen)
+        yield from ('%s depends on %s, whose line comes later' % (crate, it) for it in deps[crate] if it not in seen)
         seen.add(crate)
 
 
 def clauses_of(crate, call):
-    """Of each function of a call's name in a crate the clauses, by their names; one without a name is ''."""
+    """For each function in a crate that has a call's name, its clauses by their names; '' is a clause without a name."""
     text = code_of(crate)
     for found in re.finditer(r'\bfn %s\b' % call.split('::')[-1], text):
         head = re.split(r'\n(?:    )?\{|\n(?:    )?}', text[found.end():], maxsplit=1)[0]
@@ -211,7 +214,7 @@ def clauses_of(crate, call):
 
 
 def has_call(crate, call, clause='', definition=''):
-    """Whether a crate has a call, whose clause names a definition."""
+    """Whether a crate has a call, and its clause names a definition."""
     return any(not definition or re.search(r'\b%s(?:_lem)?\b' % definition, clauses.get(clause, '')) for clauses in clauses_of(crate, call))
 
 
@@ -227,7 +230,7 @@ def wrong_way(name, way, deps):
         elif not has_call(crate, call):
             yield '%s: %s has no %s' % (name, crate, call)
         elif depth and crate != above[depth - 1] and crate not in all_below(above[depth - 1], deps):
-            yield '%s: %s does not stand on %s' % (name, above[depth - 1], crate)
+            yield '%s: %s does not depend on %s' % (name, above[depth - 1], crate)
 
 
 def wrong_fields():
@@ -235,7 +238,7 @@ def wrong_fields():
         body = re.search(r'(?m)^\s*pub(?:\(crate\))? struct %s\b[^\n]*\{\n(.*?)^\}' % name, code_of(crate), re.S)
         there = re.findall(r'(?m)^    (?:pub(?:\(crate\))? )?(\w+): ', body.group(1)) if body else []
         yield from ('what the lock holds: %s has no %s' % (name, it) for it in fields if it not in there)
-        yield from ('what the lock holds: %s of %s is not told' % (it, name) for it in there if it not in fields)
+        yield from ('what the lock holds: the field %s of %s is left out' % (it, name) for it in there if it not in fields)
 
 
 def laws_of(text):
@@ -250,7 +253,7 @@ def wrong_theorems():
             continue
         crate, call, clause, place, definition, laws = row
         if not has_call(crate, call, clause, definition):
-            yield 'theorems: %s has no %s whose clause %s names %s' % (crate, call, clause, definition)
+            yield 'theorems: %s has no %s whose clause `%s` names %s' % (crate, call, clause, definition)
         home, _, path = place.partition('/')
         path = 'crates/%s/specs/%s.antt' % (home, path)
         if not os.path.exists(os.path.join(TOP, path)) or not re.search(r'(?m)^\s*(?:\w+ )*%s\b' % definition, read(path)):
@@ -261,7 +264,7 @@ def wrong_theorems():
 # ---- the drawings
 
 def layers_below(deps):
-    """Of each layer those that it stands on, without those that one of these stands on."""
+    """For each layer those that it depends on, without those that one of these depends on already."""
     place = {crate: at for at, (_, crates) in enumerate(layers()) for crate in crates}
     on = {at: {place[it] for crate in crates for it in deps[crate]} - {at} for at, (_, crates) in enumerate(layers())}
     return {at: sorted(on[at] - set().union(*(all_below(it, on) for it in on[at]))) for at in on}
@@ -331,7 +334,7 @@ def draw_theorems():
 
 
 def waiting(crate):
-    """The public calls of a crate that take a `Wait`, themselves or by their type."""
+    """The public calls of a crate that take a `Wait`, either themselves or through their type."""
     for block in re.split(r'(?m)^(?=impl\b|pub fn |pub struct )', code_of(crate)):
         head = block.split('{')[0] if block.startswith('impl') else ''
         kind = re.search(r'(\w+)(?:<[^{]*)?\s*$', re.sub(r'<[^<>]*>', '', re.sub(r'<[^<>]*>', '', head)).strip()) if head else None
@@ -372,7 +375,7 @@ def faults():
         text, drawn = read(MAP), drawings()
         wrong += ['%s has no drawing %s' % (MAP, name) for name in drawn if '<!-- %s -->\n```text\n' % name not in text]
         if text != with_drawings(text, drawn):
-            wrong.append('%s is not as it is drawn: checks/map.py --write' % MAP)
+            wrong.append('%s is out of date: run checks/map.py --write' % MAP)
     return wrong
 
 
@@ -382,7 +385,7 @@ def main():
         with open(os.path.join(TOP, MAP), 'w', encoding='utf-8') as file:
             file.write(text)
     wrong = faults()
-    print('\n'.join(wrong) or 'the drawings are as they are drawn')
+    print('\n'.join(wrong) or 'the drawings of %s are up to date' % MAP)
     return bool(wrong)
 
 

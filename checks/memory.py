@@ -1,4 +1,5 @@
-"""Refused memory: in each run one allocation of the program, the first, the second and so on, finds no memory."""
+"""Refused memory: in each run one allocation of the program fails: in the first run the first one, in the second run the second, and
+so on."""
 import re
 
 from program import MOST_FAILURES, show_failures
@@ -8,7 +9,7 @@ CLIENTS = [b'%d%c' % (number, end) for number in range(1, 10) for end in b' \n']
 RIGHT, LINE, STEP, FOLD, ENDED, FAILED = 'right', 'line refused', 'step refused', 'fold refused', 'run ended', 'FAILED'
 SORTS = RIGHT, LINE, STEP, FOLD, ENDED, FAILED
 
-# Each event after the first waits for a fold. The last text is printed where the one before `add c.wav` finds no memory.
+# Here each event except the first needs a fold before it. NOT_FOLDED is printed if the fold before `add c.wav` gets no memory.
 FOLDS = (b'! limit history 1\n! song a.wav 8000\n! song b.wav 16000\n! song c.wav 24000\n'
          b'1 add a.wav\n1 add b.wav\n1 add c.wav\n! window\n1 status\n')
 STATUS = b''.join(b'1 %s: 0\n' % mode for mode in (b'repeat', b'random', b'single', b'consume'))
@@ -17,22 +18,22 @@ NOT_FOLDED = (b'1 OK MPD 0.23.0\n1 OK\n1 OK\n1 ACK [52@0] {add} history full\n! 
 
 
 def rest_of(program, steps, place, instead):
-    """What the steps behind a place print where these steps stand instead of the one at the place."""
+    """What the steps after a place print if these steps replace the one at the place."""
     lines = [line for line, _ in steps]
     others = [line for line, _ in instead]
     output = program.run(b''.join(lines[:place] + others + lines[place + 1:])).output
     front = output_of(steps[:place] + instead)
-    return output[len(front):] if output.startswith(front) else b'(no such front)'
+    return output[len(front):] if output.startswith(front) else b'(the output begins differently)'
 
 
 def most_of(steps):
-    """The most events of the window, where a step sets it."""
+    """How many events the window holds at most, if a step sets that."""
     return next((line.split()[3] for line, _ in steps if line.startswith(b'! limit history ')), b'')
 
 
 def outputs(front, refusal, rest, most, sort):
-    """The outputs, each with its sort, where this line refused something. Where a full window found no memory to be folded, it
-    stays full; where it was folded and memory was wanting behind that, it is empty until the next event."""
+    """The right outputs, each with its sort, if this line was refused. If there was no memory to fold a full window, it stays full;
+    if the window was folded, and memory was short only after that, it is empty until the next event."""
     right = {front + refusal + b'out of memory\n' + rest: sort}
     if most:
         folded = re.sub(rb'\A! window %s ' % most, b'! window 0 ', rest)
@@ -41,7 +42,7 @@ def outputs(front, refusal, rest, most, sort):
 
 
 def refusals(program, steps, place):
-    """The outputs that are right where this one step found no memory: all later answers are as if it had not come."""
+    """The right outputs if this one step was refused memory: all later answers are as if the step had not come."""
     line, printed = steps[place]
     if not line.startswith((b'! ', *CLIENTS)):
         return {}
@@ -55,8 +56,8 @@ def refusals(program, steps, place):
         for refusal in refused:
             right.update(outputs(before, refusal, rest, most, LINE))
         return right
-    # This line connects its client. Where memory was wanting for the connect, the greeting comes with a later line;
-    # where it was wanting for the line, the connect stands, as with an empty list, which is no event.
+    # This line connects its client. If there was no memory to connect it, the greeting comes with a later line; if there was none for
+    # the line, the client is connected all the same, as it would be by an empty list, which is not an event.
     empty = [(client + b' command_list_begin\n', greeting), (client + b' command_list_end\n', client + b' OK\n')]
     connected = rest_of(program, steps, place, empty)
     right.update(outputs(before, refused[0], rest, most, LINE))
@@ -66,7 +67,7 @@ def refusals(program, steps, place):
 
 
 def begin_of(steps, client, place):
-    """Where the list begins that is open at a place; the place itself where none is."""
+    """Where the command list begins that is open at a place; the place itself if no list is open."""
     begin = place
     for at, (line, _) in enumerate(steps[:place]):
         if is_list_word(line, client, b'end'):
@@ -77,12 +78,13 @@ def begin_of(steps, client, place):
 
 
 def is_list_word(line, client, word):
-    """Whether the line is this list word alone; spaces round it do not matter."""
+    """Whether the line is just this list command; spaces around it do not matter."""
     return line.startswith(client) and line[len(client):].strip() == b'command_list_' + word
 
 
 def list_refusals(program, steps, place):
-    """The right outputs where a command of the list that this step ends found no memory: those before it are run and stand."""
+    """The right outputs if this step ends a list, and a command in the list was refused memory: the commands before it were run, and
+    remain in effect."""
     end, most = steps[place][0], most_of(steps)
     client = end[:2]
     if not is_list_word(end, client, b'end'):
@@ -104,7 +106,7 @@ def list_refusals(program, steps, place):
 
 
 def sort_of(run, full, refused):
-    """What a run was; `refused` has the right outputs with a refusal, each with its sort."""
+    """Which sort a run is of; `refused` has the right outputs with a refusal, each with its sort."""
     if run.status == 0 and not run.errors:
         return RIGHT if run.output == full else refused.get(run.output, FAILED)
     if run.status == 1 and run.errors == b'music_daemon: out of memory\n' and full.startswith(run.output):
@@ -113,7 +115,8 @@ def sort_of(run, full, refused):
 
 
 def check_session(program, steps, folds):
-    """How many runs were of each sort, and what failed; whether some run must find no memory for a fold."""
+    """Refuses each allocation of a session in turn: how many runs were of each sort, and what failed. If `folds`, some run must be one
+    in which a fold is refused memory."""
     data, full = input_of(steps), output_of(steps)
     refused = {}
     for place in range(len(steps)):
@@ -132,25 +135,25 @@ def check_session(program, steps, folds):
         if sort == FAILED:
             failures.append('allocation %d refused: %s' % (number, run.told(full)))
     if folds and not sorts[FOLD]:
-        failures.append('no run found a fold without memory')
+        failures.append('in no run was a fold refused memory')
     return sorts, failures
 
 
 def check_fold(program):
-    """Looks for the run in which the one fold is refused memory. 0 where there is one, else 1."""
+    """Looks for the run in which that one fold is refused memory: returns 0 if there is one, otherwise 1."""
     number = 1
     run = program.run_with(FOLDS, allocation=number)
     while run.output != NOT_FOLDED and not (run.counts and run.counts['allocations'] < number):
         number += 1
         run = program.run_with(FOLDS, allocation=number)
     found = run.output == NOT_FOLDED and run.status == 0
-    print('  the fold before `add c.wav` refused: ' + ('as wanted, at allocation %d' % number if found else 'in no run  FAILED'))
+    print('  the fold before `add c.wav` is refused: ' + ('as expected, at allocation %d' % number if found else 'in no run  FAILED'))
     return int(not found)
 
 
 def check(program):
-    """Prints a table; the number of failures."""
-    print('Refused memory: one allocation of the run is refused (the last run of each session refuses none)')
+    """Prints a table, and returns the number of failures."""
+    print('Refused memory: in each run one allocation is refused, except in the last run of each session')
     print('  %-48s %6s %6s %13s %13s %13s %10s %7s' % ('session', 'runs', *SORTS))
     failed = check_fold(program)
     for name, steps in sessions():

@@ -1,4 +1,4 @@
-"""The second model: random scripts that `checks/model` and the program have to answer alike."""
+"""Random scripts, to which the program and the model (checks/model) must give the same answers."""
 import os
 import subprocess
 
@@ -8,6 +8,6 @@ RUNS = (['--scripts', '10000'], ['--scripts', '1000', '--lines', '100', '--seed'
 
 
 def check(program):
-    """Prints what the runs say; gives how many of them found a difference."""
+    """Prints what the runs say, and returns how many of them found a difference."""
     print('Random scripts, answered by the program and by a model in Python', flush=True)
     return sum(subprocess.run([RUN, *words, program.path]).returncode != 0 for words in RUNS)

@@ -1,10 +1,11 @@
 #!/usr/bin/env python3
-"""How many seconds `rt check` takes after one line of a crate was changed, and no contract.
+"""Measures how many seconds `rt check` takes after one line of code, and no contract, has been changed.
 
     checks/one_line.py
 
-A changed line means what it meant, so the check ends proved; then the line is put back. It is made of a command's handler, of a step of
-a session and of a rule of play order. Each crate must be proved in this checkout; where it is not, the first check takes long. The exit status is 1 where a check fails.
+The changed line means the same as before, so that the crate can still be proved; afterwards the line is put back. This is done with a line
+in a command's handler, in a step of a session, and in a rule of play order. If one of their crates is not proved yet in this checkout, its
+first check takes long. The exit status is 1 if a check fails.
 """
 import os
 import subprocess
@@ -12,7 +13,7 @@ import sys
 import time
 
 TOP = os.path.dirname(os.path.dirname(os.path.abspath(__file__)))
-# what it is, the crate, the file, a line of it and the same line written in another way
+# what is changed, the crate, the file, a line of it, and the same line written in another way
 CHANGES = (
     ("a command's handler", 'status_commands', 'src/options.rt', 'answer.pair("volume", part.volume.percent())?;',
      'let volume = part.volume.percent(); answer.pair("volume", volume)?;'),
@@ -25,7 +26,7 @@ CHANGES = (
 
 
 def check(folder):
-    """Whether the crate is proved, and in how many seconds."""
+    """Whether the crate can be proved, and how many seconds that takes."""
     start = time.time()
     ran = subprocess.run(['rt', 'check'], cwd=folder, stdout=subprocess.PIPE, stderr=subprocess.STDOUT, text=True, errors='replace')
     if ran.returncode:
@@ -34,12 +35,12 @@ def check(folder):
 
 
 def check_changed(folder, name, old, new):
-    """As `check`, with a text of a file changed."""
+    """Like `check`, with a text in a file changed meanwhile."""
     path = os.path.join(folder, name)
     with open(path, encoding='utf-8') as file:
         text = file.read()
     if text.count(old) != 1:
-        sys.exit('%s has %d times: %s' % (path, text.count(old), old))
+        sys.exit('%s should have this text once, but has it %d times: %s' % (path, text.count(old), old))
     try:
         with open(path, 'w', encoding='utf-8') as file:
             file.write(text.replace(old, new))

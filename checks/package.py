@@ -1,12 +1,12 @@
 #!/usr/bin/env python3
-"""The Debian package that packaging/deb makes, in a Debian of its own: it is installed, the program serves, keeps its queue, is heard and
-is found on the network (household.py), an upgrade, and a purge.
+"""Tests the Debian package that packaging/deb makes, in a fresh Debian: its installation; that the daemon serves, saves its queue, plays, and
+is found on the network (household.py); an upgrade; and a purge.
 
     checks/package.py [PROGRAM] [--suite bookworm] [--mirror URL] [--base FOLDER]
 
-It needs root, the network and Debian's packages debootstrap and binutils; systemd-analyze, where it is there, looks at the units. FOLDER
-is a folder that debootstrap made, which is copied in place of a new one. All is done in a temporary folder, with processes and mounts of
-its own, which end with it.
+This needs root, the network, and the Debian packages debootstrap and binutils; if systemd-analyze is installed, it checks the units. FOLDER is
+a folder that debootstrap has made; it is copied, instead of making a new one. Everything is done in a temporary folder, and in separate
+namespaces for processes and mounts, so that nothing is left afterwards.
 """
 import argparse
 import hashlib
@@ -30,14 +30,14 @@ from household import ALSA_UNIT, AVAHI, DOCUMENTS, RUN, SETTINGS, STATE, content
 
 DEB = os.path.join(ROOT, 'packaging', 'deb')
 SYSTEM, USER = 'usr/lib/systemd/system/music_daemon.service', 'usr/lib/systemd/user/music_daemon.service'
-# What is linked where the units are enabled
+# the links that enable the units
 WANTED = ('multi-user.target.wants/music_daemon.service', 'music_daemon.service.wants/music_daemon_alsa@speakers.service',
           'sound.target.wants/music_daemon_alsa@speakers.service')
 PAGE = 'usr/share/man/man1/music_daemon.1.gz'
 SONGS = 12
-MOST = 1200000   # the bytes that a package may have
-LONGEST = 600    # the seconds that a command in the folder may take
-# Owner, group and mode of what is there after the installation.
+MOST = 1200000   # a package must have fewer bytes than this
+LONGEST = 600    # how many seconds a command in the folder may take
+# the owner, group and mode of what is there after the installation
 OWNERS = {
     'usr/bin/music_daemon': ('root', 'root', '-rwxr-xr-x'),
     **{'usr/lib/music_daemon/' + name: ('root', 'root', '-rwxr-xr-x') for name in ('alsa', 'fifos', 'listening')},
@@ -56,10 +56,10 @@ OWNERS = {
     RUN: ('music_daemon', 'audio', 'drwxr-xr-x'),
     RUN + '/speakers': ('music_daemon', 'audio', 'prw-r-----'),
 }
-# What is no file of the folder, and what every installation writes: records of apt and dpkg, locks and former files of users.
+# what does not belong to the folder, and what every installation writes: records of apt and dpkg, locks, and backups of the lists of users
 PASSED_OVER = ('proc', 'sys', 'dev', 'tmp', 'var/log', 'var/cache', 'var/lib/apt', 'var/lib/dpkg', 'run/adduser', 'run/dbus',
                'run/avahi-daemon', 'etc/.pwd.lock', 'etc/passwd-', 'etc/shadow-', 'etc/group-', 'etc/gshadow-')
-# Lines of the settings of a service, in their order: what a household may want to change stands first.
+# the lines of the service's settings, in order: what a household may want to change comes first
 LINES = ('music = "/%s/music"' % STATE, 'listen = "127.0.0.1:6600"', 'rate = 44100', 'everyday = true', 'state = "/%s/state"' % STATE,
          'shelf = "/%s/shelf"' % STATE, '[[output]]', 'name = "speakers"', 'path = "/%s/speakers"' % RUN, 'patience = 5')
 ENVIRONMENT = {'PATH': '/usr/sbin:/usr/bin:/sbin:/bin', 'LC_ALL': 'C', 'DEBIAN_FRONTEND': 'noninteractive'}
@@ -76,7 +76,7 @@ class Rows(Table):
 
 
 class Debian:
-    """A folder with a Debian in it."""
+    """A folder with a Debian system in it."""
 
     def __init__(self, root):
         self.root = root
@@ -85,7 +85,7 @@ class Debian:
         return os.path.join(self.root, name)
 
     def run(self, *words, user=None):
-        """What words do in it: the status, and all that was written."""
+        """Runs a command in it: its exit status, and everything that it printed."""
         ask = ['chroot'] + (['--userspec=' + user] if user else []) + [self.root, *words]
         done = subprocess.run(ask, stdin=subprocess.DEVNULL, stdout=subprocess.PIPE, stderr=subprocess.STDOUT, env=ENVIRONMENT,
                               timeout=LONGEST)
@@ -98,7 +98,7 @@ class Debian:
         return told
 
     def install_quietly(self, *packages):
-        """Packages of Debian, whose services are not started."""
+        """Installs Debian packages without starting their services."""
         policy = self.path('usr/sbin/policy-rc.d')
         with open(policy, 'w') as file:
             file.write('#!/bin/sh\nexit 101\n')
@@ -113,7 +113,7 @@ class Debian:
             return {int(line.split(':')[2]): line.split(':')[0] for line in lines}
 
     def owner(self, name):
-        """Owner, group and mode, or None."""
+        """The owner, group and mode of a file; None if it does not exist."""
         try:
             found = os.lstat(self.path(name))
         except FileNotFoundError:
@@ -122,7 +122,7 @@ class Debian:
         return users.get(found.st_uid, found.st_uid), groups.get(found.st_gid, found.st_gid), stat.filemode(found.st_mode)
 
     def tree(self):
-        """What is in it: mode and owners, of files in etc what they hold, and what dpkg knows of packages."""
+        """Everything in it: modes and owners, a digest of each file in etc, and what dpkg has recorded about packages."""
         found = {}
         for folder, below, files in os.walk(self.root):
             within = os.path.relpath(folder, self.root)
@@ -154,7 +154,7 @@ def made(program, path, version=None):
 
 
 def check_made(rows, program, folder):
-    """The package, twice, and a newer one."""
+    """Makes the package twice, and once with a higher version."""
     paths = [os.path.join(folder, name) for name in ('one.deb', 'two.deb', 'newer.deb')]
     status, told = made(program, paths[0])
     rows.row('packaging/deb', last_of(told).replace(folder + '/', ''), right=status == 0)
@@ -165,7 +165,7 @@ def check_made(rows, program, folder):
     size = os.path.getsize(paths[0])
     rows.row('below 1.2 MB', '%d bytes' % size, right=size < MOST)
     same = content(paths[0]) == content(paths[1])
-    rows.row('the same bytes again', 'yes' if same else 'no', right=same)
+    rows.row('made again, it has the same bytes', 'yes' if same else 'no', right=same)
     words = ['dpkg-deb', '--field', paths[0], 'Architecture', 'Depends']
     fields = subprocess.run(words, stdout=subprocess.PIPE).stdout.decode().splitlines()
     rows.row('what it needs', ', '.join(fields), right=fields[0] == 'Architecture: amd64' and 'libc6 (>= ' in fields[1])
@@ -173,13 +173,13 @@ def check_made(rows, program, folder):
 
 
 def check_refusals(rows, folder):
-    """Programs of which no package is made: a script, and one that needs another library."""
+    """Checks that no package is made of a script, or of a program that needs another library."""
     script = os.path.join(folder, 'script')
     with open(script, 'w') as file:
         file.write('#!/bin/sh\n')
     os.chmod(script, 0o755)
     status, told = made(script, os.path.join(folder, 'no.deb'))
-    rows.row('a script', last_of(told).replace(folder, '..'), right=status == 1 and 'no program for amd64' in told)
+    rows.row('a script', last_of(told).replace(folder, '..'), right=status == 1 and 'not a program for amd64' in told)
     status, told = made('/bin/ls', os.path.join(folder, 'no.deb'))
     rows.row('a program that needs more than libc', last_of(told).replace(folder, '..'), right=status == 1 and 'which is not in' in told)
 
@@ -189,7 +189,7 @@ def check_installed(rows, debian):
         found = debian.owner(name)
         rows.row('/' + name, ' '.join(map(str, found)) if found else 'is not there', right=found == wanted)
     status, told = debian.run('dpkg', '--verify', 'music-daemon')
-    rows.row('files as packed', told or 'yes', right=(status, told) == (0, ''))
+    rows.row('the files are as packed', told or 'yes', right=(status, told) == (0, ''))
     status, told = debian.run('id', 'music_daemon')
     rows.row('the user', told, right=status == 0 and 'groups=29(audio)' in told and int(told[4:told.index('(')]) < 1000)
     links = [debian.path('etc/systemd/system/' + name) for name in WANTED]
@@ -201,7 +201,7 @@ def check_installed(rows, debian):
 
 
 def running(debian):
-    """Processes of the packaged program."""
+    """The processes that run the packaged program."""
     found = []
     for number in filter(str.isdigit, os.listdir('/proc')):
         try:
@@ -213,26 +213,26 @@ def running(debian):
 
 
 def check_units(rows, debian):
-    """systemd-analyze of this machine, on the units where they are installed, with the folder as its root."""
+    """Lets this machine's systemd-analyze check the installed units, with paths into the folder."""
     for name, words in ((SYSTEM, []), (ALSA_UNIT, []), (USER, ['--user'])):
         case = 'systemd-analyze verify, ' + ('of a user' if words else 'of a sound card' if name == ALSA_UNIT else 'of the system')
         if not shutil.which('systemd-analyze'):
-            rows.row(case, 'not looked at: there is no systemd-analyze')
+            rows.row(case, 'left out: systemd-analyze is not installed')
             continue
-        # It wants the program at the unit's path, which is this machine's; so it is given the path in the folder.
+        # It looks for the program at the unit's path on this machine, so the path is changed to the one in the folder.
         copy = os.path.join(debian.path('tmp'), os.path.basename(name).replace('@', '@speakers'))
         with open(debian.path(name)) as file, open(copy, 'w') as unit:
             unit.write(re.sub(r'/usr/(?:bin|lib)/music_daemon', lambda found: debian.path(found.group()[1:]), file.read()))
         done = subprocess.run(['systemd-analyze', *words, '--man=no', 'verify', copy], stdout=subprocess.PIPE, stderr=subprocess.STDOUT,
                               env=dict(os.environ, XDG_RUNTIME_DIR=debian.path('tmp')), timeout=60)
-        # It tells of all units that it loads; of others nothing is asked.
+        # It reports on every unit that it loads; only ours matter here.
         lines = [line for line in done.stdout.decode(errors='replace').splitlines() if 'music_daemon' in line]
         rows.row(case, lines[0] if lines else 'nothing to say', right=not lines)
         os.remove(copy)
 
 
 def check_program(rows, debian, folder):
-    """The program in a Debian without a toolchain, as the package's user; it is left running."""
+    """Runs the program in a Debian without a toolchain, as the package's user, and leaves the daemon running."""
     status, told = debian.run('/usr/bin/music_daemon', '--version')
     rows.row('--version', told, right=status == 0 and told == 'music_daemon ' + release.version())
     put_songs(debian.path(STATE + '/music'), SONGS, 100)
@@ -252,7 +252,7 @@ def check_program(rows, debian, folder):
     rows.row('serve, and a ping', '%s, %s' % (client.greeting, answer), right=client.greeting.startswith('OK MPD ') and answer == 'OK')
     found = debian.owner(STATE + '/shelf')
     shown = ' '.join(map(str, found)) if found else 'is not there'
-    rows.row('the shelf that it made', shown, right=bool(found) and found[0] == 'music_daemon')
+    rows.row('the playlist store that it made', shown, right=bool(found) and found[0] == 'music_daemon')
     return daemon
 
 
@@ -260,11 +260,11 @@ def check_upgrade(rows, debian, newer, daemon):
     edited = content(debian.path(SETTINGS))
     status, told = debian.install(newer)
     told = debian.run('dpkg-query', '-W', '-f', '${Version} ${Status}', 'music-daemon')[1]
-    rows.row('a newer one over it', told, right=status == 0 and told == '999 install ok installed')
-    rows.row('the settings that were edited stay', 'yes' if content(debian.path(SETTINGS)) == edited else 'no',
+    rows.row('an upgrade to a newer version', told, right=status == 0 and told == '999 install ok installed')
+    rows.row('edited settings stay as they are', 'yes' if content(debian.path(SETTINGS)) == edited else 'no',
              right=content(debian.path(SETTINGS)) == edited)
     if daemon:
-        rows.row('the daemon ran on', 'yes' if daemon.process.poll() is None else 'no', right=daemon.process.poll() is None)
+        rows.row('the daemon goes on running', 'yes' if daemon.process.poll() is None else 'no', right=daemon.process.poll() is None)
 
 
 def check_removed(rows, debian, daemon):
@@ -275,10 +275,10 @@ def check_removed(rows, debian, daemon):
             ended = 'status %d' % daemon.process.wait(15)
         except subprocess.TimeoutExpired:
             ended = None
-        rows.row('the daemon ended', ended or 'no', right=ended is not None)
+        rows.row('the daemon has ended', ended or 'no', right=ended is not None)
     files = (SETTINGS, STATE + '/shelf', STATE + '/state', STATE + '/music')
     kept = [name for name in files if os.path.lexists(debian.path(name))]
-    rows.row('settings, shelf, state and music are kept', ' '.join(kept), right=len(kept) == len(files))
+    rows.row('settings, playlists, state and music are kept', ' '.join(kept), right=len(kept) == len(files))
     files = ('usr/bin/music_daemon', 'usr/lib/music_daemon', SYSTEM, ALSA_UNIT, USER, PAGE, DOCUMENTS, RUN)
     gone = [name for name in files if os.path.lexists(debian.path(name))]
     rows.row('program, units and documents are gone', ' '.join(gone) or 'yes', right=not gone)
@@ -288,13 +288,13 @@ def check_purged(rows, debian, case, before, kept):
     status, told = debian.run('apt-get', 'purge', '-y', 'music-daemon')
     rows.row('apt-get purge, ' + case, 'status %d' % status, right=status == 0)
     left = differ(dict(before, **kept), debian.tree())
-    rows.row('nothing else is left or changed', ', '.join(left[:4]) or 'yes', right=not left)
+    rows.row('nothing else is left over or changed', ', '.join(left[:4]) or 'yes', right=not left)
     names = [name for file in ('passwd', 'group') for name in debian.names(file).values() if 'music' in name]
     rows.row('no user and no group', ' '.join(names) or 'yes', right=not names)
 
 
 def check_under_systemd(rows, debian, package, newer):
-    """What the package asks of systemd: a program in the place of systemctl writes it down. The music of before is there."""
+    """Checks what the package asks systemd to do; a program in place of systemctl records it. The music from before is still there."""
     asked, systemctl = debian.path('tmp/asked'), debian.path('usr/bin/systemctl')
     os.makedirs(debian.path('run/systemd/system'))
     with open(systemctl, 'w') as file:
@@ -303,7 +303,7 @@ def check_under_systemd(rows, debian, package, newer):
 
     def row(case, told, wanted):
         words = content(asked).decode().splitlines() if os.path.exists(asked) else []
-        # deb-systemd-helper has it make the links of an enabled unit.
+        # These are the calls by which deb-systemd-helper makes the links of an enabled unit.
         words = [line for line in words if not line.startswith('--root=/ ')]
         rows.row('under systemd: ' + case, ', '.join(words), right=told[0] == 0 and words == wanted)
         if os.path.exists(asked):
@@ -311,7 +311,7 @@ def check_under_systemd(rows, debian, package, newer):
 
     row('a first installation', debian.install(package), ['--system daemon-reload'])
     found = [debian.owner(name) for name in (STATE, STATE + '/music', RUN)]
-    rows.row('the folders, over music that was there', ' '.join(found[0]), right=found == [OWNERS[STATE], OWNERS[STATE + '/music'], None])
+    rows.row('the folders, when the music is there already', ' '.join(found[0]), right=found == [OWNERS[STATE], OWNERS[STATE + '/music'], None])
     row('an upgrade', debian.install(newer), ['--system daemon-reload', 'try-restart music_daemon.service'])
     row('a removal', debian.run('apt-get', 'remove', '-y', 'music-daemon'), ['stop music_daemon.service', '--system daemon-reload'])
     row('a purge', debian.run('apt-get', 'purge', '-y', 'music-daemon'), ['--system daemon-reload'])
@@ -320,7 +320,7 @@ def check_under_systemd(rows, debian, package, newer):
 
 
 def make_debian(given, root):
-    """A folder of debootstrap, or a copy of one."""
+    """Makes a folder with debootstrap, or copies one."""
     if given.base:
         subprocess.run(['cp', '-a', given.base, root], check=True)
         return
@@ -342,9 +342,9 @@ def check_package(given, folder):
         try:
             if not given.base:
                 debian.run('apt-get', 'update')
-            # What it depends on stays after it, and in Debian 13 adduser is no part of the smallest system.
+            # These stay installed after the package is gone. In Debian 13 the smallest system does not have adduser.
             status, told = debian.install_quietly('adduser', *household.NEEDED)
-            rows.row('what the check needs', 'status %d' % status, right=status == 0)
+            rows.row('what these tests need', 'status %d' % status, right=status == 0)
             before = debian.tree()
             status, told = debian.install(packages[0])
             rows.row('apt-get install', last_of(told), right=status == 0)
@@ -361,7 +361,7 @@ def check_package(given, folder):
             check_purged(rows, debian, 'with music', before, {STATE: ['drwxr-xr-x', 0, 0], **music})
             check_under_systemd(rows, debian, *packages)
             kept = [name for name in sums if os.path.exists(debian.path(name)) and content(debian.path(name)) == sums[name]]
-            rows.row("the household's music", '%d songs' % len(kept), right=len(kept) == SONGS)
+            rows.row("the household's music is untouched", '%d songs' % len(kept), right=len(kept) == SONGS)
             for number in running(debian):
                 os.kill(number, 9)
         finally:
@@ -371,24 +371,24 @@ def check_package(given, folder):
 
 
 def main():
-    parser = argparse.ArgumentParser(description='The Debian package, in a Debian of its own.')
-    parser.add_argument('program', nargs='?')
-    parser.add_argument('--suite', default='bookworm')
-    parser.add_argument('--mirror', default='http://deb.debian.org/debian')
-    parser.add_argument('--base')
+    parser = argparse.ArgumentParser(description='Tests the Debian package in a fresh Debian.')
+    parser.add_argument('program', nargs='?', help='the built program (default: crates/music_daemon/out/music_daemon)')
+    parser.add_argument('--suite', default='bookworm', help='the release of Debian (default: bookworm)')
+    parser.add_argument('--mirror', default='http://deb.debian.org/debian', help='where debootstrap downloads it from')
+    parser.add_argument('--base', metavar='FOLDER', help='copy this folder, which debootstrap has made, instead of making a new one')
     parser.add_argument('--within', help=argparse.SUPPRESS)
     given = parser.parse_args()
     if given.within:
         return check_package(given, given.within)
     if os.geteuid() != 0:
-        sys.exit('checks/package.py: only root can make a Debian folder and run programs in it')
+        sys.exit('checks/package.py: only root can install a Debian in a folder and run programs in it')
     for tool in ('dpkg-deb', 'unshare') + (() if given.base else ('debootstrap',)):
         if not shutil.which(tool):
-            sys.exit('checks/package.py: no %s; it is in the Debian package of that name, or in dpkg or util-linux' % tool)
+            sys.exit('checks/package.py: %s is not installed; it is in the Debian package of that name, or in dpkg or util-linux' % tool)
     program_of(given.program)
     signal.signal(signal.SIGTERM, lambda *_: sys.exit(1))
     with tempfile.TemporaryDirectory() as folder:
-        # Mounts and processes of its own: none is left, however this ends.
+        # With separate namespaces for mounts and processes, none of them is left, however this ends.
         words = ['unshare', '--mount', '--pid', '--fork', '--kill-child', '--mount-proc', sys.executable, os.path.abspath(__file__)]
         return subprocess.run(words + sys.argv[1:] + ['--within', folder]).returncode
 

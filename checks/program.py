@@ -1,24 +1,24 @@
-"""Runs of the program, as it is or with the preload library."""
+"""Runs the program, by itself or with the preload library that makes its calls fail (faulty.c)."""
 import os
 import subprocess
 from subprocess import PIPE
 
-LIMIT = 20          # the seconds that a run may take
-MOST_FAILURES = 20  # with which the runs of one session stop
+LIMIT = 20          # how many seconds a run may take
+MOST_FAILURES = 20  # after so many failures a session is not run any more
 
 
 class Run:
-    """How a run ended: the status (None where it was stopped at the limit), what it wrote, and the library's counts."""
+    """How a run ended: its status (None if it was stopped at the limit), what it wrote, and what the library counted."""
 
     def __init__(self, status, output, errors, counts):
         self.status, self.output, self.errors, self.counts = status, output, errors, counts
 
     def told(self, wanted=b''):
-        """How it ended, with the first line that is not the wanted output's."""
+        """How it ended, and the first line that differs from the expected output."""
         if self.status is None:
-            return 'no end within %d s' % LIMIT
+            return 'still running after %d s' % LIMIT
         if self.status < 0:
-            return 'ended by signal %d' % -self.status
+            return 'killed by signal %d' % -self.status
         told = 'status %d, %d bytes written' % (self.status, len(self.output))
         lines = wanted.splitlines()
         for number, line in enumerate(self.output.splitlines()):
@@ -34,11 +34,11 @@ class Program:
         self.input, self.report = os.path.join(folder, 'input'), os.path.join(folder, 'report')
 
     def run(self, data, words=('script',)):
-        """A run as it is."""
+        """A run without the library."""
         return self.run_on_file(data, words, None)
 
     def run_with(self, data, **faults):
-        """A `script` run with the library: `allocation`, `read`, `write` and `piece` as the head of faulty.c says."""
+        """A run of `script` with the library. The comment at the top of faulty.c explains `allocation`, `read`, `write` and `piece`."""
         environment = dict(os.environ, LD_PRELOAD=self.library, FAULTY_REPORT=self.report)
         for name, number in faults.items():
             environment['FAULTY_' + name.upper()] = str(number)
@@ -47,14 +47,14 @@ class Program:
         return self.run_on_file(data, ('script',), environment)
 
     def run_on_file(self, data, words, environment):
-        """The input is a file: a pipe would cut it at other places in each run."""
+        """The program reads its input from a file, since a pipe would split the input at different places in each run."""
         with open(self.input, 'wb') as script:
             script.write(data)
         with open(self.input, 'rb') as script:
             return self.run_on(script, PIPE, words, environment)
 
     def run_on(self, source, sink, words=('script',), environment=None):
-        """A run from one open file to another."""
+        """A run that reads one open file and writes to another."""
         try:
             done = subprocess.run([self.path, *words], stdin=source, stdout=sink, stderr=PIPE, env=environment, timeout=LIMIT)
         except subprocess.TimeoutExpired as stopped:
@@ -62,7 +62,7 @@ class Program:
         return Run(done.returncode, done.stdout or b'', done.stderr, self.counts() if environment else {})
 
     def counts(self):
-        """What the library counted; nothing where the program did not come to its exit."""
+        """What the library counted; empty if the program did not get as far as its exit."""
         if not os.path.exists(self.report):
             return {}
         with open(self.report, encoding='ascii') as report:
@@ -73,5 +73,5 @@ def show_failures(failures):
     for failure in failures:
         print('    ' + failure)
     if len(failures) >= MOST_FAILURES:
-        print('    stopped here')
+        print('    stopped after so many failures')
     return len(failures)

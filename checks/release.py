@@ -1,11 +1,11 @@
 #!/usr/bin/env python3
-"""The version of the release, which only the code has, and what else names it.
+"""Checks that whatever names the version names that of the code.
 
     checks/release.py
 
-It fails where the manual's head or the newest entry of CHANGELOG.md has another version, where these two have different dates, and where
-the package's copyright file does not name a library that is linked; and where README does not have the commands of the package's README.
-packaging/deb and the launcher at the top read the code.
+It fails if the first line of the manual or the newest entry of CHANGELOG.md has another version, or if these two have different dates;
+if the package's copyright file leaves out a library that is linked; or if README.md lacks a command of the package's README.
+packaging/deb and the launcher `music_daemon` read the version from the code.
 """
 import os
 import re
@@ -27,10 +27,10 @@ def read(path):
 
 
 def version():
-    """The version in the code."""
+    """The version that the code has."""
     found = LINE.findall(read(CODE))
     if len(found) != 1:
-        sys.exit('%s has not one line of the version' % CODE)
+        sys.exit('%s does not have exactly one line with the version' % CODE)
     return found[0]
 
 
@@ -53,21 +53,21 @@ def faults():
     head = re.search(r'(?m)^\.TH MUSIC_DAEMON 1 "(.*?)" "music_daemon (.*?)"', read(MANUAL))
     entry = re.search(r'(?m)^## (\S+) \((.*?)\)$', read(CHANGES))
     if not head or head.group(2) != number:
-        wrong.append("%s: its head has not the code's version, %s" % (MANUAL, number))
+        wrong.append("%s: its first line does not have the code's version, %s" % (MANUAL, number))
     if not entry or entry.group(1) != number:
-        wrong.append("%s: its newest entry is not of the code's version, %s" % (CHANGES, number))
+        wrong.append("%s: its newest entry does not have the code's version, %s" % (CHANGES, number))
     if head and entry and head.group(1) != entry.group(2):
         wrong.append('%s has the date %s, and %s has %s' % (MANUAL, head.group(1), CHANGES, entry.group(2)))
     wrong += ['%s does not name %s' % (COPYRIGHT, library) for library in unnamed(read(COPYRIGHT))]
     lines = read('README.md').split('\n')
-    wrong += ['README.md has not the command %s of %s' % (line.strip(), FIRST)
+    wrong += ['README.md lacks the command `%s` of %s' % (line.strip(), FIRST)
               for line in read(FIRST).split('\n') if line.startswith('    ') and line not in lines]
     return wrong
 
 
 def main():
     wrong = faults()
-    print('\n'.join(wrong) or 'version %s; %d libraries have their licences' % (version(), len(libraries())))
+    print('\n'.join(wrong) or 'version %s; the licences of all %d linked libraries are named' % (version(), len(libraries())))
     return bool(wrong)
 
 

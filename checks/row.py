@@ -1,10 +1,10 @@
 #!/usr/bin/env python3
-"""A worked row by its name, for `./look row NAME`.
+"""Reads a worked row by its name, for `./look row NAME`.
 
-    row.py NAME             prints what its session says, as `music_daemon script` reads it
-    row.py NAME OUTPUT      says whether the file OUTPUT is what the row wants, and if not, where the two part
+    row.py NAME             prints the lines of its session, as `music_daemon script` reads them
+    row.py NAME OUTPUT      says whether the file OUTPUT is what the row expects, and if not, where they first differ
 
-NAME is that of a file in crates/worked_rows/data, with or without its `.row`. The exit status is 1 where they differ.
+NAME is the name of a file in crates/worked_rows/data, with or without `.row`. The exit status is 1 if they differ.
 """
 import os
 import sys
@@ -16,19 +16,19 @@ sys.path.insert(0, os.path.join(HERE, 'model'))
 
 from rows import WORKED, Difference, Row, behind, show
 
-# how many printed lines are shown before the place where a row and its output part, and behind it
+# how many printed lines are shown before the place where a row and its output first differ, and after it
 AROUND = 3
 
 
 def row_of(name):
     path = os.path.join(WORKED, name.removesuffix('.row') + '.row')
     if not os.path.exists(path):
-        raise SystemExit('row.py: no row is named %s: see crates/worked_rows/data' % name)
+        raise SystemExit('row.py: there is no row %s in crates/worked_rows/data' % name)
     return Row(path)
 
 
 def difference(row, printed):
-    """Where the output parts from the row: how many lines were as wanted, and the difference; None where nothing differs."""
+    """Where the output first differs from the row: how many lines were as expected, and the difference; None if nothing differs."""
     rest = printed
     try:
         for line, wants in row.steps:
@@ -49,12 +49,12 @@ def main(name, output=None):
         printed = file.read().split(b'\n')[:-1]
     found = difference(row, printed)
     if found is None:
-        print('%s: as wanted' % row.name)
+        print('%s: as expected' % row.name)
         return 0
     at, parting = found
     print('%s: DIFFERS' % row.name)
-    for title, lines in (('the line', [parting.line]), ('wants', parting.wanted), ('and printed', parting.printed[:AROUND + 1]),
-                         ('behind', printed[max(0, at - AROUND):at])):
+    for title, lines in (('after the line', [parting.line]), ('expected', parting.wanted), ('printed', parting.printed[:AROUND + 1]),
+                         ('printed before that', printed[max(0, at - AROUND):at])):
         print('  ' + title)
         show(lines)
     return 1

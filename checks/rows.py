@@ -1,17 +1,17 @@
-"""Input for the checks, with the output that is wanted: (line, what it prints) for each input line."""
+"""Sessions for the checks, with their expected output. A session is a list of steps: an input line, and what it must print."""
 import os
 import re
 
 HERE = os.path.dirname(os.path.abspath(__file__))
 FOLDER = os.path.join(HERE, 'rows')
 WORKED = os.path.join(os.path.dirname(HERE), 'crates', 'worked_rows', 'data')
-# A line of a client of its own, which never waits: whatever stands in a row, this line is answered alike.
+# A line of a client that no row uses, and that never waits: it gets the same answer wherever it is put into a row.
 LONG_LINE = (b'8 add ' + b'x' * 16000 + b'\n', b'8 ACK [50@0] {add} no such song\n')
 GREETED = (LONG_LINE[0], b'8 OK MPD 0.23.0\n' + LONG_LINE[1])
 
 
 def read_row(name):
-    """The steps of a row. Of a row's notation this reads `> LINE` and the exact `< LINE`."""
+    """The steps of a row. Of the notation of rows, this understands only `> LINE`, and `< LINE` with the exact output."""
     steps = []
     with open(os.path.join(FOLDER, name), 'rb') as row:
         for line in row:
@@ -20,20 +20,21 @@ def read_row(name):
             elif line.startswith(b'< '):
                 steps[-1] = (steps[-1][0], steps[-1][1] + line[2:])
             elif line.strip() and not line.startswith((b'#', b'since: ', b'until: ', b'again: ')):
-                raise SystemExit('%s: no line for these checks: %r' % (name, line))
+                raise SystemExit('%s: these checks do not understand the line %r' % (name, line))
     return steps
 
 
 def sessions():
-    """Each row as it is, and, where it shows no window, once more in several pieces of 16 KiB: with long lines behind those of clients."""
+    """Each row, and the same row with a long line after each line of a client, so that the program reads it in several pieces of
+    16 KiB. A row that shows the history's window is used only as it is."""
     found = []
     for name in sorted(os.listdir(FOLDER)):
         steps = read_row(name)
         if any(line.startswith(b'8') for line, _ in steps):
-            raise SystemExit('%s: client 8 is the one of the long lines' % name)
+            raise SystemExit('%s: client 8 is needed for the long lines' % name)
         found.append((name[:-len('.row')], steps))
         if b'! window\n' in [line for line, _ in steps]:
-            continue  # a long line is an event, which a window counts
+            continue  # a long line is an event, which `! window` would count
         longer, here = [], False
         for step in steps:
             longer.append(step)
@@ -53,15 +54,15 @@ def output_of(steps):
 
 
 def unescaped(line):
-    """A line of a row's `>e`: with \\r, \\t, \\\\ and \\xHH, and \\{TEXT*N} for TEXT repeated N times."""
+    """A line that a row gives with `>e`, its escapes replaced: \\r, \\t, \\\\, \\xHH, and \\{TEXT*N}, which is TEXT repeated N times."""
     line = re.sub(rb'\\\{(.*?)\*(\d+)\}', lambda it: it[1] * int(it[2]), line)
     one = {b'r': b'\r', b't': b'\t', b'\\': b'\\'}
     return re.sub(rb'\\(?:x([0-9a-f]{2})|(.))', lambda it: bytes.fromhex(it[1].decode()) if it[1] else one[it[2]], line)
 
 
 def worked(program):
-    """Each worked row, and once more with each line that its head says. The gate holds what the program prints of a row to the
-    row; here what each line prints is read off a run without faults."""
+    """Each worked row, and the row once more for each `again:` in its head, with the line that this gives put in front. The gate checks
+    that the program prints what the row expects; here a run without faults tells what each line prints."""
     for name in sorted(it for it in os.listdir(WORKED) if it.endswith('.row')):
         lines, fronts = [], [b'']
         with open(os.path.join(WORKED, name), 'rb') as row:

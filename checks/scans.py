@@ -1,4 +1,5 @@
-"""The program's scan: what it prints of folders and on a terminal, its statuses, and refused memory."""
+"""Checks the program's scan: what it prints for several folders and on a terminal, its exit statuses, and what it does when memory is
+refused."""
 import os
 import pty
 import re
@@ -8,7 +9,7 @@ import tempfile
 import example_music
 from program import LIMIT, show_failures
 
-# one channel of 24 bits at 8,000 a second, the title `Hi`, two frames; the data's size goes past the file's end
+# a WAVE file with one channel of 24 bits at 8,000 frames a second, the title `Hi`, and two frames; the data is said to be longer than the file
 WAVE = bytes.fromhex('52494646 00000000 57415645 666d7420 10000000 0100 0100 401f0000 c05d0000 0300 1800'
                      '4c495354 10000000 494e464f 494e414d 03000000 486900 00 64617461 64000000 000100 ffffff 7f')
 SONG = b'file: %s\nTitle: Hi\nTime: 0\nduration: 0.000\n'
@@ -69,7 +70,7 @@ class Checks:
         for name in example_music.files():
             with open(os.path.join(example_music.FOLDER, name), 'rb') as file:
                 if file.read() != example_music.files()[name]:
-                    self.failures.append('examples/music/%s is not as checks/example_music.py makes it' % name)
+                    self.failures.append('examples/music/%s is not what checks/example_music.py writes' % name)
         self.wants('examples/music', ('scan', example_music.FOLDER), 0, EXAMPLE, b'notes.wav: NotRiff\n')
 
     def full_device(self, folder):
@@ -82,7 +83,7 @@ class Checks:
                 self.failures.append('a full %s: status %d, %r' % (stream, run.returncode, run.stderr))
 
     def memory(self, folder):
-        """Each allocation is refused in turn: the whole output, or status 1 and one line."""
+        """Refuses each allocation in turn: the scan must print everything, or exit with status 1 and print only one line."""
         whole = self.program.run(b'', ('scan', '--rate', '8000', folder))
         number = 0
         while len(self.failures) < 20:
@@ -98,7 +99,7 @@ class Checks:
         print('  %d allocations refused in turn' % (number - 1))
 
     def too_many(self, folder):
-        """100,001 songs, by links: a file may not have so many, so there are four."""
+        """A folder of 100,001 songs, which are hard links; a file cannot have so many links, so there are four files."""
         for number in range(4):
             put(folder, {'%d/0.wav' % number: WAVE})
         for number in range(4, 100001):
@@ -110,7 +111,7 @@ class Checks:
             self.failures.append('100,000 songs: ' + run.told())
 
     def terminal(self, folder):
-        """A long scan says on a terminal how far it is, and clears that before it ends."""
+        """Checks that on a terminal a long scan shows its progress, and clears that line before it ends."""
         ours, its = pty.openpty()
         run = subprocess.Popen([self.program.path, 'scan', '--rate', '8000', folder], stdout=subprocess.DEVNULL, stderr=its)
         os.close(its)
@@ -126,7 +127,7 @@ class Checks:
 
 
 def check(program):
-    """Prints what fails; the number of failures."""
+    """Prints what fails, and returns the number of failures."""
     print('Scans')
     checks = Checks(program)
     with tempfile.TemporaryDirectory() as top:

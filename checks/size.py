@@ -1,11 +1,11 @@
 #!/usr/bin/env python3
-"""What fills the program and its package: bytes by part, and by library.
+"""Shows what takes the space in the program and its package: bytes by part, and by library.
 
     checks/size.py [PROGRAM]
 
-A part's second number is its bytes as xz presses them, which is what it takes of the package. The code is told by the symbols of the
-program, which are named after the crate that they are of; a generic function is of the crate that defines it, such as `std_alloc`, and not
-of the one that asked for it. It needs binutils and xz; packaging/deb refuses a package above its limit.
+The second number of a part is its size when compressed with xz, which is about what it takes in the package. Which library a piece of code
+belongs to is known from its symbol, which names the crate; a generic function belongs to the crate that defines it, such as `std_alloc`,
+not to the one that uses it. This needs binutils and xz. packaging/deb refuses a package that is above the limit.
 """
 import argparse
 import collections
@@ -44,7 +44,7 @@ def pressed(path, *filters):
 
 
 def parts_of(program, folder):
-    """Each part with its bytes and its pressed bytes; the rest of the stripped program last."""
+    """Each part of the stripped program with its size and its compressed size, then what is left, and the whole."""
     whole = os.path.join(folder, 'whole')
     subprocess.run(['strip', '-R', '.comment', '-R', '.note', '-o', whole, program], check=True)
     rows, rest = [], [os.path.getsize(whole), pressed(whole, '--x86')]
@@ -71,11 +71,11 @@ def group_of(symbol, own):
     crate = symbol.split('::')[0]
     if crate in own:
         return 'music_daemon'
-    return next((name for name, words in GROUPS if re.match(words, crate)), crate if '::' in symbol else 'start and end')
+    return next((name for name, words in GROUPS if re.match(words, crate)), crate if '::' in symbol else 'start-up and exit')
 
 
 def code_of(program):
-    """The bytes of code of each group, the most first."""
+    """How many bytes of code each group has, the largest first."""
     own, sizes = table_of(ROOT), collections.Counter()
     for line in told_by('nm', '--print-size', '--defined-only', program).splitlines():
         fields = line.split(None, 3)
@@ -85,15 +85,15 @@ def code_of(program):
 
 
 def main():
-    parser = argparse.ArgumentParser(description='What fills the program and its package.')
-    parser.add_argument('program', nargs='?')
+    parser = argparse.ArgumentParser(description='Shows what takes the space in the program and its package.')
+    parser.add_argument('program', nargs='?', help='the built program (default: crates/music_daemon/out/music_daemon)')
     program = program_of(parser.parse_args().program)
     with tempfile.TemporaryDirectory() as folder:
         package = os.path.join(folder, 'it.deb')
         made = subprocess.run([DEB, program, package], stdout=subprocess.PIPE, stderr=subprocess.STDOUT, text=True)
         size = os.path.getsize(package) if made.returncode == 0 else None
         print('The package: %s bytes, at most %s' % ('{:,}'.format(size), '{:,}'.format(limit())) if size else made.stdout.strip())
-        print('  %-26s %10s %10s' % ('part', 'bytes', 'pressed'))
+        print('  %-26s %10s %10s' % ('part', 'bytes', 'compressed'))
         for row in parts_of(program, folder):
             print('  %-26s %10s %10s' % (row[0], *map('{:,}'.format, row[1:])))
     code = code_of(program)

@@ -1,5 +1,6 @@
-"""Statuses of the program by its words: success is silent on empty input, help and the version are shown, and refused words say why.
-The launcher at the top has the same texts of help and the version, which it shows before the program is built."""
+"""Checks the exit status for each command line: on empty input, success prints nothing; help and the version are shown; and arguments
+that are refused say why. The launcher `music_daemon` must have the same texts of help and the same version, since it shows them until
+the program is built."""
 import os
 import re
 import subprocess
@@ -37,7 +38,7 @@ def is_right(run, words, wanted):
 
 
 def check_launcher(program):
-    """The launcher's texts are the program's."""
+    """Checks that the launcher has the texts that the program prints."""
     with open(LAUNCHER, encoding='utf-8') as launcher:
         text = launcher.read()
     found = re.search(r'^version\(\) \{\n.*?^\}$', text, re.MULTILINE | re.DOTALL)
@@ -49,19 +50,19 @@ def check_launcher(program):
         found = re.search(r"^%s\(\) \{\n  cat <<'TEXT'\n(.*?)^TEXT$" % name, text, re.MULTILINE | re.DOTALL)
         if not found or found.group(1).encode() != program.run(b'', words).output:
             wrong.append(name)
-    print('  the launcher at the top: %s' % ('FAILED: other texts of ' + ', '.join(wrong) if wrong else 'the same texts'))
+    print('  the texts of the launcher: %s' % ('FAILED: these differ: ' + ', '.join(wrong) if wrong else 'the same'))
     return len(wrong)
 
 
 def check(program):
-    """Prints a table; the number of failures."""
-    print('Statuses, on empty input')
-    print('  %-44s %7s %7s' % ('words', 'wanted', 'status'))
+    """Prints a table, and returns the number of failures."""
+    print('Exit statuses, on empty input')
+    print('  %-44s %8s %7s' % ('arguments', 'expected', 'status'))
     failed = 0
     for words, wanted in WANTED:
         run = program.run(b'', words)
         right = is_right(run, words, wanted)
         failed += not right
         shown = ' '.join(repr(word) for word in words) or '(none)'
-        print('  %-44s %7d %7s%s' % (shown, 2 if wanted == REFUSED else 0, run.status, '' if right else '  FAILED: ' + run.told()))
+        print('  %-44s %8d %7s%s' % (shown, 2 if wanted == REFUSED else 0, run.status, '' if right else '  FAILED: ' + run.told()))
     return failed + check_launcher(program)

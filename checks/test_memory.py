@@ -1,8 +1,10 @@
 #!/usr/bin/env python3
-"""Refused memory in the built tests of crates: each allocation of each test is refused in turn (of a test that makes more than
-2,000 of them, 2,000 evenly spread). A test has to end by itself, with success or with want of memory.
+"""Refuses memory in the built tests of crates: each allocation of each test is refused in turn (if a test makes more than 2,000, then 2,000
+of them, evenly spread). Each time the test must end by itself, and either pass or fail because it has run out of memory.
 
-    checks/test_memory.py CRATE...          crates whose tests are built, as `rt test` leaves them in out/
+    checks/test_memory.py CRATE...
+
+CRATEs are crates of tests that `rt test` has built, which leaves the tests in the crate's folder `out`.
 """
 import collections
 import os
@@ -11,7 +13,7 @@ import sys
 import tempfile
 
 HERE = os.path.dirname(os.path.abspath(__file__))
-MOST = 2000  # the allocations of a test that are refused
+MOST = 2000  # how many allocations of a test are refused at most
 WANTS = ('AllocError', 'AllocFailed', 'NoMemory', 'OutOfMemory')
 
 
@@ -33,7 +35,7 @@ def allocations_in(report):
 def sort_of(ended):
     if ended.returncode == 0:
         return 'passed'
-    return 'want of memory' if any(word in ended.stdout + ended.stderr for word in WANTS) else 'FAILED'
+    return 'out of memory' if any(word in ended.stdout + ended.stderr for word in WANTS) else 'FAILED'
 
 
 def check(crate, library, folder):

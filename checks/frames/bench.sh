@@ -1,7 +1,7 @@
 #!/bin/sh
-# Prints frames a second of the sample kernels and of a ring, beside plain C loops.
-# Usage: bench.sh [ROOT]     (ROOT is the repository's top folder; two folders up from here if left out)
-# It builds on a copy in a temporary folder. What the crates have proved is copied along; the rest is proved there first.
+# Measures frames a second of the sample kernels and of a ring buffer, next to plain C loops.
+# Usage: bench.sh [ROOT]     (ROOT is the top folder of the repository; by default the one that this script is in)
+# The program is built in a temporary copy of the crates, together with what is proved already; the rest is proved there first.
 set -eu
 here=$(cd "$(dirname "$0")" && pwd)
 root=$(cd "${1:-$here/../..}" && pwd)

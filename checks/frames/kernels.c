@@ -1,4 +1,4 @@
-/* The sample kernels as plain C loops: lines of a name, frames, nanoseconds and a checksum. */
+/* The sample kernels as plain C loops. Each line that is printed has a name, frames, nanoseconds and a checksum. */
 #include <stdint.h>
 #include <stdio.h>
 #include <string.h>

@@ -1,4 +1,4 @@
-"""The kinds of hostile inputs: how the program is given them, and what it may answer."""
+"""The kinds of hostile inputs: how each is given to the program, and what the program may answer."""
 import itertools
 import os
 import re
@@ -36,13 +36,13 @@ class Ended:
 
 
 class Program:
-    """The built program, and how many seconds of processor a run of it may take."""
+    """The built program, and how many seconds of processor time a run of it may take."""
 
     def __init__(self, path, limit):
         self.path, self.limit = path, limit
 
     def run(self, words, folder, source=os.devnull):
-        """A run that reads a file; a fault where a signal or the limit ended it."""
+        """Runs the program with a file as its input. It is a fault if the run ends by a signal, or not within the limit."""
         with open(source, 'rb') as stdin:
             process = subprocess.Popen([self.path, *words], cwd=folder, stdin=stdin, stdout=subprocess.PIPE, stderr=subprocess.PIPE)
         output, errors = self.outcome(process)
@@ -54,7 +54,8 @@ class Program:
         return ended
 
     def outcome(self, process):
-        """What a run wrote. It has no end where it used the processor for that long, or only sleeps. One that waits for the processor has time."""
+        """What a run wrote. It is stopped if it has used the processor for longer than the limit, or only sleeps; a run that waits for
+        the processor gets more time."""
         while True:
             try:
                 return process.communicate(timeout=self.limit)
@@ -63,18 +64,18 @@ class Program:
                 if used >= self.limit or is_asleep(process.pid):
                     process.kill()
                     process.communicate()
-                    raise Fault('no end', 'within %.0f s of processor' % used) from None
+                    raise Fault('it did not end', 'within %.0f s of processor time' % used) from None
 
 
 def seconds_of(number):
-    """The processor time that a process used."""
+    """How many seconds of processor time a process has used."""
     with open('/proc/%d/stat' % number) as stat:
         fields = stat.read().rpartition(')')[2].split()
     return (int(fields[11]) + int(fields[12])) / os.sysconf('SC_CLK_TCK')
 
 
 def is_asleep(number):
-    """Whether each thread of a process waits for something, and none for the processor or a disk; three looks, a tenth of a second apart."""
+    """Whether every thread of a process sleeps, and none waits for the processor or a disk; looks three times, a tenth of a second apart."""
     for _ in range(3):
         time.sleep(0.1)
         for task in os.listdir('/proc/%d/task' % number):
@@ -96,28 +97,28 @@ def wave(frames, rate=8000):
 
 
 def put_music(folder):
-    """Two songs, for the kinds that start the daemon."""
+    """Makes two songs, for the kinds that start the daemon."""
     os.makedirs(os.path.join(folder, 'music', 'b'), exist_ok=True)
     for name in ('a.wav', 'b/c.wav'):
         write(os.path.join(folder, 'music', name), wave(b'\x80' * 800))
 
 
 def clear(folder, kept=('music',)):
-    """Takes away what a run left in its folder."""
+    """Removes what a run left in its folder."""
     for name in set(os.listdir(folder)) - set(kept):
         path = os.path.join(folder, name)
         shutil.rmtree(path) if os.path.isdir(path) and not os.path.islink(path) else os.remove(path)
 
 
 def check_start(ended):
-    """What a start with `--check` may say: one refusal and status 1, or what it found and remarks. Its lines."""
+    """Checks what a start with `--check` printed: either one refusal and status 1, or what it found, and remarks. Returns the lines."""
     lines = ended.error_lines()
     if ended.status == 0 and ended.output.startswith(b'music: ') and all(REMARK.match(line) for line in lines):
         return ended.lines() + lines
     rest = list(itertools.dropwhile(REMARK.match, lines))
     if ended.status == 1 and not ended.output and len(rest) == 1 and REFUSAL.match(rest[0]):
         return lines
-    raise Fault('no refusal', ended.told())
+    raise Fault('neither a good start nor a proper refusal', ended.told())
 
 
 def files_in(folder, ending=''):
@@ -129,7 +130,7 @@ def files_in(folder, ending=''):
 
 
 def row_scripts():
-    """The lines of each row, of those of the checks and of the worked ones."""
+    """The lines of each row: of those of the checks, and of the worked rows."""
     for folder in (rows.FOLDER, rows.WORKED):
         for data in files_in(folder, '.row'):
             lines = [line[2:] if line.startswith(b'> ') else rows.unescaped(line[3:]) for line in data.split(b'\n') if line.startswith((b'> ', b'>e '))]
@@ -137,19 +138,19 @@ def row_scripts():
 
 
 def client_lines():
-    """What clients say in the rows, each line once."""
+    """The lines that clients send in the rows, each once."""
     return sorted({line[2:] for script in row_scripts() for line in script.split(b'\n') if re.match(rb'[1-9] .', line)})
 
 
 class Kind:
-    """Inputs of one kind: how many the program takes at once, and how long they may be."""
+    """Inputs of one kind: how many the program gets in one run, and how long they may be."""
     at_once, most_bytes, is_text, words = 1, 4096, True, ()
 
     def permits(self, data):
         return True
 
     def mend(self, draw, data):
-        """A mutated input, perhaps with a part put right that else hides all others."""
+        """A mutated input, perhaps with a part corrected that would otherwise hide all other faults."""
         return data
 
     def seeds(self, folder):
@@ -161,7 +162,7 @@ class Kind:
 
 
 class Settings(Kind):
-    """A file of settings, by `serve --check`. A path has no slash, so that nothing outside the folder is named."""
+    """A settings file, read by `serve --check`. Inputs with a slash are left out, so that no path leads out of the folder."""
     name = 'settings'
     words = [b'music', b'listen', b'state', b'shelf', b'rate', b'kill', b'everyday', b'random_start', b'history', b'ring', b'[[output]]', b'[output]',
              b'name', b'path', b'enabled', b'patience', b' = ', b'\n', b'"""', b"'''", b'\\n', b'\\u00e9', b'\\U0010ffff', b'\\ud800', b'true',
@@ -181,7 +182,7 @@ class Settings(Kind):
 
 
 class Wave(Kind):
-    """WAVE files, many in a folder, by `scan`."""
+    """WAVE files, many in one folder, read by `scan`."""
     name, at_once, is_text, most_bytes = 'wave', 200, False, 4096
     words = [b'RIFF', b'RIFX', b'RF64', b'WAVE', b'fmt ', b'data', b'LIST', b'INFO', b'INAM', b'IART', b'IPRD', b'ICRD', b'IGNR', b'ICMT', b'ITRK',
              b'id3 ', b'ID3', b'fact', b'ds64', b'JUNK', b'bext', b'wavl', b'slnt', b'\x01\0\x01\0', b'\x01\0\x02\0', b'\xfe\xff\x02\0',
@@ -211,7 +212,7 @@ class Wave(Kind):
         return [shapes_of(found.get(name, [])) | {self.size_of(found.get(name, []))} for name in names]
 
     def found_in(self, ended):
-        """The lines of each file: those of a song, or its refusal."""
+        """What was printed for each file: the lines of a song, or why the file was skipped."""
         if ended.status != 0:
             raise Fault('status %d' % ended.status, ended.told())
         found, name = {}, None
@@ -222,12 +223,12 @@ class Wave(Kind):
         for line in ended.error_lines():
             name, _, refusal = line.partition(': ')
             if name in found or refusal not in self.REFUSALS:
-                raise Fault('no refusal', repr(line[:200]))
+                raise Fault('not a reason to skip a file', repr(line[:200]))
             found[name] = [refusal]
         return found
 
     def check_length(self, lines, size):
-        """A song is no longer than its bytes: a frame takes one at least."""
+        """Checks that a song is not longer than its file allows: a frame takes at least one byte."""
         for line in lines:
             if line.startswith('duration: ') and float(line.partition(': ')[2]) > size / 8000 + 0.001:
                 raise Fault('a song that is longer than its file', '%s of %d bytes' % (line, size))
@@ -238,7 +239,7 @@ class Wave(Kind):
 
 
 class Lines(Kind):
-    """Lines of a client that comes and goes, many in a script. A line of another client parts their answers."""
+    """Lines of a client that connects for each of them; many in one script. A line of another client separates their answers."""
     name, at_once, most_bytes = 'lines', 200, 4096
     words = [b'command_list_begin', b'command_list_ok_begin', b'command_list_end', b'window', b'sort', b'position', b'group', b'"(', b')"', b'any',
              b'modified-since', b'base']
@@ -265,12 +266,12 @@ class Lines(Kind):
             else:
                 answers[-1].append(line)
         if len(answers) != len(inputs) + 2:
-            raise Fault('lines that were not answered', '%d of %d' % (len(inputs) + 2 - len(answers), len(inputs)))
+            raise Fault('lines without an answer', '%d of %d' % (len(inputs) + 2 - len(answers), len(inputs)))
         return [shapes_of(lines) for lines in answers[1:-1]]
 
 
 class Filters(Lines):
-    """Filters, as a word of `find`, `search`, `count` and `list`."""
+    """Filters, as an argument of `find`, `search`, `count`, `list` and others."""
     name = 'filters'
     commands = [b'find %s', b'search %s', b'count %s', b'list album %s', b'findadd %s', b'find %s sort -date window 0:2', b'playlistfind %s']
     words = [b'(', b')', b'(!', b' AND ', b'==', b'!=', b'=~', b'!~', b'contains', b'starts_with', b'eq_cs', b'eq_ci', b'!contains', b'!starts_with',

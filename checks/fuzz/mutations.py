@@ -1,13 +1,13 @@
-"""Mutations of an input: bits, lengths, numbers, words of a dictionary, pieces of other inputs, pieces that are taken away or repeated."""
+"""Mutations of an input: other bits, lengths, numbers or words, pieces of other inputs, and pieces that are removed or repeated."""
 import re
 import struct
 
-MOST_STEPS = 6      # changes that are made to an input
-LONGEST_RUN = 300   # repeats of a piece
+MOST_STEPS = 6      # how many changes are made to an input at most
+LONGEST_RUN = 300   # how often a piece is repeated at most
 NUMBERS = [b'0', b'1', b'-1', b'00', b'1.', b'.5', b'1.5', b'1e9', b'nan', b'99', b'100', b'101', b'255', b'256', b'1023', b'1024', b'16384', b'16385',
            b'65535', b'65536', b'65537', b'2147483647', b'2147483648', b'4294967295', b'4294967296', b'9223372036854775807',
            b'9223372036854775808', b'18446744073709551615', b'18446744073709551616', b'9' * 40, b'0:', b':', b'1:0', b'0:4294967295', b'+1', b'-0']
-# what a field of so many bytes may hold
+# numbers that are put into fields of one, two and four bytes
 FIELDS = {1: [0, 1, 0x0a, 0x20, 0x22, 0x5c, 0x7f, 0x80, 0xbf, 0xc0, 0xed, 0xf4, 0xff],
           2: [0, 1, 2, 3, 8, 16, 24, 32, 0x7fff, 0x8000, 0xfffe, 0xffff],
           4: [0, 1, 2, 7, 8, 15, 16, 17, 40, 255, 4096, 8000, 44100, 0x7fffffff, 0x80000000, 0xfffffff0, 0xfffffffe, 0xffffffff]}
@@ -20,7 +20,7 @@ def place(draw, data):
 
 
 def piece(draw, data):
-    """Where a piece begins and ends; most are short."""
+    """Where a piece begins and ends; most pieces are short."""
     begin = place(draw, data)
     longest = len(data) - begin
     return begin, begin + draw.randint(0, min(longest, draw.choice([1, 2, 4, 16, 64, 1 << 16])))
@@ -34,7 +34,7 @@ def flip(draw, data, _):
 
 
 def set_field(draw, data, _):
-    """A number of one, two or four bytes, in either order of bytes, near one of those that are often at an edge."""
+    """Puts in a number of one, two or four bytes, in either byte order: one that is often a limit, or one near the number that is there."""
     width = draw.choice([1, 2, 4, 4])
     if len(data) < width:
         return data
@@ -48,7 +48,7 @@ def set_field(draw, data, _):
 
 
 def set_number(draw, data, _):
-    """Another number in digits."""
+    """Replaces a number that is written in digits."""
     found = list(re.finditer(rb'-?\d+', data))
     if not found:
         return data
@@ -73,13 +73,13 @@ def repeat(draw, data, _):
 
 
 def put_word(draw, data, source):
-    """A word of the dictionary, in front of something or in its place."""
+    """Puts a known word in front of a piece, or in its place."""
     begin, end = piece(draw, data)
     return data[:begin] + draw.choice(source.words if draw.randrange(4) else TEXTS) + data[begin if draw.randrange(2) else end:]
 
 
 def change_word(draw, data, source):
-    """A word in the place of another."""
+    """Replaces a word by another."""
     found = list(re.finditer(rb'[\w.-]+', data))
     if not found:
         return data
@@ -88,13 +88,13 @@ def change_word(draw, data, source):
 
 
 def splice(draw, data, source):
-    """The front of an input, and the end of another."""
+    """The beginning of the input, and the end of another."""
     other = draw.choice(source.inputs)
     return data[:place(draw, data)] + other[place(draw, other):]
 
 
 def put_piece(draw, data, source):
-    """A piece of another input, or of the same, at some place."""
+    """Inserts a piece of another input, or of the same one."""
     other = draw.choice([data, draw.choice(source.inputs)])
     begin, end = piece(draw, other)
     at = place(draw, data)
@@ -102,7 +102,7 @@ def put_piece(draw, data, source):
 
 
 def swap_lines(draw, data, source):
-    """Lines in another order, or one of another input."""
+    """Inserts or replaces a line, by one of the same input or of another."""
     lines = data.split(b'\n')
     at = draw.randrange(len(lines))
     others = draw.choice([lines, draw.choice(source.inputs).split(b'\n')])
@@ -118,7 +118,7 @@ BINARY = [flip, set_field, set_field, set_field, take_away, cut, repeat, put_wor
 
 
 class Source:
-    """The inputs of a kind that are known, and its words: those of its inputs, and the kind's own."""
+    """The known inputs of a kind, and its known words: those in its inputs, and the kind's own."""
 
     def __init__(self, inputs, words, is_text, most_bytes):
         self.inputs, self.is_text, self.most_bytes = list(inputs), is_text, most_bytes
@@ -126,7 +126,7 @@ class Source:
         self.words = sorted(found | set(words))
 
     def next(self, draw):
-        """A new input: one that is known with some changes. Those that were found last are taken more often."""
+        """A new input, which is a known one with some changes. The inputs that were found last are chosen more often."""
         known = self.inputs if draw.randrange(2) else self.inputs[-50:]
         data = draw.choice(known)
         for _ in range(draw.randint(1, MOST_STEPS)):

@@ -1,4 +1,4 @@
-"""The kinds of hostile inputs that a daemon that serves is given: bytes of a client, and files of a shelf and of a state."""
+"""The kinds of hostile inputs for a running daemon: bytes from a client, files of the playlist store, and saved states."""
 import os
 import socket
 import sqlite3
@@ -15,10 +15,10 @@ from daemon import Client, Daemon
 from kinds import Kind, check_start, clear, is_asleep, put_music, seconds_of, write
 
 LOG_MAGIC = (0x377f0682, 0x377f0683)
-START = 300         # the seconds within which a daemon listens, on a machine that is busy
-ENOUGH = 1 << 24    # bytes of answers
+START = 300         # how many seconds a daemon may take until it listens, on a busy machine
+ENOUGH = 1 << 24    # how many bytes of answers are read at most
 HEADER = b'SQLite format 3\0'
-# what the daemon is asked of a shelf that it opened
+# requests to a daemon that has opened a playlist store
 QUESTIONS = ['listplaylists', 'listplaylistinfo one', 'listplaylist "two"', 'load one', 'save three', 'playlistadd one a.wav', 'playlistdelete one 0',
              'rename one four', 'sticker list song a.wav', 'sticker find song "" rating', 'sticker set song a.wav rating 3',
              'sticker get playlist two mood', 'sticker delete song a.wav', 'rm two']
@@ -30,11 +30,11 @@ def started(program, folder, more='everyday = true', **words):
         daemon.wait_for_port(START)
         return daemon
     except AssertionError as fault:
-        raise Fault('no start', str(fault)[-300:]) from None
+        raise Fault('it did not start', str(fault)[-300:]) from None
 
 
 def received(client, daemon, limit):
-    """What comes next. A daemon that waits for the processor, and has not used it for that long, has time."""
+    """Waits for the next bytes. A daemon that only waits for the processor, and has not used it for longer than the limit, gets more time."""
     before = seconds_of(daemon.process.pid)
     while True:
         try:
@@ -45,7 +45,8 @@ def received(client, daemon, limit):
 
 
 def asked(program, folder, questions, **words):
-    """The shapes of what a daemon answers to some questions, which then ends well, and of what it said on standard error."""
+    """Starts a daemon, asks it some questions, and ends it, which it must do properly. Returns the shapes of its answers, and of what it said
+    on standard error."""
     daemon = started(program, folder, **words)
     try:
         client, lines = Client(daemon.port), []
@@ -63,12 +64,12 @@ def asked(program, folder, questions, **words):
         daemon.kill()
     errors = daemon.errors().split('\n')
     if status not in (0, 1) or not all(REMARK.match(line) for line in errors[:-1]) or not (REMARK if status == 0 else REFUSAL).match(errors[-1]):
-        raise dead(daemon, 'the end, status %d' % status)
+        raise dead(daemon, 'at its end, status %d' % status)
     return shapes_of(lines + errors)
 
 
 def dead(daemon, told):
-    """The fault of a daemon that is gone, or does not answer."""
+    """The fault of a daemon that has ended, or does not answer."""
     daemon.process.poll()
     status = daemon.process.returncode
     daemon.kill()
@@ -77,7 +78,8 @@ def dead(daemon, told):
 
 
 class Bytes(Kind):
-    """What a client sends before it goes: many clients of one daemon, one after the other. It is answered to its end, and the daemon serves on."""
+    """The bytes that a client sends before it disconnects; many clients of one daemon, one after the other. Each must be answered to the end,
+    and the daemon must go on serving."""
     name, at_once, most_bytes = 'bytes', 50, 40000
     words = [b'command_list_begin\n', b'command_list_ok_begin\n', b'command_list_end\n', b'idle\n', b'noidle\n', b'\n', b'\r\n', b'\0', b'close\n',
              b'kill\n', b'A' * 17000, b'ping\n' * 100]
@@ -98,7 +100,7 @@ class Bytes(Kind):
             raise dead(daemon, repr(fault)) from None
 
     def told(self, daemon, data, limit):
-        """The lines that a client is sent, up to the end, or until it has enough of them and goes."""
+        """The lines that a client receives, up to the end of the connection, or until it has received enough and disconnects."""
         client = socket.create_connection(('127.0.0.1', daemon.port), START)
         client.settimeout(limit)
         held = b''
@@ -111,7 +113,7 @@ class Bytes(Kind):
                     piece = received(client, daemon, limit)
                     held += piece
             except (ConnectionResetError, BrokenPipeError):
-                # it was closed before all was sent, as where a line is too long
+                # The daemon closed the connection before everything was sent, for instance because a line is too long.
                 pass
         lines = held.decode('utf-8', 'backslashreplace').split('\n')[:-1]
         for line in lines:
@@ -125,7 +127,7 @@ class Bytes(Kind):
 
 
 def checksum(data, before, order):
-    """The sums that SQLite's log keeps of its frames."""
+    """The checksums that SQLite's log has for its frames."""
     one, two = before
     for first, second in struct.iter_unpack(order + 'II', data):
         one = (one + first + two) & 0xffffffff
@@ -134,7 +136,7 @@ def checksum(data, before, order):
 
 
 def mended_log(data):
-    """A log whose frames have the sums and the salts that they must have."""
+    """A log whose frames have the right checksums and salts."""
     if len(data) < 32 or struct.unpack_from('>I', data)[0] not in LOG_MAGIC:
         return data
     order = '>' if data[3] & 1 else '<'
@@ -151,7 +153,7 @@ def mended_log(data):
 
 
 def is_whole(path):
-    """Whether sqlite3 finds no fault in a file."""
+    """Whether sqlite3 finds a file intact."""
     try:
         with sqlite3.connect(path) as store:
             return store.execute('PRAGMA integrity_check').fetchall() == [('ok',)]
@@ -160,13 +162,15 @@ def is_whole(path):
 
 
 class Shelf(Kind):
-    """A file of a shelf, or a log beside one: by `serve --check`, and where it is opened by a daemon that is asked for what is in it."""
+    """A file of the playlist store, or a log next to one. It is read by `serve --check`, and if that accepts it, by a daemon, which is then asked
+    what is in it."""
     name, is_text, most_bytes = 'shelf', False, 65536
     words = [HEADER, b'CREATE TABLE ', b'CREATE INDEX ', b'list', b'sticker', b'note', b'profile', b'sqlite_autoindex_list_1', b'table', b'index',
              b'PRIMARY KEY', b'\x0d\0\0\0', b'\x05\0\0\0', b'\x0a\0\0\0', b'\x02\0\0\0', b'\x7f\xff\xff\xff', b'\x81\x80\x80\x80\x80\x80\x80\x80\x80']
 
     def seeds(self, folder):
-        """Each text of statements as the file that sqlite3 makes; a text of which a line is `-- log` is a log beside the file of the lines before it."""
+        """Each file of SQL statements gives the database that sqlite3 makes from it. If it has a line `-- log`, it gives the log that the
+        statements after that line leave, next to the database that those before it make."""
         self.base = b''
         for data in super().seeds(folder):
             before, _, logged = data.decode().partition('-- log\n')
@@ -197,7 +201,7 @@ class Shelf(Kind):
                 self.put(path, data, is_log)
                 shapes = shapes | asked(program, folder, QUESTIONS, shelf=path)
             if was_whole and not is_whole(path):
-                raise Fault('a file that is whole no more', '')
+                raise Fault('a file that is no longer intact', '')
             return [shapes]
         finally:
             clear(folder)
@@ -212,7 +216,7 @@ class Shelf(Kind):
 
 
 class State(Kind):
-    """A file of a state, which a daemon reads when it starts. What it says of refused lines is that they are."""
+    """A saved state, which a daemon reads when it starts. If it refuses lines of the state, it must keep a copy of the file."""
     name, most_bytes = 'state', 16384
     questions = ['status', 'playlistinfo', 'outputs', 'currentsong', 'addid a.wav']
 
@@ -224,14 +228,14 @@ class State(Kind):
             shapes = asked(program, folder, self.questions, outputs=[os.path.join(folder, 'never read')], more='everyday = true\nstate = "%s"' % path)
             has_refused = any(shape.startswith('said: state: ') for shape in shapes if isinstance(shape, str))
             if has_refused != os.path.exists(path + '.refused'):
-                raise Fault('a state with refused lines that is not kept' if has_refused else 'a state that is kept without a reason', '')
+                raise Fault('a state with refused lines of which no copy is kept' if has_refused else 'a copy of a state without refused lines', '')
             return [shapes]
         finally:
             clear(folder)
 
 
 def files_of(before, logged):
-    """The file that some statements make, and the log that more of them leave beside it."""
+    """The database that some statements make, and the log that further statements leave next to it."""
     with tempfile.TemporaryDirectory() as folder:
         path = os.path.join(folder, 'shelf')
         store = sqlite3.connect(path, isolation_level=None)

@@ -1,12 +1,12 @@
-"""The least case that fails as a given one does. A case is a list of inputs, which one run of the program reads in this order."""
+"""Shrinks a case that fails. A case is a list of inputs, which the program reads in this order in one run."""
 import time
 
-MOST_RUNS = 500     # of the program, for one fault
-MOST_SECONDS = 60   # for one fault
+MOST_RUNS = 500     # how many runs of the program are made for one fault at most
+MOST_SECONDS = 60   # how many seconds are spent on one fault at most
 
 
 class Shrinking:
-    """Takes inputs away from a case, and then lines and bytes from each input, as long as it fails alike."""
+    """Removes inputs from a case, and then lines and bytes from each input, as long as it still fails in the same way."""
 
     def __init__(self, fails):
         self.fails, self.runs, self.end = fails, 0, time.monotonic() + MOST_SECONDS
@@ -24,7 +24,7 @@ class Shrinking:
         return case
 
     def without(self, parts, case_of, fewest):
-        """The parts that are left once no piece of them can go: halves are tried first, then ever smaller pieces."""
+        """The parts that are left when no further piece of them can be removed: halves are tried first, then ever smaller pieces."""
         size = max(1, len(parts) // 2)
         while not self.is_over():
             begin, has_gone = 0, False

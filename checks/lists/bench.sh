@@ -1,9 +1,9 @@
 #!/bin/sh
-# Prints microseconds of commands over stored playlists and stickers, beside the call of a shelf in memory alone: a queue of
-# 16,384 entries is saved, loaded and its list emptied, and 10,000 stickers are looked through; then what parts of them take;
-# best of three.
-# Usage: bench.sh [ROOT]     (ROOT is the repository's top folder; two folders up from here if left out)
-# It builds on a copy in a temporary folder. What the crates have proved is copied along; the rest is proved there first.
+# Measures microseconds of commands on stored playlists and stickers, next to the bare calls of a playlist store in memory: a
+# queue of 16,384 entries is saved and loaded, its list is emptied, and 10,000 stickers are searched. Then it prints what parts
+# of these commands take. Each figure is the best of three.
+# Usage: bench.sh [ROOT]     (ROOT is the top folder of the repository; by default the one that this script is in)
+# The program is built in a temporary copy of the crates, together with what is proved already; the rest is proved there first.
 set -eu
 here=$(cd "$(dirname "$0")" && pwd)
 root=$(cd "${1:-$here/../..}" && pwd)
@@ -19,7 +19,7 @@ grep -E '^lists [a-z_]+ [0-9]+ [0-9]+ (yes|NO)$' "$work/ours.log" | awk '
         if ($5 == "NO") right[$2] = "NO"
     }
     END {
-        printf "%-14s %15s %17s %8s  %s\n", "command", "us the command", "us the bare call", "times", "right"
+        printf "%-14s %15s %17s %8s  %s\n", "command", "us, command", "us, bare call", "times", "right"
         for (i = 1; i <= count; i++) {
             n = rows[i]
             printf "%-14s %15.1f %17.1f %8.1f  %s\n", n, best[n] / 1000, least[n] / 1000, best[n] / (least[n] ? least[n] : 1), right[n]

@@ -1,4 +1,4 @@
-"""Commands on the connection, on messages between clients, and on partitions."""
+"""Commands for the connection, for messages between clients, and for partitions."""
 import re
 
 from commands import command, names
@@ -10,7 +10,7 @@ MOST_CHANNELS, MOST_MESSAGES, MOST_PARTITIONS = 16, 64, 16
 
 
 class Close(Exception):
-    """The client is closed."""
+    """The client's connection is closed."""
 
 
 @command('ping')

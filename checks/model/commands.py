@@ -1,10 +1,10 @@
-"""The table of commands: how many arguments each has, of which forms, and what it does."""
+"""The table of commands: how many arguments each has, which forms these have, and what the command does."""
 from dataclasses import dataclass
 from typing import Callable
 
 from words import ARGUMENT, PERMISSION, UNKNOWN, Ack, NoCommand
 
-# Of a daemon without the everyday profile, and of one with it.
+# The commands of a daemon without the everyday profile, and of one with it.
 BASE, EVERYDAY = {}, {}
 
 
@@ -21,7 +21,7 @@ class Command:
 
 @dataclass
 class Speaker:
-    """The client whose command runs, in the daemon that it runs in."""
+    """The client that sent a command, and the daemon that runs it."""
     world: object
     client: object
 
@@ -51,7 +51,7 @@ class Speaker:
 
 
 def by_forms(forms, optional, more):
-    """Reads arguments of these forms, then up to so many optional ones, or one or more of the last form."""
+    """Reads arguments of these forms, and then arguments of the optional forms, or one or more of the form `more`."""
     def read(arguments):
         most = len(arguments) if more else len(forms) + len(optional)
         least = len(forms) + (1 if more else 0)
@@ -71,12 +71,12 @@ def registered(tables, name, read):
 
 
 def command(name, *forms, optional=(), more=None, read=None):
-    """Registers a command of both profiles; `read` stands for arguments whose number and forms no list tells."""
+    """Registers a command of both profiles. `read` reads the arguments, if a list of forms cannot describe them."""
     return registered((BASE, EVERYDAY), name, read or by_forms(forms, optional, more))
 
 
 def everyday(name, *forms, optional=(), more=None, read=None):
-    """Registers a command of the everyday profile, in place of the base profile's if that has one."""
+    """Registers a command of the everyday profile, in place of that of the base profile, if there is one."""
     return registered((EVERYDAY,), name, read or by_forms(forms, optional, more))
 
 
@@ -86,7 +86,7 @@ def names(world):
 
 
 def typed(words, world):
-    """The command that a line's words name, and its arguments; the first refusal is raised."""
+    """The command that the words of a line name, and its arguments; raises the first refusal."""
     if not words:
         raise NoCommand(UNKNOWN, 'no command given')
     found = (EVERYDAY if world.everyday else BASE).get(words[0])

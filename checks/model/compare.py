@@ -1,4 +1,4 @@
-"""Scripts of the model and of a program side by side: where they part, and the least lines that show it."""
+"""Compares what the model and a program answer to a script: where they first differ, and the fewest lines that show it."""
 import difflib
 
 from program import NotRun
@@ -22,8 +22,8 @@ def readable(text):
 
 
 def cut_behind_difference(text, printed):
-    """The front of a script up to the line whose answer differs first, and what the program printed for it. No run is needed: what a
-    line prints depends on the lines before it alone."""
+    """The beginning of a script, up to the first line with a different answer, and what the program printed for it. This needs no run, since
+    what a line prints depends only on the lines before it."""
     if isinstance(printed, NotRun):
         return text, printed
     wanted, found = lines_of(answer_of(text)), lines_of(printed)
@@ -40,20 +40,20 @@ def cut_behind_difference(text, printed):
 
 
 class Shrinking:
-    """Takes lines away from a script that still differs without them. A round asks the program of many scripts at once, since a
-    build, where one is needed, is dearer than a run."""
+    """Removes lines from a script as long as the answers still differ. Each round runs many scripts at once, since a build, if one is
+    needed, takes longer than a run."""
 
     def __init__(self, program, text, printed):
         self.program, self.text, self.printed = program, text, printed
 
     def differing(self, scripts):
-        """Those of these scripts whose outputs differ, with what the program printed."""
+        """Those of these scripts to which the answers differ, with what the program printed."""
         if not scripts:
             return []
         return [(text, printed) for text, printed in zip(scripts, self.program.run_all(scripts)) if not is_same(printed, answer_of(text))]
 
     def run(self, rounds):
-        """The least script, and what the program prints for it."""
+        """The shortest script that was found, and what the program prints for it."""
         for _ in range(rounds):
             lines = lines_of(self.text)
             without = {joined(lines[:n] + lines[n + 1:]): n for n in range(len(lines)) if len(lines) > 1}
@@ -65,7 +65,8 @@ class Shrinking:
 
     @staticmethod
     def without_several(lines, removable):
-        """Scripts without several of the lines that one by one can go: all of them, and front and back parts of them."""
+        """Scripts without several of the lines that can be removed one by one: without all of these, and without the first or the last of
+        them."""
         sizes = {len(removable) * part // 8 for part in range(2, 9)}
         parts = [part for size in sizes if size > 1 for part in (removable[:size], removable[-size:])]
         return list({joined([line for n, line in enumerate(lines) if n not in part]) for part in parts})
@@ -79,7 +80,7 @@ def shrunk(program, text, printed, rounds=40):
 
 
 def report(title, text, printed):
-    """A difference as a reader wants it: the script, then what the model has and what the program printed, as a diff."""
+    """A difference, as it is printed: the script, and a diff from the model's answers to what the program printed."""
     lines = ['== ' + title, *('  > ' + line for line in readable(text))]
     if isinstance(printed, NotRun):
         return '\n'.join([*lines, '  the program: %s' % printed])

@@ -1,4 +1,4 @@
-"""The daemon: one event after another, what each raises, and whom it wakes."""
+"""The daemon: runs one event after another, and finds what each has changed for `idle`, and which waiting clients it wakes."""
 import copy
 
 import client_commands
@@ -14,18 +14,18 @@ from player import LimitReached
 from words import ARGUMENT, SYSTEM, Ack, NoCommand, words_of
 from world import GREATEST, SUBSYSTEMS, Client, World
 
-# These fill the table of commands.
+# Importing these modules fills the table of commands.
 COMMAND_MODULES = (client_commands, everyday_commands, library_commands, playback_commands, queue_commands, shelf_commands)
 
 
 class Answer:
-    """What a client is answered: lines, then `OK`, a refusal, nothing, or the end of its connection."""
+    """The answer to a client: lines, and then `OK`, a refusal, nothing, or the end of its connection."""
 
     def __init__(self, lines=(), ack=None, silent=False, closed=False, command=''):
         self.lines, self.ack, self.silent, self.closed, self.command = list(lines), ack, silent, closed, command
 
     def ending(self, place=0):
-        """The lines behind those of the answer itself."""
+        """The lines that end the answer."""
         if self.closed:
             return ['closed']
         if self.ack:
@@ -37,11 +37,11 @@ class Daemon:
     def __init__(self, limits, everyday, songs):
         self.world = World(limits, everyday, songs)
         self.window = self.events = 0
-        # Only a script that lowers this limit can reach it.
+        # A script can reach this limit only if it has lowered it.
         self.can_reach_limit = limits['max_cut'] < GREATEST['max_cut']
 
     def event(self, act):
-        """Runs one event as a whole: gives what it answers, and the notices of other clients by number."""
+        """Runs one event completely, or not at all: returns its answer, and the notices to other clients, by client number."""
         if self.window == self.world.limits['history']:
             self.window = 0
         before = self.seen()
@@ -59,7 +59,7 @@ class Daemon:
         return answer, self.notices()
 
     def seen(self):
-        """What an event is compared with."""
+        """What is compared before and after an event."""
         world = self.world
         return {'shared': world.shared_parts(), 'parts': {name: world.parts_of(name) for name in world.partitions},
                 'entries': {name: list(it.queue.entries) for name, it in world.partitions.items()},
@@ -82,7 +82,7 @@ class Daemon:
                 client.pending.add('message')
 
     def notices(self):
-        """The notices of those who wait for something that is pending; each clears all that is pending."""
+        """The notices to the clients that wait for something that is pending; a notice clears everything that is pending for its client."""
         found = {}
         for number, client in sorted(self.world.clients.items()):
             if client.waits and client.pending & client.waits_for:
@@ -101,7 +101,7 @@ class Daemon:
         return self.event(lambda world: world.clients.pop(number, None))
 
     def line(self, number, line, in_list=False):
-        """One line of a client: its answer, and notices, of which its own is an answer to `idle`."""
+        """Runs one line of a client: its answer, and the notices to others. If the client itself gets a notice, this is its answer, to `idle`."""
         try:
             answer, notices = self.event(lambda world: self.answer(world, world.clients[number], line, in_list))
         except LimitReached:

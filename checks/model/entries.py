@@ -1,7 +1,7 @@
-"""The queue: entries with their ids, and which slots changed since when.
+"""The queue: its entries with their ids, and when each position was last changed.
 
-Every change of the queue has a number, from 1 on; a slot remembers the number of the change that touched it last, and all that clients
-are told of versions is worked out from these numbers."""
+Every change of the queue has a number, counted from 1. A slot (a position of the queue) remembers the number of the last change that affected
+it, and all versions that clients see are computed from these numbers."""
 from dataclasses import dataclass, replace
 
 from library import Song, seconds
@@ -23,7 +23,7 @@ class Queue:
         self.changes = 0
         self.last_change = {}
 
-    # What there is.
+    # What is in the queue.
 
     def __len__(self):
         return len(self.entries)
@@ -39,7 +39,7 @@ class Queue:
         return None if place is None else self.entries[place]
 
     def lines(self, place, shown):
-        """The lines of the song at a place, as the queue shows them."""
+        """The lines of the song at a place, as commands on the queue show them."""
         entry = self.entries[place]
         priority = ['Prio: %d' % entry.priority] if entry.priority else []
         return [*entry.song.lines(shown), 'Pos: %d' % place, 'Id: %d' % entry.id, *priority]
@@ -47,14 +47,14 @@ class Queue:
     # Changes.
 
     def room_for(self, count):
-        """Refuses so many new entries where there is no room for them, or where ids have run out."""
+        """Refuses so many new entries if there is no room for them, or if the ids have run out."""
         if len(self.entries) + count > self.limits['max_queue']:
             raise Ack(FULL, 'playlist is full')
         if self.greatest_id + count > self.limits['max_id']:
             raise Ack(FULL, 'no more song ids')
 
     def insert(self, at, songs):
-        """Puts songs in at a place, and gives the new entries."""
+        """Inserts songs at a place, and returns the new entries."""
         added = [Entry(self.greatest_id + 1 + number, song) for number, song in enumerate(songs)]
         self.greatest_id += len(added)
         self.entries[at:at] = added
@@ -78,7 +78,7 @@ class Queue:
     # Versions.
 
     def note_changes(self, before):
-        """Counts what one event changed in the entries, which were these before it."""
+        """Records what one event has changed; `before` are the entries as they were before it."""
         if before == self.entries:
             return
         self.changes += 1
@@ -94,7 +94,7 @@ class Queue:
         return self.version_of(self.changes)
 
     def changed_since(self, version):
-        """The places of the slots that a client of this version has to be shown."""
+        """The places of the slots that must be shown to a client that knows this version."""
         return [place for place in range(len(self.entries)) if self.is_shown(place, version)]
 
     def is_shown(self, place, version):
@@ -107,5 +107,5 @@ class Queue:
 
 
 def span_of(entry):
-    """How long an entry's song is, in seconds."""
+    """The duration of an entry's song, in seconds."""
     return seconds(entry.song.milliseconds)

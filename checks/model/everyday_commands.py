@@ -1,4 +1,4 @@
-"""What the everyday profile adds to the commands, and where it changes them."""
+"""The commands that the everyday profile adds, and those that it changes."""
 from client_commands import idle, subsystem_names, tagtypes
 from commands import WrongNumber, everyday
 from filters import found, is_filter
@@ -22,17 +22,17 @@ def known_tag(word):
     return tag
 
 
-# Options at a command's end.
+# Options at the end of a command.
 
 def taken(arguments, option, least):
-    """The arguments without an option that ends them, and the option's value; so many words have to be left in front of it."""
+    """The arguments without the option at their end, and the option's value; at least so many words must be left in front of the option."""
     if len(arguments) >= least + 2 and arguments[-2] == option:
         return arguments[:-2], arguments[-1]
     return arguments, None
 
 
 class Selection:
-    """A filter, the order of what it finds, and which part of that is picked."""
+    """A filter, the order of the songs that it finds, and the part of them that is chosen."""
 
     def __init__(self, arguments):
         arguments, self.window = taken(arguments, 'window', 1)
@@ -41,7 +41,7 @@ class Selection:
             raise WrongNumber()
 
     def read_options(self):
-        """Reads the options' forms, from the left."""
+        """Reads the options, from left to right."""
         self.tag, self.falling = None, False
         if self.sort is not None:
             self.falling = self.sort.startswith('-')
@@ -121,7 +121,7 @@ def searchaddpl(speaker, name, wanted):
 # Lists and counts by tags.
 
 def list_words(arguments):
-    """A tag, a filter that may be missing, and groups."""
+    """A tag, perhaps a filter, and groups."""
     if not arguments:
         raise WrongNumber()
     tag_word, rest, groups = arguments[0], arguments[1:], []
@@ -143,7 +143,7 @@ def list_words(arguments):
 
 @everyday('list', read=list_words)
 def list_texts(speaker, tags, words):
-    """The texts of the first tag, for each combination of texts of the others; the last group comes first."""
+    """The texts of the first tag, for each combination of texts of the other tags; the last group is the outermost."""
     songs = meeting(speaker, words) if words else speaker.library.songs
     tags = tags[::-1]
     tuples = sorted({tuple(song.text(tag) for tag in tags) for song in songs})
@@ -177,7 +177,7 @@ def count(speaker, words, tag):
     return lines
 
 
-# Songs by their names.
+# Songs by their URIs.
 
 @everyday('listall', optional=[uri])
 def list_files(speaker, name=''):
@@ -232,7 +232,7 @@ def readcomments(speaker, name):
     song_named(speaker, name)
 
 
-# A client's tags.
+# The tags that a client sees.
 
 def tagtypes_words(arguments):
     if not arguments:
@@ -254,7 +254,7 @@ def choose_tags(speaker, action=None, chosen=()):
     return []
 
 
-# What there is, and what there is none of.
+# What the daemon has, and what it does not have.
 
 @everyday('stats')
 def stats(speaker):

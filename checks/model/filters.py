@@ -1,4 +1,4 @@
-"""Filters: how their texts are read, where a bad one goes wrong, and of which songs they hold."""
+"""Filters: how they are read, at which byte a bad one goes wrong, and which songs they accept."""
 import re
 
 from library import KNOWN_TAGS, TAGS, ascii_lower, lies_under, tag_named
@@ -12,7 +12,7 @@ def unknown_tag(word):
 
 
 def texts_named(word, everyday):
-    """What a filter's type reads of a song: `file`, `any`, `base` or a tag; None where there is no such type."""
+    """What the type in a filter refers to: `file`, `any`, `base` or a tag; None if there is no such type."""
     small = ascii_lower(word)
     if small in ('file', 'any', 'base'):
         return small
@@ -22,7 +22,7 @@ def texts_named(word, everyday):
 
 
 class Comparison:
-    """`type` stands in `relation` to `text`; of `any` one tag has to."""
+    """A text of the song has this relation to the given text; with the type `any`, at least one tag has it."""
 
     def __init__(self, kind, relation, text):
         self.kind, self.relation, self.text = kind, relation, text
@@ -42,7 +42,7 @@ class Comparison:
 
 
 class Base:
-    """The song lies in a folder."""
+    """The song is in a folder, or in one below it."""
 
     def __init__(self, folder):
         self.folder = folder
@@ -68,7 +68,7 @@ class All:
 
 
 class Reader:
-    """Reads a filter from the left. It goes wrong at the first character that no filter goes on with."""
+    """Reads a filter from left to right. It reports the first character with which no filter could go on."""
 
     def __init__(self, text, everyday):
         self.text, self.everyday = text, everyday
@@ -81,14 +81,14 @@ class Reader:
         return self.text[self.at:self.at + 1]
 
     def take(self, wanted):
-        """Reads these characters one by one."""
+        """Reads exactly these characters."""
         for character in wanted:
             if self.next() != character:
                 raise self.fault()
             self.at += 1
 
     def spaces(self):
-        """Reads spaces, and says how many."""
+        """Reads spaces, and returns how many there were."""
         begin = self.at
         while self.next() == ' ':
             self.at += 1
@@ -125,7 +125,7 @@ class Reader:
         return found
 
     def conjunction(self):
-        """Filters with AND between them, and the closing parenthesis."""
+        """Reads filters with AND between them, and the closing parenthesis."""
         members = [self.parenthesis()]
         while self.spaces() and self.next() != ')':
             self.take('AND')
@@ -156,7 +156,7 @@ class Reader:
         return Comparison(kind, relation, self.string())
 
     def string(self):
-        """A text in either kind of quotes; behind a backslash any character stands for itself."""
+        """Reads a text in either kind of quotes; after a backslash any character stands for itself."""
         quote = self.next()
         if quote not in ('"', "'") or not quote:
             raise self.fault()
@@ -174,7 +174,7 @@ class Reader:
 
 
 def filter_of(words, everyday, relation):
-    """The filter that these words are: one that begins with a parenthesis, or pairs, whose texts stand in this relation."""
+    """The filter that these words form: one in parentheses, or pairs of a type and a text, to which the given relation applies."""
     if words[0].startswith('('):
         return Reader(words[0], everyday).whole()
     members = []
@@ -187,14 +187,14 @@ def filter_of(words, everyday, relation):
 
 
 def found(songs, words, everyday, blind=False):
-    """Those of these songs that the filter holds of; `blind` is without case, and then pairs look for parts of texts."""
+    """Those of these songs that the filter accepts. If `blind`, case is ignored, and pairs look for parts of texts."""
     it = filter_of(words, everyday, 'contains' if blind else '==')
     fold = str.casefold if blind else str
     return [song for song in songs if it.holds(song, fold)]
 
 
 def is_filter(words):
-    """Whether so many words can be a filter."""
+    """Whether these can be the words of a filter, judged by their number."""
     if words and words[0].startswith('('):
         return len(words) == 1
     return len(words) >= 2 and len(words) % 2 == 0

@@ -1,4 +1,4 @@
-"""The generator of the random orders: PCG XSH RR 64/32, made from one number as Rust's rand_core does it."""
+"""The random generator for random play order: PCG XSH RR 64/32, seeded with one number in the same way as Rust's rand_core does."""
 
 MULTIPLIER = 6364136223846793005
 SEED_INCREMENT = 11634580027462260723
@@ -6,7 +6,7 @@ MASK = 2**64 - 1
 
 
 def output(state):
-    """32 bits of a state: the high bits are mixed, then rotated by the five topmost."""
+    """The 32 bits that a state gives: its high bits are mixed, and then rotated by the number in the five topmost bits."""
     mixed = (((state >> 18) ^ state) >> 27) & 0xFFFFFFFF
     turns = state >> 59
     return ((mixed >> turns) | (mixed << (32 - turns))) & 0xFFFFFFFF

@@ -1,7 +1,7 @@
-"""What random scripts are made of: for each topic the lines that begin it, and the forms of the lines that follow.
+"""What random scripts are made of: for each topic the lines with which it begins, and the forms of the lines that follow.
 
-In a form a word of capital letters is a value of that name (values.py), `a|b` one of several words, `?` behind a word says that it is
-often left out, `?` in front of a form that the whole line is, and a number there how much likelier it is than others."""
+In a form, a word in capital letters is replaced by a value of that name (values.py), and `a|b` by one of these words. A word with `?` at its end
+is often left out, and so is a whole line with `?` in front. A number in front of a form says how many times as likely it is as others."""
 
 TOPICS = {
     'queue': ("""
@@ -278,14 +278,14 @@ TOPICS = {
         deleteid ID"""),
 }
 ONLY_EVERYDAY = ('tags', 'selections', 'everyday')
-# Topics in which steps of the decoder are likely.
+# Topics in which steps of the decoder are frequent.
 SOUND = ('playing', 'modes', 'fades', 'partitions')
-# Topics in which more can go wrong are likelier.
+# Topics in which more can go wrong are chosen more often.
 LIKELY = {'playing': 3, 'modes': 3, 'fades': 4, 'partitions': 3, 'selections': 3, 'queue': 2, 'library': 2, 'stickers': 2, 'shelf': 2}
 
 
 def forms_of(text):
-    """The forms of a topic, each as often as it is likely."""
+    """The forms of a topic, each repeated as many times as its number says."""
     found = []
     for line in filter(None, map(str.strip, text.split('\n'))):
         count, _, form = line.partition(' ')

@@ -1,11 +1,11 @@
-"""Songs, the folders they lie in, and the lines that show a song."""
+"""Songs, the folders that they are in, and the lines that show a song."""
 from dataclasses import dataclass
 
 RATE = 8000
 TAGS = ('Title', 'Artist', 'Album', 'Date', 'Genre', 'Comment')
 LONGEST_TEXT = 1024
 
-# The names of the reference; only TAGS have texts of their own.
+# The tags that the reference names; songs have texts only for those in TAGS.
 KNOWN_TAGS = ('Artist', 'ArtistSort', 'Album', 'AlbumSort', 'AlbumArtist', 'AlbumArtistSort', 'Title', 'Track', 'Name', 'Genre', 'Date',
               'OriginalDate', 'Composer', 'ComposerSort', 'Performer', 'Conductor', 'Work', 'Ensemble', 'Movement', 'MovementNumber',
               'Location', 'Grouping', 'Comment', 'Disc', 'Label', 'MUSICBRAINZ_ARTISTID', 'MUSICBRAINZ_ALBUMID',
@@ -14,12 +14,12 @@ READ_AS = {'ArtistSort': 'Artist', 'AlbumArtist': 'Artist', 'AlbumArtistSort': '
 
 
 def ascii_lower(word):
-    """The word with its ASCII letters made small, and no others."""
+    """The word with its ASCII letters in lower case, and all others as they are."""
     return ''.join(it.lower() if it.isascii() else it for it in word)
 
 
 def tag_named(word, names=TAGS):
-    """The tag of this name in any ASCII case, as it is written in `names`, or None."""
+    """The tag of this name, in any ASCII case, as it is written in `names`; None if there is no such tag."""
     for name in names:
         if name.lower() == ascii_lower(word):
             return name
@@ -27,7 +27,7 @@ def tag_named(word, names=TAGS):
 
 
 def tag_text(value):
-    """A tag's text as a WAVE file would give it, or None where it is skipped."""
+    """A tag's text as it would be read from a WAVE file; None if it would be skipped."""
     value = value.partition('\0')[0]
     if not value or len(value.encode()) > LONGEST_TEXT or any(it < ' ' for it in value):
         return None
@@ -39,7 +39,7 @@ def seconds(milliseconds):
 
 
 def whole_seconds(milliseconds):
-    """A half counts as a second."""
+    """Rounds to whole seconds; a half is rounded up."""
     return (milliseconds + 500) // 1000
 
 
@@ -58,22 +58,22 @@ class Song:
         return milliseconds_of(self.frames)
 
     def text(self, tag):
-        """The text of a known tag, which is empty where the song has none."""
+        """The text of a known tag, which is empty if the song has none."""
         return dict(self.tags).get(READ_AS.get(tag, tag), '')
 
     def lines(self, shown=TAGS):
-        """The lines of the song, with those of its tags that are shown."""
+        """The lines that show the song, with only those of its tags that are in `shown`."""
         tags = ['%s: %s' % (tag, self.text(tag)) for tag in TAGS if tag in shown and self.text(tag)]
         return ['file: ' + self.uri, *tags, 'Time: %d' % whole_seconds(self.milliseconds), 'duration: ' + seconds(self.milliseconds)]
 
 
 def playtime(songs):
-    """How many whole seconds these songs last."""
+    """How many seconds these songs last together, rounded down."""
     return sum(song.milliseconds for song in songs) // 1000
 
 
 class Library:
-    """The songs that there are, in the byte order of their URIs, which is that of their characters."""
+    """All songs, in the byte order of their URIs, which is also the order of their characters."""
 
     def __init__(self, songs):
         self.songs = tuple(sorted(songs, key=lambda song: song.uri))
@@ -83,20 +83,20 @@ class Library:
         return self.by_uri.get(uri)
 
     def under(self, folder):
-        """All songs below a folder; the empty one is the whole library."""
+        """All songs below a folder; the empty name means the whole library."""
         return [song for song in self.songs if lies_under(song, folder)]
 
     def is_folder(self, uri):
         return not uri or bool(self.under(uri))
 
     def songs_of(self, uri):
-        """The song of this name, or the songs of the folder of this name; None where it is neither's."""
+        """The song of this name, or the songs of the folder of this name; None if there is neither."""
         if self.song(uri):
             return [self.song(uri)]
         return self.under(uri) if self.is_folder(uri) else None
 
     def direct(self, folder):
-        """The folders that lie directly in this one, and the songs that do."""
+        """The folders and the songs that are directly in this folder."""
         front = folder + '/' if folder else ''
         folders, songs = set(), []
         for song in self.under(folder):

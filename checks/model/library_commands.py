@@ -1,4 +1,4 @@
-"""Commands that look for songs, and the scan."""
+"""Commands that search for songs, and the scan."""
 from commands import WrongNumber, command
 from filters import found, is_filter
 from library import TAGS, playtime, tag_named
@@ -7,14 +7,14 @@ from words import NOT_THERE, UPDATING, Ack, bad_argument, uri, window
 
 
 def filter_words(arguments):
-    """Arguments that are a filter alone."""
+    """Reads arguments that are just a filter."""
     if not is_filter(arguments):
         raise WrongNumber()
     return [arguments]
 
 
 def filter_and_window(arguments):
-    """A filter, and perhaps a window behind it."""
+    """Reads a filter, and perhaps a window after it."""
     part = None
     if arguments[:1] and arguments[0].startswith('(') and len(arguments) == 3:
         if arguments[1] != 'window':
@@ -45,7 +45,7 @@ def meeting(speaker, words, blind=False):
 
 
 def cut(songs, part):
-    """Those songs that a window picks, of which there may be fewer."""
+    """The songs in a window, which may reach beyond the end."""
     return songs[part.start:part.end] if part else songs
 
 

@@ -1,4 +1,4 @@
-"""The order in which entries are played: modes, ranks, and what a random round has played."""
+"""The order in which entries are played: the modes, the ranks for random order, and what has been played in a random round."""
 from generator import Generator
 
 
@@ -11,7 +11,7 @@ class Order:
         self.played = []
 
     def added(self, entries):
-        """Each entry that is added draws a rank."""
+        """Gives each added entry a random rank."""
         for entry in entries:
             self.ranks[entry.id] = self.generator.word()
 
@@ -39,7 +39,7 @@ class Order:
         self.random = on
 
     def least_unplayed(self, entries):
-        """The entry that comes first of those that the round has not played, or None."""
+        """The first entry that has not been played in this round, or None."""
         unplayed = [entry for entry in entries if entry.id not in self.played]
         return min(unplayed, key=self.sort_key, default=None)
 
@@ -47,12 +47,12 @@ class Order:
         return -entry.priority, self.ranks[entry.id], entry.id
 
     def renew(self, entries):
-        """Begins a new round: nothing is played yet, and each entry draws a new rank."""
+        """Begins a new round: nothing has been played, and each entry gets a new random rank."""
         self.played = []
         self.added(entries)
 
     def foreseen(self, entries, place):
-        """The entry that follows where no new round is needed for it; without random the search begins at this place."""
+        """The entry that comes next, if no new round is needed for that. Without random order it is the one at this place."""
         if self.random:
             return self.least_unplayed(entries)
         if place < len(entries):
@@ -60,7 +60,7 @@ class Order:
         return entries[0] if self.repeat and entries else None
 
     def following(self, entries, place):
-        """The entry that follows, in a new round if the old one is over."""
+        """The entry that comes next, in a new round if the old one is over."""
         found = self.foreseen(entries, place)
         if found is None and self.random:
             self.renew(entries)
@@ -69,7 +69,7 @@ class Order:
         return found
 
     def first(self, entries):
-        """The entry that a stopped player without a current song begins with."""
+        """The entry with which a stopped player begins that has no current song."""
         if not self.random:
             return entries[0]
         if self.least_unplayed(entries) is None:
@@ -77,6 +77,6 @@ class Order:
         return self.least_unplayed(entries)
 
     def shuffle(self, queue, start, end):
-        """Mixes part of a queue: from its last place down to its second, each with one that is not behind it."""
+        """Shuffles a part of a queue: from its last place down to its second, each entry is swapped with one that is not after it."""
         for place in range(end - 1, start, -1):
             queue.swap(place, start + self.generator.word() % (place - start + 1))

@@ -1,4 +1,4 @@
-"""Commands that play, set modes and outputs, and show the player's state."""
+"""Commands that play, set modes, switch outputs, and show the player's state."""
 from commands import command
 from entries import span_of
 from library import RATE, seconds, whole_seconds
@@ -110,7 +110,7 @@ def entry_lines(speaker, entry, place_name, id_name):
 
 
 def time_lines(speaker):
-    """Where the player is in its song, unless it is stopped."""
+    """The lines about the player's position in its song, if it is not stopped."""
     player = speaker.player
     if player.state == 'stop':
         return []
@@ -153,7 +153,7 @@ def outputs(speaker):
 
 
 def set_output(speaker, output_number, wanted):
-    """Turns an output of the client's partition on or off, or, where neither is wanted, the other way."""
+    """Switches an output of the client's partition on or off; toggles it if `wanted` is None."""
     for output in speaker.world.outputs_of(speaker.client.partition):
         if output.number == output_number:
             on = not output.enabled if wanted is None else wanted

@@ -1,4 +1,4 @@
-"""The player of a partition: what is played, the decoder's jobs, and fades from one song into the next."""
+"""The player of a partition: what is played, the jobs for the decoder, and fades from one song into the next."""
 from dataclasses import dataclass
 
 from library import RATE, milliseconds_of
@@ -8,12 +8,12 @@ LARGEST_BLOCK = 1024
 
 
 class LimitReached(Exception):
-    """A number would go above its greatest value: the whole event is refused."""
+    """A number would exceed its limit, so the whole event is refused."""
 
 
 @dataclass
 class Job:
-    """Frames that the decoder was asked for, and, where they are part of a fade, the song that is mixed in."""
+    """Frames that the decoder was asked for, and, if they are part of a fade, the song that is mixed in."""
     number: int
     id: int
     start: int
@@ -42,7 +42,7 @@ class Player:
         self.fade_length = 0
         self.fade_given_up = False
 
-    # Numbers that rise, up to their limit.
+    # Numbers that grow, up to their limit.
 
     def one_more(self, number):
         if number >= self.greatest:
@@ -63,7 +63,7 @@ class Player:
         return milliseconds_of(self.at)
 
     def peek(self):
-        """The entry that the end of the current song would start, where no new round is needed."""
+        """The entry that will start at the end of the current song, if no new round is needed for that."""
         order, place = self.order, self.queue.place_of(self.current)
         if place is None or order.single == 'oneshot':
             return None
@@ -82,7 +82,7 @@ class Player:
     # Starts and stops.
 
     def forget_work(self):
-        """What was asked of the decoder is no longer wanted, and no fade goes on."""
+        """Forgets what the decoder was asked for, and ends a fade."""
         self.job = None
         self.partner, self.fade_length = None, 0
 
@@ -98,18 +98,18 @@ class Player:
         self.cut()
 
     def rest(self, keep=True):
-        """The player stops; its song stays current if it is still there."""
+        """Stops; the song stays the current one if it is still there."""
         self.state = 'stop'
         self.forget_work()
         if not keep or self.entry is None:
             self.current = None
 
     def take_out(self, start, end):
-        """Entries leave the queue, and with it the round."""
+        """Removes entries from the queue, and also from the round."""
         self.order.left(self.queue.remove(start, end))
 
     def consume(self):
-        """Removes the current song where the mode wants it, and says whether it did."""
+        """Removes the current song if the mode says so, and returns whether it did."""
         if self.order.consume == '0':
             return False
         place = self.queue.place_of(self.current)
@@ -119,7 +119,7 @@ class Player:
         return True
 
     def end_song(self, next_at=0):
-        """The natural end of the current song; what follows starts at this frame."""
+        """The current song has ended by itself; the next one starts at this frame."""
         place, entry = self.queue.place_of(self.current), self.entry
         consumed = self.consume()
         if self.order.single == 'oneshot':
@@ -197,7 +197,7 @@ class Player:
             self.state = 'play'
 
     def delete(self, start, end):
-        """Entries are deleted; where the current song is one of them, what comes behind it starts."""
+        """Deletes entries; if the current song is one of them, the one after them starts."""
         was_current = any(entry.id == self.current for entry in self.queue.entries[start:end])
         self.take_out(start, end)
         if not was_current:
@@ -235,7 +235,7 @@ class Player:
         return self.job
 
     def frames_before_fade(self, length):
-        """The frames up to where a fade would begin; where that is reached, its partner and its length are fixed."""
+        """How many frames are left before a fade begins. When the fade is reached, its partner and its length are fixed."""
         partner = self.peek()
         if not self.fade_seconds or self.fade_given_up or partner is None or partner.id == self.current:
             return length
@@ -251,11 +251,11 @@ class Player:
         self.fade_given_up = True
 
     def open_job(self, number):
-        """The job of this number, if its frames are still wanted."""
+        """The job with this number, if its frames are still wanted."""
         return self.job if self.job and self.job.open and self.job.number == number else None
 
     def have(self, number, frames):
-        """Takes frames of a job, and gives cut and volume for them; None where nobody wants them."""
+        """Takes the frames of a job, and returns the cut and the volume for them; None if they are no longer wanted."""
         job = self.open_job(number)
         if job is None or frames > job.count:
             return None
@@ -271,7 +271,7 @@ class Player:
         return fed
 
     def failed(self, number, partner):
-        """The song of a job cannot be decoded, or its partner cannot."""
+        """The song of a job cannot be decoded, or, if `partner`, the song that it fades into."""
         job = self.open_job(number)
         if job is None:
             return

@@ -1,4 +1,4 @@
-"""Running scripts: through a built program, or through a program that was not proved, of which many are run by one build."""
+"""Runs scripts, through a built program, or through one that was compiled without proofs; one build then runs many scripts."""
 import concurrent.futures
 import os
 import re
@@ -15,11 +15,11 @@ SECONDS_FOR_ONE = 60
 
 
 class NotRun(Exception):
-    """A script that the program did not run to its end."""
+    """The program did not run a script to its end."""
 
 
 class Built:
-    """A built program, whose word `script` reads a script."""
+    """A built program, which is called with `script`."""
 
     def __init__(self, path):
         self.path = os.path.abspath(path)
@@ -28,13 +28,13 @@ class Built:
         try:
             done = subprocess.run([self.path, 'script'], input=text, capture_output=True, timeout=SECONDS_FOR_ONE)
         except subprocess.TimeoutExpired:
-            raise NotRun('no end within %d seconds' % SECONDS_FOR_ONE) from None
+            raise NotRun('still running after %d seconds' % SECONDS_FOR_ONE) from None
         if done.returncode:
             raise NotRun('exit status %d: %s' % (done.returncode, done.stderr.decode('utf-8', 'backslashreplace')[-400:]))
         return done.stdout
 
     def run_all(self, texts):
-        """What each of these scripts prints, or the fault that it ended with, in their order."""
+        """What each of these scripts prints, or the fault with which it ended, in the same order."""
         with concurrent.futures.ThreadPoolExecutor(os.cpu_count()) as pool:
             return list(pool.map(self.run_or_fault, texts))
 
@@ -46,7 +46,7 @@ class Built:
 
 
 class Unproved:
-    """The program of this repository, built unproved by `rt try`, with all checks at run time. A build takes minutes, and is not
+    """The program of this repository, compiled without proofs by `rt try`, with all checks at run time. The build takes minutes and is not
     kept; each script takes seconds."""
 
     def run_all(self, texts):
@@ -76,6 +76,6 @@ class Unproved:
 
 
 def outputs_of_cases(printed):
-    """The output of each case, by the case's name: each stands behind a line `== NAME`."""
+    """The output of each case, by the case's name; it follows a line `== NAME`."""
     pieces = re.split(rb'^== (\d{6})\n', printed, flags=re.MULTILINE)
     return {name.decode(): output for name, output in zip(pieces[1::2], pieces[2::2])}

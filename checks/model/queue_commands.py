@@ -8,7 +8,7 @@ def no_such_song():
 
 
 def songs_named(speaker, name):
-    """The song or the folder's songs of this name."""
+    """The song of this name, or the songs of the folder of this name."""
     songs = speaker.library.songs_of(name)
     if songs is None:
         raise no_such_song()
@@ -23,7 +23,7 @@ def song_named(speaker, name):
 
 
 def place_of(speaker, where):
-    """The place that a position names; one with a sign is counted from the current song."""
+    """The place in the queue that a position means; a position with a sign is counted from the current song."""
     sign, count = where
     if sign:
         current = speaker.queue.place_of(speaker.player.current)
@@ -36,7 +36,7 @@ def place_of(speaker, where):
 
 
 def insert(speaker, songs, at=None):
-    """Puts songs into the queue, all or none, and gives the ids of their entries."""
+    """Inserts songs into the queue, either all or none, and returns the ids of their entries."""
     speaker.queue.room_for(len(songs))
     added = speaker.queue.insert(len(speaker.queue) if at is None else at, songs)
     speaker.order.added(added)
@@ -58,7 +58,7 @@ def known_id(speaker, entry_id):
 
 
 def whole(speaker, part):
-    """Where a range of the queue begins and ends; without a range it is the whole queue."""
+    """Where a range of the queue begins and ends; no range means the whole queue."""
     return part.within(len(speaker.queue)) if part else (0, len(speaker.queue))
 
 

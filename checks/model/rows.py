@@ -1,8 +1,8 @@
-"""The worked rows: how their files are read, and whether an output is what a row wants.
+"""Reads worked rows, and compares an output with what a row expects.
 
-    rows.py [FILE or FOLDER ...]     whether the model answers each row as it wants; without words, those of crates/worked_rows/data
+    rows.py [FILE or FOLDER ...]     checks that the model answers each row as it expects; by default those in crates/worked_rows/data
 
-Each row is run as it is and once more with each line in front that its head names (`again:`). No program is needed."""
+Each row is run as it is, and once more for each line `again:` in its head, with the line that this gives put in front. No program is needed."""
 import os
 import re
 import sys
@@ -17,13 +17,13 @@ ESCAPES = {b'r': b'\r', b't': b'\t', b'\\': b'\\'}
 
 
 def unescaped(line):
-    r"""A line of a row's `>e` or `<e`: with \r, \t, \\ and \xHH, and \{TEXT*N} for TEXT repeated N times."""
+    r"""A line that a row gives with `>e` or `<e`, its escapes replaced: \r, \t, \\, \xHH, and \{TEXT*N}, which is TEXT repeated N times."""
     line = re.sub(rb'\\\{(.*?)\*(\d+)\}', lambda it: it[1] * int(it[2]), line)
     return re.sub(rb'\\(?:x([0-9a-f]{2})|(.))', lambda it: bytes.fromhex(it[1].decode()) if it[1] else ESCAPES[it[2]], line)
 
 
 class Row:
-    """Input lines, each with what it has to print: pairs of a mark and a text."""
+    """The input lines of a row, each with what it must print, as pairs of a mark and a text."""
 
     def __init__(self, path):
         self.name = os.path.basename(path)
@@ -44,7 +44,7 @@ class Row:
         else:
             mark, _, text = line.partition(b' ')
             if mark not in (b'<', b'<e', b'<~', b'<!', b'<*') or not self.steps:
-                raise SystemExit('%s: a line of no kind: %r' % (self.name, line))
+                raise SystemExit('%s: this is not a line of a row: %r' % (self.name, line))
             self.steps[-1][1].append((b'<', unescaped(text)) if mark == b'<e' else (mark, text))
 
     def steps_behind(self, front):
@@ -52,7 +52,7 @@ class Row:
 
 
 class Difference(Exception):
-    """What an input line printed is not what its row wants."""
+    """What an input line printed is not what its row expects."""
 
     def __init__(self, line, wanted, printed):
         super().__init__(line, wanted, printed)
@@ -60,7 +60,7 @@ class Difference(Exception):
 
 
 def answer_length(line, printed):
-    """How many of these lines are the answer to an input line: up to the end of a client's answer, or one line of a step."""
+    """How many of these lines are the answer to an input line: those up to the end of a client's answer, or one line for a step."""
     speaker = line[:1]
     if not speaker.isdigit():
         return 1 if printed else 0
@@ -76,7 +76,7 @@ def has_in_order(answer, wanted):
 
 
 def rest_behind(line, wants, printed):
-    """The lines that are left behind those that the wants name, which are all exact, or all about one answer."""
+    """The lines that are left after those that `wants` describes. Either all of `wants` are exact lines, or all are about one answer."""
     if wants[0][0] == b'<':
         exact = [text for _, text in wants]
         if printed[:len(exact)] != exact:
@@ -96,7 +96,7 @@ def rest_behind(line, wants, printed):
 
 
 def behind(line, wants, printed):
-    """The lines that are left behind what a line printed; raises the difference between that and what is wanted of it."""
+    """The lines that are left after what an input line printed; raises a Difference if this is not what the row expects."""
     groups = []
     for want in wants:
         if groups and (groups[-1][-1][0] == b'<') == (want[0] == b'<'):
@@ -110,13 +110,13 @@ def behind(line, wants, printed):
 
 
 def compare(line, wants, printed):
-    """Raises the difference between what a line printed, which is all of these lines, and what is wanted of it."""
+    """Raises a Difference if these lines, which are all that an input line printed, are not what the row expects."""
     if behind(line, wants, printed):
         raise Difference(line, [text for _, text in wants], printed)
 
 
 def model_pieces(lines):
-    """What the model prints for each of these lines; its run ends at one that is too long."""
+    """What the model prints for each of these lines; a line that is too long ends the script."""
     script = Script()
     for line in lines:
         yield script.run(line + b'\n').split(b'\n')[:-1]
@@ -151,7 +151,7 @@ def files_of(places):
 
 
 def check_all(places):
-    """Prints each difference, and gives how many runs of rows there were and how many differed."""
+    """Prints each difference, and returns how many runs of rows there were, and how many of them differed."""
     runs = differed = 0
     for path in files_of(places):
         row = Row(path)
@@ -161,7 +161,7 @@ def check_all(places):
             if difference:
                 differed += 1
                 print('%s%s' % (row.name, ', with %s in front' % front.decode() if front else ''))
-                for title, lines in (('line', [difference.line]), ('wanted', difference.wanted), ('printed', difference.printed)):
+                for title, lines in (('line', [difference.line]), ('expected', difference.wanted), ('printed', difference.printed)):
                     print('  ' + title)
                     show(lines)
     return runs, differed
@@ -169,7 +169,7 @@ def check_all(places):
 
 def main(places):
     runs, differed = check_all(places or [WORKED])
-    print('%d runs of rows agree, %d differ' % (runs - differed, differed))
+    print('worked rows: %d runs agree, %d differ' % (runs - differed, differed))
     return 1 if differed else 0
 
 

@@ -1,4 +1,4 @@
-"""A script: numbered lines of clients, and steps that stand for the scanner, the decoder and the output."""
+"""A script: lines of clients, each with the client's number, and steps in place of the scanner, the decoder and the output."""
 from daemon import Daemon
 from library import TAGS, Song, tag_named, tag_text
 from player import LimitReached
@@ -13,7 +13,7 @@ LIST_BEGINS = {'command_list_begin': False, 'command_list_ok_begin': True}
 
 
 class Bad(Exception):
-    """A line of the script that is no client's line and no step."""
+    """A line of the script that is neither a client's line nor a step."""
 
 
 class OpenList:
@@ -38,7 +38,7 @@ class Script:
         self.lists = {}
 
     def run(self, text):
-        """What is printed for the bytes of a whole script."""
+        """What is printed for a whole script, given as bytes."""
         printed = []
         *lines, rest = text.split(b'\n')
         for line in lines:
@@ -80,7 +80,7 @@ class Script:
         return front + ['%d %s' % (number_of_client, it) for it in lines] + notice_lines(notices)
 
     def said(self, speaker, line):
-        """The lines of the answer, and the notices of others."""
+        """The lines of the answer, and the notices to other clients."""
         word = line.strip(' \t')
         opened = self.lists.get(speaker)
         if opened is None and word in LIST_BEGINS:
@@ -100,7 +100,7 @@ class Script:
         return [], {}
 
     def run_list(self, speaker, opened):
-        """Runs lines up to the first that is refused, or that closes the client."""
+        """Runs the lines, up to the first that is refused or that closes the client's connection."""
         lines, notices = [], {}
         for place, line in enumerate(opened.lines):
             answer, told = self.daemon.line(speaker, line, in_list=True)
@@ -168,7 +168,7 @@ class Script:
         return []
 
     def printed_step(self, act):
-        """Runs a step as one event: the line that `act` gives, then notices."""
+        """Runs a step as one event, and returns the line that `act` gives, followed by the notices."""
         try:
             line, notices = self.daemon.event(act)
         except LimitReached:
@@ -248,5 +248,5 @@ def fed_line(fed):
 
 
 def answer_of(text):
-    """What the model prints for the bytes of a script."""
+    """What the model prints for a script, given as bytes."""
     return Script().run(text)

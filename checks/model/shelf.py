@@ -1,4 +1,4 @@
-"""The shelf: stored playlists, and stickers of songs and of stored playlists."""
+"""The shelf, which is the store of playlists, and of stickers of songs and of stored playlists."""
 from words import EXISTS, FULL, NOT_THERE, Ack, bad_name
 
 LONGEST_LIST = 16384
@@ -6,7 +6,7 @@ LONGEST_NAME = 255
 
 
 def list_name(word):
-    """The name of a stored playlist."""
+    """A name of a stored playlist, or a refusal."""
     if not 1 <= len(word.encode()) <= LONGEST_NAME or '/' in word or any(it < ' ' for it in word):
         raise bad_name(word)
     return word
@@ -38,7 +38,7 @@ class Shelf:
         self.lists[name] = tuple(uris)
 
     def append(self, name, uris):
-        """Adds to a list, which is made where it is not there."""
+        """Adds songs to a list, which is made if it does not exist."""
         longer = self.lists.get(name, ()) + tuple(uris)
         if len(longer) > LONGEST_LIST:
             raise Ack(FULL, 'playlist is full')
@@ -48,7 +48,7 @@ class Shelf:
         self.lists[name] = tuple(uris)
 
     def rename(self, name, new):
-        """A list gets another name, and takes its stickers along."""
+        """Renames a list; its stickers go with it."""
         self.list(name)
         if new in self.lists:
             raise Ack(EXISTS, 'playlist exists')
@@ -58,13 +58,13 @@ class Shelf:
                 self.stickers[kind, new, sticker] = self.stickers.pop((kind, target, sticker))
 
     def remove(self, name):
-        """A list goes, and its stickers with it."""
+        """Removes a list, and its stickers."""
         self.list(name)
         del self.lists[name]
         self.drop_stickers('playlist', name)
 
     def stickers_of(self, kind, target):
-        """Names and values of a target's stickers, by name."""
+        """The names and values of a target's stickers, in the order of the names."""
         return sorted((name, value) for (a, b, name), value in self.stickers.items() if (a, b) == (kind, target))
 
     def drop_stickers(self, kind, target):

@@ -1,4 +1,4 @@
-"""Commands on stored playlists and stickers."""
+"""Commands for stored playlists and stickers."""
 from commands import WrongNumber, command
 from queue_commands import insert, no_such_song, song_named, songs_named
 from shelf import list_name, no_such_playlist, sticker_name
@@ -11,7 +11,7 @@ def save(speaker, name):
 
 
 def listed_songs(speaker, uris):
-    """Those songs of a stored playlist that the library has."""
+    """Those songs of a stored playlist that are in the library."""
     return [song for song in map(speaker.library.song, uris) if song]
 
 
@@ -59,7 +59,7 @@ def rm(speaker, name):
 
 
 def entry_taken(uris, place):
-    """A stored playlist without the entry at a place, and that entry."""
+    """A stored playlist without the entry at a place, and the entry that was there."""
     if place >= len(uris):
         raise bad_index()
     return list(uris[:place] + uris[place + 1:]), uris[place]
@@ -87,7 +87,7 @@ def rename(speaker, name, new):
     speaker.shelf.rename(name, list_name(new))
 
 
-# Stickers. What is done, and the numbers of arguments that it has.
+# Stickers: each action, and how many arguments it may have.
 STICKER_ARGUMENTS = {'get': (4,), 'set': (5,), 'delete': (3, 4), 'list': (3,), 'find': (4, 6)}
 
 
@@ -103,7 +103,7 @@ def sticker_words(arguments):
 
 
 def sticker_target(speaker, kind, name):
-    """The song or the stored playlist that a sticker is of."""
+    """The song or the stored playlist that a sticker belongs to."""
     if kind == 'song':
         return song_named(speaker, uri(name)).uri
     speaker.shelf.list(list_name(name))
@@ -134,7 +134,7 @@ def sticker(speaker, action, kind, name, *rest):
 
 
 def sticker_targets(speaker, kind, name):
-    """All that a search for stickers looks at."""
+    """The songs or playlists whose stickers are searched."""
     if kind == 'song':
         songs = speaker.library.songs_of(uri(name))
         if songs is None:

@@ -1,6 +1,6 @@
-"""Values for random scripts: places, ids, URIs, filters and names that mostly mean something where they stand.
+"""Values for random scripts: places, ids, URIs, filters and names, most of which make sense in the script so far.
 
-Each method with a name in capital letters draws a value of that name, which is a word or several."""
+Each method whose name is in capital letters draws a random value of that name, which is one word or several."""
 from library import KNOWN_TAGS, TAGS
 from world import SUBSYSTEMS
 
@@ -15,7 +15,7 @@ STICKER_NAMES = ['r', 'r', 'q']
 
 
 def quoted(rng, word):
-    """The word as a line has it: in quotes where it needs them, and sometimes where it does not."""
+    """The word as it is written in a line: in quotes if it needs them, and sometimes even if it does not."""
     needs = not word or any(it in '"\' \t' or it < ' ' for it in word)
     if needs or rng.random() < 0.04:
         return '"%s"' % word.replace('\\', '\\\\').replace('"', '\\"')
@@ -23,12 +23,12 @@ def quoted(rng, word):
 
 
 class Values:
-    """Draws values for a client, looking at the model that has run the script so far."""
+    """Draws values for a client; for this it looks at the model, which has run the script so far."""
 
     def __init__(self, rng, script):
         self.rng, self.script = rng, script
         self.me = 1
-        # Few texts and tags in one script, so that songs share them.
+        # One script uses few texts and tags, so that several songs have the same ones.
         self.texts = rng.sample(TEXTS, 4)
         self.tags = rng.sample(TAGS, 3)
 
@@ -47,7 +47,7 @@ class Values:
         return self.rng.random() < likely
 
     def partition(self):
-        """The partition that the client is in, or None where there is no player yet."""
+        """The partition that the client is in; None if there is no player yet."""
         if self.world is None:
             return None
         client = self.world.clients.get(self.me)
@@ -57,7 +57,7 @@ class Values:
         return self.partition().queue if self.world else None
 
     def current(self):
-        """The place of the current song, or None."""
+        """The place of the current song in the queue, or None."""
         return self.queue().place_of(self.partition().player.current) if self.world else None
 
     def length(self):
@@ -83,7 +83,7 @@ class Values:
         return str(self.rng.choice(queue.entries).id)
 
     def NEXT_ID(self):
-        """The id of what is played next, if something is."""
+        """The id of the entry that will be played next, if there is one."""
         following = self.partition().player.peek() if self.world else None
         return str(following.id) if following else self.ID()
 
@@ -143,7 +143,7 @@ class Values:
         return self.pick(*self.texts, *self.texts, self.rng.choice(TEXTS), '', 'a.wav', 'd', 'd/x.wav', 'd/', 'wav')
 
     def string(self):
-        """A text as a filter has it."""
+        """A text as it is written in a filter."""
         quote = self.pick('"', "'")
         return quote + ''.join('\\' + it if it in '"\'\\' or self.chance(0.02) else it for it in self.TEXT()) + quote
 
@@ -151,7 +151,7 @@ class Values:
         return ' ' * self.pick(least, least, least, 1, 1, 2)
 
     def expression(self, depth=0):
-        """A filter's text, in parentheses."""
+        """A filter in parentheses."""
         which = self.rng.random()
         if depth < 3 and which < 0.2:
             inner = '!' + self.expression(depth + 1)
@@ -166,7 +166,7 @@ class Values:
         return '(%s)' % inner
 
     def broken(self, text):
-        """The text with one character lost, put in or changed, or with its end lost."""
+        """The text with one character removed, inserted or changed, or without its end."""
         at = self.rng.randrange(len(text) + 1)
         quotes = [place + 1 for place, it in enumerate(text) if it in '"\'\\']
         if quotes and self.chance(0.5):
@@ -197,11 +197,11 @@ class Values:
         return ['position', self.POSITION()]
 
     def OPTIONS(self):
-        """Options in any order."""
+        """One or two options, in any order."""
         chosen = self.rng.sample([self.SORT, self.WINDOW, self.GROUP, self.AT], self.pick(1, 2))
         return [word for option in chosen for word in option()]
 
-    # The shelf.
+    # Stored playlists and stickers.
 
     def LIST(self):
         known = list(self.world.shelf.lists) if self.world else []
@@ -228,7 +228,7 @@ class Values:
         return self.pick('get', 'get', 'delete')
 
     def STICKER_TARGET(self):
-        """What a sticker is of, mostly of one that there is."""
+        """The target of a sticker, mostly of one that exists."""
         stickers = list(self.world.shelf.stickers) if self.world else []
         if stickers and self.chance(0.7):
             return list(self.rng.choice(stickers)[:2])
@@ -255,7 +255,7 @@ class Values:
         return self.rng.choice(ODD_WORDS)
 
     def BROKEN(self):
-        """A line whose words may be hard to tell apart, as one word that is not put in quotes."""
+        """A line whose words may be hard to separate, as one word that is not put in quotes."""
         return [self.broken(self.pick('add "a.wav"', '"add" a.wav', 'find artist "x y"', "add 'a", 'add "a\\"b" "', 'ping "" x'))]
 
     def MANY_WORDS(self):

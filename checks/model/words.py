@@ -1,7 +1,7 @@
-"""Words of a line, refusals, and the forms that single arguments have."""
+"""The words of a line, refusals, and the forms of single arguments."""
 import re
 
-# The error numbers of the protocol that this daemon answers with.
+# Those error numbers of the protocol that this daemon uses.
 ARGUMENT, PERMISSION, UNKNOWN, NOT_THERE, FULL, SYSTEM, UPDATING, SYNC, EXISTS = 2, 4, 5, 50, 51, 52, 54, 55, 56
 
 GREATEST_NUMBER = 4294967295
@@ -17,7 +17,7 @@ class Ack(Exception):
 
 
 class NoCommand(Ack):
-    """A refusal that names no command: the line's words cannot be told apart, or there is no such command."""
+    """A refusal that names no command: the words of the line cannot be separated, or there is no such command."""
 
 
 def unreadable(text):
@@ -37,7 +37,7 @@ def bad_index():
 
 
 def words_of(line):
-    """The words of a line; the first fault from the left is raised."""
+    """The words of a line; raises a refusal for the first fault from the left."""
     words, at = [], 0
     while True:
         while at < len(line) and line[at] in ' \t':
@@ -51,7 +51,7 @@ def words_of(line):
 
 
 def bare_word(line, at):
-    """A word without quotes that begins here, and the place behind it."""
+    """The word without quotes that begins here, and the place after it."""
     begin = at
     while at < len(line) and line[at] not in ' \t':
         if line[at] in '"\'' or line[at] < ' ':
@@ -61,7 +61,7 @@ def bare_word(line, at):
 
 
 def quoted_word(line, at):
-    """A word whose opening quote stands in front of this place, and the place behind its closing quote."""
+    """The word whose opening quote is just before this place, and the place after its closing quote."""
     word = []
     while at < len(line) and line[at] != '"':
         if line[at] == '\\':
@@ -96,7 +96,7 @@ def number(word):
 
 
 def number_up_to(greatest):
-    """The form of a number that is not above this one."""
+    """The form of a number up to this one."""
     def form(word):
         value = number(word)
         if value > greatest:
@@ -124,12 +124,12 @@ def text(word):
 
 
 def uri(word):
-    """A URI loses one slash at its end."""
+    """The form of a URI: one slash at its end is removed."""
     return word[:-1] if word.endswith('/') else word
 
 
 class Range:
-    """Places from `start` up to `end`, which is None where the range is open; or one place alone."""
+    """The places from `start` to before `end`, which is None for an open range; or a single place."""
 
     def __init__(self, start, end, lone):
         self.start, self.end, self.lone = start, end, lone
@@ -143,7 +143,7 @@ class Range:
 
 
 def span(word):
-    """The form of a place or a range."""
+    """The form of a single place or a range."""
     start, colon, end = word.partition(':')
     first = number_or_none(start)
     last = number_or_none(end) if end else None
@@ -161,7 +161,7 @@ def window(word):
 
 
 def milliseconds(word):
-    """The form of a time: seconds, of whose decimals three are kept."""
+    """The form of a time in seconds, of which three decimals are kept."""
     found = re.fullmatch(r'([0-9]{1,9})(?:\.([0-9]+))?', word)
     if not found:
         raise bad_argument(word)
@@ -169,7 +169,7 @@ def milliseconds(word):
 
 
 def signed(form):
-    """The form of a sign, which may be missing, and of what follows it."""
+    """The form of an optional sign, and of what follows it."""
     def read(word):
         sign = word[:1] if word[:1] in ('+', '-') else ''
         try:
@@ -179,5 +179,5 @@ def signed(form):
     return read
 
 
-# A place in the queue, or one that is counted from the current song.
+# A place in the queue, counted from its beginning, or with a sign from the current song.
 position = signed(number)

@@ -1,4 +1,4 @@
-"""Everything that the clients of a daemon share, and what of it each subsystem of `idle` stands for."""
+"""Everything that the clients of a daemon share, and which part of it each subsystem of `idle` is about."""
 from entries import Queue
 from library import Library
 from player import LimitReached, Player
@@ -11,7 +11,7 @@ SEED = 0
 
 
 class Partition:
-    """A queue and the player of it."""
+    """A queue, and its player."""
 
     def __init__(self, name, limits):
         self.name = name
@@ -65,12 +65,12 @@ class World:
         return [client for _, client in sorted(self.clients.items()) if client.partition == name]
 
     def shared_parts(self):
-        """What the subsystems stand for that all partitions have in common."""
+        """What those subsystems are about that all partitions share."""
         return {'database': self.library.songs, 'update': self.scan is not None, 'stored_playlist': dict(self.shelf.lists),
                 'sticker': dict(self.shelf.stickers), 'partition': sorted(self.partitions)}
 
     def parts_of(self, name):
-        """What the other subsystems stand for in a partition; messages are each client's own."""
+        """What the other subsystems are about in a partition. Messages are not here, since each client has its own."""
         partition = self.partitions[name]
         player, order = partition.player, partition.player.order
         return {'playlist': list(partition.queue.entries),

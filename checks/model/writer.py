@@ -1,14 +1,14 @@
-"""Writes random scripts: from a seed, lines that are mostly right, in an order that mostly means something.
+"""Writes random scripts from seeds: most lines are correct, and their order mostly makes sense.
 
-The model runs along, so that a line can name the places, ids and jobs that there are. A script has a few topics; of its lines some are
-spoiled, and it ends with questions that show what is left of it."""
+The model runs the script while it is written, so that a line can name places, ids and jobs that exist. A script has a few topics. Some of its
+lines are spoiled, and at its end questions show the state that is left."""
 import random
 
 from grammar import FORMS, LIKELY, ONLY_EVERYDAY, OPENINGS, SOUND, TOPICS
 from script import Script
 from values import FRAMES, SONGS, Values, quoted
 
-# How likely each limit is, for topics that come near it and for others, and which values it is given.
+# For each limit: how likely it is in a script with one of these topics (in others it is rare), and the range of its values.
 LIMITS = {'max_queue': (0.1, ('queue', 'selections', 'everyday'), (1, 7)), 'max_version': (0.2, ('queue',), (1, 6)),
           'max_id': (0.07, ('queue',), (1, 9)), 'max_cut': (0.12, ('playing', 'modes', 'fades', 'partitions'), (1, 6)),
           'history': (0.1, tuple(TOPICS), (1, 3))}
@@ -39,7 +39,7 @@ class Writer:
         return self.rng.choice(choices)
 
     def some_topics(self, count):
-        """So many topics, or one less; with the everyday profile one of its own."""
+        """So many topics, or fewer if one is drawn twice; with the everyday profile often one more that only this profile has."""
         drawn = [self.rng.choice(ONLY_EVERYDAY)] if self.wants_everyday and self.chance(0.7) else []
         topics = [topic for topic in TOPICS if self.wants_everyday or topic not in ONLY_EVERYDAY]
         drawn += self.rng.choices(topics, [LIKELY.get(topic, 1) for topic in topics], k=count)
@@ -88,7 +88,7 @@ class Writer:
     # Lines of clients.
 
     def words_of(self, form):
-        """The words of a form, its values drawn; none where all of it is left out."""
+        """The words of a form, with random values; no words if the whole line is left out."""
         words = []
         if form.startswith('? '):
             form = '' if self.chance(0.6) else form[2:]
@@ -101,7 +101,7 @@ class Writer:
         return ['' if word == '""' else word for word in words]
 
     def speaker(self):
-        """A client; one that waits is seldom made to speak."""
+        """A client; one that waits in `idle` is seldom chosen."""
         speaker = self.rng.randint(1, self.clients)
         client = self.script.daemon.world.clients.get(speaker) if self.script.daemon else None
         return self.rng.randint(1, self.clients) if client and client.waits and self.chance(0.8) else speaker
@@ -134,7 +134,7 @@ class Writer:
             self.say('%d %s' % (speaker, line) if line else str(speaker))
 
     def spoiled(self, words):
-        """Words with one too many, one too few, or one that is odd."""
+        """The words with an odd one added, with one removed, or with one replaced by an odd one."""
         at = self.rng.randrange(len(words))
         odd = self.value.ODD()
         return self.pick(words + [odd], words[:at] + words[at + 1:], words[:at] + [odd] + words[at + 1:])
@@ -156,7 +156,7 @@ class Writer:
         return self.say(front + self.decoder_step(name, partitions[name].player))
 
     def decoder_step(self, name, player):
-        """Mostly what comes next: a want, or the frames of the job that is open; sometimes those of one that nobody wants any more."""
+        """Mostly the step that comes next: a `want`, or a `have` for the open job; sometimes a `have` for a job that is no longer wanted."""
         job = player.job
         if job is None and player.jobs and self.chance(0.25):
             return self.pick('have %d %d' % (player.jobs, self.counts.get(name, 4)), 'failed %d' % player.jobs)
@@ -183,7 +183,7 @@ class Writer:
     # The end.
 
     def ask(self):
-        """Questions that show the state that is left: of one client, or of two."""
+        """Questions that show the state that is left, from one client or two."""
         asked = self.rng.sample(range(1, self.clients + 1), min(2, self.clients))
         me = self.value.me = asked[0]
         if me in self.script.lists:
@@ -195,5 +195,5 @@ class Writer:
 
 
 def script_of(seed, most_lines=MOST_LINES):
-    """The script of a seed, always the same."""
+    """The script of a seed; it is always the same."""
     return Writer(seed, most_lines).write()

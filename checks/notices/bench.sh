@@ -1,8 +1,8 @@
 #!/bin/sh
-# Prints microseconds of a change that is told to clients that wait in `idle`, and of their next `idle`s, and the lines of
-# `ping` a second that a player reads and answers while 1 or 60 clients are connected; best of five.
-# Usage: bench.sh [ROOT]     (ROOT is the repository's top folder; two folders up from here if left out)
-# It builds on a copy in a temporary folder. What the crates have proved is copied along; the rest is proved there first.
+# Measures microseconds of a change that is reported to clients waiting in `idle`, and of their next `idle`s; and how many lines
+# with `ping` a player reads and answers in a second while 1 or 60 clients are connected. Each figure is the best of five.
+# Usage: bench.sh [ROOT]     (ROOT is the top folder of the repository; by default the one that this script is in)
+# The program is built in a temporary copy of the crates, together with what is proved already; the rest is proved there first.
 set -eu
 here=$(cd "$(dirname "$0")" && pwd)
 root=$(cd "${1:-$here/../..}" && pwd)
@@ -20,7 +20,7 @@ grep -E '^notices [0-9]+ [0-9]+ [0-9]+ [0-9]+ [0-9]+$' "$work/ours.log" | awk '
         if ($6 != $2 * $3) all[$2] = "NO"
     }
     END {
-        printf "%-8s %14s %19s %9s %14s %12s  %s\n", "clients", "us a change", "us more a client", "wanted", "us, all idle", "us an idle", "all told"
+        printf "%-8s %14s %19s %9s %14s %12s  %s\n", "clients", "us a change", "us more a client", "target", "us, all idle", "us an idle", "all got it"
         for (i = 1; i <= count; i++) {
             n = rows[i]
             if (n == 0) printf "%-8d %14.2f %19s %9s %14s %12s  %s\n", n, best[n], "-", "-", "-", "-", all[n]

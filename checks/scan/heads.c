@@ -1,5 +1,5 @@
-/* Reads the heads of all files under a folder whose names end in .wav: 4,096 bytes of each, and the sizes of their chunks.
- * Prints how many files have a format and data. It is what a scan is compared with. */
+/* Reads the heads of all files below a folder whose names end in .wav: 4,096 bytes of each, and the sizes of the chunks in them.
+ * Prints how many files have a format and data. The daemon's scan is compared with this. */
 #define _GNU_SOURCE
 #include <dirent.h>
 #include <fcntl.h>

@@ -1,12 +1,13 @@
 #!/usr/bin/env python3
-"""Scans folders with what a test in the gate cannot make, and times a scan.
+"""Scans folders with contents that a test in the gate cannot make, and measures how long a scan takes.
 
-    run.py [ROOT]     (ROOT is the repository's top folder; two folders up from here if left out)
+    run.py [ROOT]     (ROOT is the top folder of the repository; by default the one that this script is in)
 
-Names that are not UTF-8, a FIFO, a socket and a device with names of songs, files and folders without permission (as another
-user where this one is root), each allocation refused in turn, each read failing in turn; system calls of each file (where
-strace is there); 5,000 files of 100 kB beside a reader of heads in C and beside find. It builds on a copy in a temporary
-folder; what the crates have proved is copied along. The exit status is 1 where a scan is wrong; times are printed alone.
+It tries: names that are not UTF-8; a FIFO, a socket and a device that are named like songs; files and folders without permission to read them
+(as another user, if this one is root); each allocation refused in turn; each read failing in turn. It counts the system calls for each file, if
+strace is installed, and measures a scan of 5,000 files of 100 kB, compared with a C program that reads the heads of the files, and with find.
+The program is built in a temporary copy of the crates, together with what is proved already. The exit status is 1 if a scan is wrong; times are
+only printed.
 """
 import os
 import shutil
@@ -29,7 +30,7 @@ FILES, SIZE = 5000, 100000
 
 
 def wave(size, rate=8000):
-    """A file of one channel of 16 bits with so many bytes of data."""
+    """A WAVE file with one channel of 16 bits, and so many bytes of data."""
     form = struct.pack('<HHIIHH', 1, 1, rate, 2 * rate, 2, 16)
     return b'RIFF' + struct.pack('<I', 36 + size) + b'WAVEfmt ' + struct.pack('<I', 16) + form + b'data' + struct.pack('<I', size) + bytes(size)
 
@@ -63,7 +64,7 @@ def compare(what, told, wanted):
     if told == (0, wanted):
         print('right: ' + what)
         return 0
-    print('WRONG: %s: %r, and not %r' % (what, told, wanted))
+    print('WRONG: %s: %r, expected %r' % (what, told, wanted))
     return 1
 
 
@@ -81,7 +82,7 @@ def odd_names(program, folder):
     os.symlink('/dev/zero', os.path.join(folder, 'zero.wav'))
     listener = socket.socket(socket.AF_UNIX)
     listener.bind(os.path.join(folder, 'socket.wav'))
-    wrong = compare('names that are no text, FIFO, socket, device', scanned(program, folder), 'a.wav=1\nz\u00fc.wav=3\n\x7f.wav=2\n')
+    wrong = compare('names that are not UTF-8, FIFO, socket, device', scanned(program, folder), 'a.wav=1\nz\u00fc.wav=3\n\x7f.wav=2\n')
     listener.close()
     return wrong
 
@@ -98,7 +99,7 @@ def permissions(program, folder):
     user = NOBODY if os.getuid() == 0 else None
     if user is None:
         os.chmod(os.path.join(folder, 'names'), 0o444)
-    wrong = compare('without permission', scanned(program, folder, user=user), 'a.wav=1\nclosed.wav:ReadFault\nnames/x.wav:ReadFault\n')
+    wrong = compare('files and folders without permission', scanned(program, folder, user=user), 'a.wav=1\nclosed.wav:ReadFault\nnames/x.wav:ReadFault\n')
     wrong += compare('a folder that cannot be listed', scanned(program, os.path.join(folder, 'shut'), user=user), 'NoFolder\n')
     for name in ('shut', 'names'):
         os.chmod(os.path.join(folder, name), 0o755)
@@ -134,9 +135,9 @@ def faults(program, folder, library):
 
 
 def calls(program, folder):
-    """How many system calls each file takes beyond open and close."""
+    """How many system calls each file takes, apart from open and close."""
     if not shutil.which('strace'):
-        print('no strace: system calls were not counted')
+        print('strace is not installed: system calls were not counted')
         return 0
     for number in range(1000):
         put(folder, '%03d.wav' % number, wave(50000))
@@ -144,7 +145,7 @@ def calls(program, folder):
     subprocess.run(['strace', '-f', '-o', trace, program, folder], capture_output=True, check=True)
     names = [line.split(None, 1)[1].split('(')[0] for line in open(trace, errors='replace')]
     each = sum(name in ('statx', 'newfstatat', 'stat', 'lseek', 'read', 'pread64', 'fstat') for name in names) / 1000
-    print('system calls of a file beyond open and close: %.2f' % each)
+    print('system calls for each file, apart from open and close: %.2f' % each)
     return 0 if each <= 4.1 else 1
 
 

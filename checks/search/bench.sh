@@ -1,8 +1,8 @@
 #!/bin/sh
-# Prints microseconds of what is asked of a library of 100,000 songs with three tags each, in 100 folders, beside wanted times;
-# then the most memory that the program held, for each song beyond the bytes of its texts (its URI, and what its tags hold).
-# Usage: bench.sh [ROOT]     (ROOT is the repository's top folder; two folders up from here if left out)
-# It builds on a copy in a temporary folder. What the crates have proved is copied along; the rest is proved there first.
+# Measures microseconds of questions to a library of 100,000 songs with three tags each, in 100 folders, next to the targets; and
+# the most memory that the program used, as bytes for each song in addition to its texts (its URI and its tags).
+# Usage: bench.sh [ROOT]     (ROOT is the top folder of the repository; by default the one that this script is in)
+# The program is built in a temporary copy of the crates, together with what is proved already; the rest is proved there first.
 set -eu
 here=$(cd "$(dirname "$0")" && pwd)
 root=$(cd "${1:-$here/../..}" && pwd)
@@ -18,7 +18,7 @@ texts = len('000/000000.wav') + len('Title 000000') + len('Artist 00') + len('Al
 print('memory', resource.getrusage(resource.RUSAGE_CHILDREN).ru_maxrss * 1024 // 100000 - texts)
 END
 awk '
-    BEGIN { wanted["artist"] = 3000; wanted["any"] = 60000; wanted["albums"] = 40000; printf "%-8s %12s %12s %8s\n", "", "microseconds", "wanted", "answer" }
-    $1 == "memory" { printf "\n%d bytes for each song beyond its texts (wanted: 200 or less)\n", $2; next }
+    BEGIN { wanted["artist"] = 3000; wanted["any"] = 60000; wanted["albums"] = 40000; printf "%-8s %12s %12s %8s\n", "", "microseconds", "target", "answer" }
+    $1 == "memory" { printf "\n%d bytes for each song in addition to its texts (target: 200 or less)\n", $2; next }
     { printf "%-8s %12d %12s %8d\n", $1, $2, wanted[$1], $3 }
 ' "$work/told"

@@ -1,11 +1,12 @@
 #!/usr/bin/env python3
-"""The daemon beside MPD on the same folder: round trips, long answers, lists, notices, memory; and while they play.
+"""Compares the daemon with MPD on the same folder of music: round trips, long answers, command lists, `idle` notices and memory; and what
+they cost while they play.
 
     checks/serve/beside_mpd.py [PROGRAM] [--rounds N]
 
-It needs Debian's package mpd. Each figure is the best of a few goes, taken by turns on both. It prints both figures and their
-ratio, and asserts that no answer waited 40 ms for a delayed acknowledgement. Its own part of each round trip, in Python, is the
-same for both; the first line shows it, by an echo of a line through a bare socket.
+It needs Debian's package mpd. Each figure is the best of a few rounds, in which the two servers take turns. It prints both figures and their
+ratio, and fails if an answer took 40 ms or more, as it does when TCP delays an acknowledgement. The part of each round trip that this script
+itself takes, in Python, is the same for both; the first line shows how long that is, by a round trip to a server that only echoes lines.
 """
 import argparse
 import os
@@ -23,13 +24,13 @@ sys.dont_write_bytecode = True
 import pairs
 from daemon import Client, Daemon, Mpd, Table, program_of, put_songs
 
-LATE = 0.040   # a delayed acknowledgement
+LATE = 0.040   # how many seconds TCP may delay an acknowledgement
 ENTRIES = 16_000
-EDITS = 200     # the edits of a long queue in one list
+EDITS = 200     # how many edits of a long queue one command list has
 
 
 class Echo(threading.Thread):
-    """A server that answers each line with `OK`, as the least that a round trip costs here."""
+    """A server that just answers each line with `OK`, which shows what any round trip costs on this machine."""
 
     def __init__(self):
         super().__init__(daemon=True)
@@ -46,7 +47,7 @@ class Echo(threading.Thread):
 
 
 def round_trips(client, text, count):
-    """The median round trip in microseconds, and the slowest."""
+    """The median round trip in microseconds, and the slowest one in seconds."""
     times = []
     for _ in range(count):
         start = time.perf_counter()
@@ -56,7 +57,7 @@ def round_trips(client, text, count):
 
 
 def side_by_side(port, clients, count):
-    """Microseconds of a ping where so many clients ask at once, each after its answer; and the slowest."""
+    """Microseconds for each ping if so many clients ping at the same time, each one again after its answer; and the slowest ping."""
     all_of_them = [Client(port) for _ in range(clients)]
     slowest, answers, since = 0.0, 0, {}
     with selectors.DefaultSelector() as ready:
@@ -79,7 +80,7 @@ def side_by_side(port, clients, count):
 
 
 def in_flight(client, depth, count):
-    """Microseconds of a ping where so many are under way on one connection; and the longest wait of a bunch."""
+    """Microseconds for each ping if so many are sent together on one connection; and the longest wait for all their answers."""
     slowest, begin = 0.0, time.perf_counter()
     for _ in range(count // depth):
         start = time.perf_counter()
@@ -91,7 +92,7 @@ def in_flight(client, depth, count):
 
 
 def in_one_piece(client, text, count):
-    """Milliseconds until the whole of a long answer is there, and its bytes."""
+    """Milliseconds until a long answer has arrived completely, and how many bytes it has."""
     best, size = float('inf'), 0
     for _ in range(count):
         start = time.perf_counter()
@@ -104,7 +105,7 @@ def in_one_piece(client, text, count):
 
 
 def list_of_adds(client, uri, count):
-    """Milliseconds of a command list of so many adds."""
+    """Milliseconds that a command list of so many `add`s takes."""
     text = 'command_list_begin\n' + ('add "%s"\n' % uri) * count + 'command_list_end'
     start = time.perf_counter()
     client.must(text)
@@ -112,20 +113,20 @@ def list_of_adds(client, uri, count):
 
 
 def list_of(client, lines):
-    """Microseconds of each command of a list."""
+    """Microseconds that each command of a command list takes."""
     start = time.perf_counter()
     client.must('\n'.join(['command_list_begin', *lines, 'command_list_end']))
     return (time.perf_counter() - start) * 1e6 / len(lines)
 
 
 def list_onto(client, uri):
-    """Milliseconds of a list of 1,000 adds onto 15,000 entries."""
+    """Milliseconds that a command list of 1,000 `add`s takes if the queue has 15,000 entries."""
     client.must('delete 15000:')
     return list_of_adds(client, uri, 1000)
 
 
 def beside_reader(server):
-    """Milliseconds of a ping, 99th of 100, while another client asks for the whole queue again and again."""
+    """Milliseconds of a ping (99 of 100 are as fast or faster) while another client asks for the whole queue again and again."""
     reader, client, times, over = server.client(), server.client(), [], threading.Event()
 
     def read():
@@ -146,7 +147,7 @@ def beside_reader(server):
 
 
 def notices(port, clients, count):
-    """Microseconds from a change until the last of so many waiting clients is told; the slowest."""
+    """Microseconds from a change until the last of so many waiting clients gets its notice: the median, and the slowest in seconds."""
     changer = Client(port)
     waiting = [Client(port) for _ in range(clients)]
     times = []
@@ -154,7 +155,7 @@ def notices(port, clients, count):
     for number in range(count):
         for client in waiting:
             client.send('idle options')
-        # An answer of each must not come before the change does.
+        # Gives the server time to let all of them wait before the change comes.
         time.sleep(0.02)
         start = time.perf_counter()
         changer.send('repeat %d' % (number % 2))
@@ -168,7 +169,7 @@ def notices(port, clients, count):
 
 
 def one_round(server, songs, found):
-    """Measures a server once, and keeps the better of each figure: a number, its unit, and the slowest answer where one is told."""
+    """Measures a server once, and keeps each figure if it is the best so far: the number, its unit, and the slowest answer, if known."""
     def keep(name, unit, figure, slowest=None):
         if name not in found or figure < found[name][0]:
             found[name] = (figure, unit, slowest)
@@ -194,7 +195,7 @@ def one_round(server, songs, found):
 
 
 def long_queue(server, client, songs, keep):
-    """Measures edits of a queue of 16,000 entries, what is asked of it, and others beside who reads it; then it is empty."""
+    """Measures edits of a queue of 16,000 entries, questions to it, and pings while another client reads it; then empties the queue."""
     keep('a list of 1,000 adds onto 15,000', 'ms', list_onto(client, songs[0]))
     ids = [line[4:] for line in client.must('plchangesposid 0 0:%d' % EDITS) if line.startswith('Id: ')]
     keep('deleteid of the first, in a list', 'us', list_of(client, ['deleteid ' + number for number in ids]))
@@ -213,7 +214,7 @@ def long_queue(server, client, songs, keep):
 
 
 def measure(servers, songs, rounds):
-    """All figures of each server by name. They are measured by turns, so that what else the machine does falls on both."""
+    """All figures of each server, by name. The servers take turns, so that whatever else the machine does affects both."""
     found = {name: {} for name in servers}
     for _ in range(rounds):
         for name, server in servers.items():
@@ -222,7 +223,7 @@ def measure(servers, songs, rounds):
 
 
 def fill(client, songs):
-    """Fills the queue with 16,000 entries, in lists of 1,000."""
+    """Fills the queue with 16,000 entries, by command lists of 1,000."""
     for start in range(0, ENTRIES, 1000):
         lines = ['add "%s"' % songs[(start + number) % len(songs)] for number in range(1000)]
         client.must('\n'.join(['command_list_begin', *lines, 'command_list_end']))
@@ -233,13 +234,13 @@ def shown(figure, unit):
 
 
 def main():
-    parser = argparse.ArgumentParser(description='The daemon beside MPD.')
-    parser.add_argument('program', nargs='?')
-    parser.add_argument('--rounds', type=int, default=3)
+    parser = argparse.ArgumentParser(description='Compares the daemon with MPD.')
+    parser.add_argument('program', nargs='?', help='the built program (default: crates/music_daemon/out/music_daemon)')
+    parser.add_argument('--rounds', type=int, default=3, help='how many rounds are measured (default: 3)')
     given = parser.parse_args()
     program = program_of(given.program)
     if not shutil.which('mpd'):
-        print('mpd is missing: install the package mpd (Debian: apt-get install mpd); the daemon alone is measured')
+        print('mpd is not installed (Debian: apt-get install mpd), so only the daemon is measured')
     with tempfile.TemporaryDirectory() as folder:
         music = os.path.join(folder, 'music')
         put_songs(music, 1000, 441)
@@ -249,8 +250,8 @@ def main():
         if shutil.which('mpd'):
             servers['mpd'] = Mpd(folder, music)
         echo = Client(Echo().port)
-        print('The least round trip here: %.1f us' % round_trips(echo, 'ping', 2000)[0])
-        table = Table('Beside MPD (the least of %d rounds; of round trips the median)' % given.rounds, 36, -14, -14, -8, -16)
+        print('A round trip to a server that only echoes: %.1f us' % round_trips(echo, 'ping', 2000)[0])
+        table = Table('Next to MPD (the best of %d rounds; round trips are medians)' % given.rounds, 36, -14, -14, -8, -16)
         table.row('', *servers, 'ratio', 'slowest answer')
         client = servers['music_daemon'].client()
         songs = sorted(line[6:] for line in client.must('listall') if line.startswith('file: '))

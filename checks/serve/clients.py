@@ -1,13 +1,13 @@
 #!/usr/bin/env python3
-"""Real clients against a served folder of music: mpc, python3-mpd, ncmpc and ncmpcpp (both under tmux), and with --everyday
-Cantata (under Xvfb, pressed by xdotool), from Debian.
+"""Runs real clients with the daemon: mpc, python3-mpd, ncmpc and ncmpcpp (both in tmux), and with --everyday also Cantata (in Xvfb, operated
+by xdotool); all are Debian's.
 
     checks/serve/clients.py [PROGRAM] [--everyday]
 
-With --everyday the settings say `everyday = true`.
-Each step says what the client did and whether the daemon then was in the state that was wanted. All go through a proxy here that
-keeps the requests which the daemon refused, so a step that fails for want of a command that the daemon leaves out is told as such.
-The exit status is 1 where a step fails that is to work; clients that are not installed are named and left out.
+With --everyday the settings have `everyday = true`. For each step it prints what the client did, and whether the daemon then was in the state
+that it should be in. All clients connect through a proxy in this script, which records the requests that the daemon refused; so it can tell if a
+step fails only because of a command that the daemon leaves out on purpose. The exit status is 1 if a step fails that should work. Clients that
+are not installed are named and left out.
 """
 import os
 import shutil
@@ -26,15 +26,15 @@ sys.path.append(os.path.dirname(os.path.dirname(os.path.abspath(__file__))))
 from command_table import table
 from daemon import Daemon, Pacer, Table, program_of, wave
 
-# What the daemon leaves out, by the table of commands: a client that sends such a request is refused there.
+# the commands that the daemon leaves out (see commands.txt), so that it refuses requests with them
 MISSING = {name for name, _ in table().missing} | {'clearmounts'}
-# .. and what is there with `everyday = true` alone: commands, and forms of other commands
+# the commands, and the forms of other commands, that exist only with `everyday = true`
 EVERYDAY, EVERYDAY_FORMS = set(table().everyday_names()), ('list album', 'tagtypes ')
 is_everyday = '--everyday' in sys.argv[1:]
 
 
 class Proxy(threading.Thread):
-    """Hands lines on between clients and the daemon, and keeps each request that was refused with its answer."""
+    """Passes lines on between clients and the daemon, and records each request that was refused, with the answer."""
 
     def __init__(self, port):
         super().__init__(daemon=True)
@@ -72,7 +72,8 @@ class Proxy(threading.Thread):
 
     @staticmethod
     def cause(line, waiting):
-        """The request that an ACK speaks of: of a list the one at its place, else the last that names the command."""
+        """The request that an ACK is about: in a command list the one at the place that the ACK names, otherwise the last one that names
+        the command."""
         begins = [place for place, text in enumerate(waiting) if text.startswith('command_list')]
         place = int(line.partition('@')[2].partition(']')[0])
         if len(begins) > 1 and waiting[-1] == 'command_list_end' and begins[-2] + 1 + place < len(waiting):
@@ -87,7 +88,7 @@ class Proxy(threading.Thread):
             pass
 
     def refusals(self):
-        """The refusals since this was last asked."""
+        """The refusals since this was called the last time."""
         found, self.refused = self.refused, []
         return found
 
@@ -99,31 +100,31 @@ def is_left_out(request):
 
 
 def named_in(output):
-    """What is left out and named in a client's own words."""
+    """The command that a client's own message names as missing, if the daemon leaves it out."""
     name = output.partition('unknown command "')[2].partition('"')[0]
     return [name] if name and is_left_out(name) else []
 
 
 class Steps:
-    """The steps of the clients, told in a table."""
+    """The steps of the clients, which are printed as a table."""
 
     def __init__(self, table, daemon, proxy):
         self.table, self.proxy, self.client, self.before = table, proxy, daemon.client(), {}
 
     def step(self, client, what, works, output='', lacks=None):
-        """A step of a client. It may fail where the client then, or earlier, asked for what is left out, or where the status lacks a
-        field that is left out."""
+        """Prints a step of a client. It may fail if the client has asked, in this step or earlier, for something that is left out, or if
+        `status` lacks a field that is left out."""
         refusals = self.proxy.refusals()
         left_out = sorted({request for request, _ in refusals if is_left_out(request)} | set(named_in(output)))
         earlier = self.before.setdefault(client, set())
         if works:
-            told = 'works' + (', though refused: ' + '; '.join(left_out[:2]) if left_out else '')
+            told = 'works' + (', although these were refused: ' + '; '.join(left_out[:2]) if left_out else '')
         elif left_out:
-            told = 'FAILS for want of: ' + '; '.join(left_out[:3])
+            told = 'FAILS, since this is left out: ' + '; '.join(left_out[:3])
         elif lacks and self.status(lacks) is None:
-            told = 'FAILS for want of: the status field "%s"' % lacks
+            told = 'FAILS, since this is left out: the field "%s" of status' % lacks
         elif earlier and not refusals:
-            told = 'FAILS; refused to this client before: ' + '; '.join(sorted(earlier)[:3])
+            told = 'FAILS, after this was refused earlier: ' + '; '.join(sorted(earlier)[:3])
         else:
             told = 'FAILS: ' + ('; '.join('%s -> %s' % pair for pair in refusals) or repr(output[-100:]))
         self.table.row(client, what, told[:150], right=works or not told.startswith('FAILS: '))
@@ -133,7 +134,7 @@ class Steps:
         return self.client.value('status', key)
 
     def becomes(self, key, *wanted):
-        """Whether a value of the status becomes one of these within a few seconds."""
+        """Whether a field of `status` gets one of these values within a few seconds."""
         for _ in range(60):
             if self.status(key) in wanted:
                 return True
@@ -152,7 +153,7 @@ def put_music(folder):
 
 
 def run_mpc(steps, port):
-    """mpc: each step is one run, with what it is to print or what the daemon is to be then."""
+    """mpc: each step is one call, and checks what it printed, or the state of the daemon afterwards."""
     def mpc(*words):
         run = subprocess.run(['mpc', '-p', str(port), *words], capture_output=True, text=True, timeout=20)
         return run.returncode, run.stdout + run.stderr
@@ -260,34 +261,34 @@ if sys.argv[2:] == ['everyday']:
     files = lambda found: [entry['file'] for entry in found]
     step('list with groups', lambda: client.list('album', 'group', 'albumartist'),
          lambda found: [(entry['albumartist'], entry['album']) for entry in found] == [('Ann', 'First'), ('Bob', 'Second'), ('Zoë', 'Second')])
-    step('find in an order', lambda: client.find('album', 'Second', 'sort', 'title'), lambda found: files(found) == ['Second/3.wav', 'Second/2.wav'])
-    step('find in the other order, in a window', lambda: client.find('album', 'Second', 'sort', '-title', 'window', '1:2'), lambda found: files(found) == ['Second/3.wav'])
-    step('add at a place', lambda: (client.clear(), client.add('First'), client.add('Second/2.wav', 1), client.playlistinfo())[3],
+    step('find, sorted', lambda: client.find('album', 'Second', 'sort', 'title'), lambda found: files(found) == ['Second/3.wav', 'Second/2.wav'])
+    step('find, sorted in falling order, with a window', lambda: client.find('album', 'Second', 'sort', '-title', 'window', '1:2'), lambda found: files(found) == ['Second/3.wav'])
+    step('add at a position', lambda: (client.clear(), client.add('First'), client.add('Second/2.wav', 1), client.playlistinfo())[3],
          lambda found: files(found) == ['First/0.wav', 'Second/2.wav', 'First/1.wav'])
-    step('findadd at a place', lambda: (client.findadd('title', 'Dew', 'position', '0'), client.playlistinfo())[1],
+    step('findadd at a position', lambda: (client.findadd('title', 'Dew', 'position', '0'), client.playlistinfo())[1],
          lambda found: files(found) == ['Second/3.wav', 'First/0.wav', 'Second/2.wav', 'First/1.wav'])
     step('playlistfind', lambda: client.playlistfind('artist', 'Ann'), lambda found: [entry['pos'] for entry in found] == ['1', '3'])
     step('playlistsearch', lambda: client.playlistsearch('title', 'EA'), lambda found: files(found) == ['Second/2.wav'])
     step('searchaddpl', lambda: (client.searchaddpl('y', 'artist', 'zoë'), client.listplaylist('y'), client.rm('y'))[1], lambda found: found == ['Second/3.wav'])
-    step('albums of phones', lambda: client.find('albumartist', 'Ann', 'album', 'First'), lambda found: len(found) == 2)
+    step('an album, as phones ask for it', lambda: client.find('albumartist', 'Ann', 'album', 'First'), lambda found: len(found) == 2)
 step('stop, clear', lambda: (client.stop(), client.clear(), client.status())[2], lambda found: found['playlistlength'] == '0')
 '''
 
 
 def run_library(steps, port):
-    """python3-mpd: an own process of Debian's Python, since the module is installed for it."""
+    """python3-mpd: runs in Debian's Python, for which the module is installed."""
     run = subprocess.run(['/usr/bin/python3', '-c', LIBRARY, str(port), *(['everyday'] if is_everyday else [])], capture_output=True, text=True, timeout=60)
     for line in run.stdout.splitlines():
         what, works, told = line.split('\t', 2)
         if what == 'an error':
-            steps.step('python3-mpd', 'a refused command raises', works == 'no' and 'bad song index' in told, told)
+            steps.step('python3-mpd', 'a refused command raises an error', works == 'no' and 'bad song index' in told, told)
         else:
             steps.step('python3-mpd', what, works == 'yes', told)
-    steps.step('python3-mpd', 'all steps were run', run.returncode == 0, run.stderr)
+    steps.step('python3-mpd', 'all steps have been run', run.returncode == 0, run.stderr)
 
 
 class Screen:
-    """A program on a terminal of tmux."""
+    """A program on a terminal, in tmux."""
 
     def __init__(self, name, words, folder):
         self.socket = os.path.join(folder, name + '.tmux')
@@ -303,7 +304,7 @@ class Screen:
             time.sleep(0.3)
 
     def shows(self, *texts):
-        """Whether the screen shows all these within a few seconds."""
+        """Whether the screen shows all these texts within a few seconds."""
         for _ in range(30):
             self.text = self.tmux('capture-pane', '-p')
             if all(text in self.text for text in texts):
@@ -331,7 +332,7 @@ def run_ncmpc(steps, port, folder):
         screen.press('-')
         steps.step('ncmpc', 'the volume', steps.status('volume') != before, screen.text)
         before = float(steps.status('elapsed') or 0)
-        # a second for each key
+        # each key seeks by a second
         screen.press('f', 'f', 'f', 'f')
         time.sleep(1)
         steps.step('ncmpc', 'seeks', float(steps.status('elapsed') or 0) >= before + 4, screen.text, lacks='time')
@@ -341,7 +342,7 @@ def run_ncmpc(steps, port, folder):
         steps.step('ncmpc', 'adds a folder', steps.becomes('playlistlength', '4'), screen.text)
         steps.client.must('add Second/2.wav')
         screen.press('2')
-        steps.step('ncmpc', "hears of another client's change", screen.shows('Sea'), screen.text)
+        steps.step('ncmpc', "shows another client's change", screen.shows('Sea'), screen.text)
         screen.press('S', 'n', 'i', 'g', 'h', 't', 'Enter')
         time.sleep(0.5)
         steps.step('ncmpc', 'saves the queue', 'playlist: night' in steps.client.must('listplaylists'), screen.text)
@@ -352,7 +353,7 @@ def run_ncmpc(steps, port, folder):
 
 
 def run_partitions(steps, port, folder):
-    """Two lists: ncmpc makes a partition on its page of outputs and goes there; mpc, which knows no partitions, stays where it was."""
+    """Two queues: ncmpc makes a partition on its outputs screen and switches to it; mpc, which does not know partitions, stays in the first."""
     steps.client.must('clear')
     steps.client.must('add First')
     screen = Screen('rooms', ['env', 'TERM=screen', 'HOME=' + folder, 'LANG=C.UTF-8', 'ncmpc', '-h', '127.0.0.1', '-p', str(port)], folder)
@@ -363,13 +364,13 @@ def run_partitions(steps, port, folder):
         made = screen.shows('upstairs') and 'partition: upstairs' in steps.client.must('listpartitions')
         steps.step('ncmpc', 'makes a partition', made, screen.text)
         screen.press('End', 'Up', 'Enter', '2')
-        steps.step('ncmpc', 'goes there, where no song is queued', not screen.shows('Air'), screen.text)
+        steps.step('ncmpc', 'switches to it, and its queue is empty', not screen.shows('Air'), screen.text)
         screen.press('3')
         screen.shows('First', 'Second')
         screen.press('Down', 'Space', '2')
         steps.step('ncmpc', 'adds a folder there', screen.shows('Sea') and steps.status('playlistlength') == '2', screen.text)
         shown = subprocess.run(['mpc', '-h', '127.0.0.1', '-p', str(port), 'playlist'], capture_output=True, text=True).stdout
-        steps.step('mpc', 'shows the first list', 'Air' in shown and 'Sea' not in shown, shown)
+        steps.step('mpc', 'shows the first queue', 'Air' in shown and 'Sea' not in shown, shown)
     finally:
         screen.end()
 
@@ -403,7 +404,7 @@ def run_ncmpcpp(steps, port, folder):
         steps.step('ncmpcpp', 'adds a folder', steps.becomes('playlistlength', '4'), screen.text)
         steps.client.must('add Second/2.wav')
         screen.press('1')
-        steps.step('ncmpcpp', "hears of another client's change", screen.shows('Sea'), screen.text)
+        steps.step('ncmpcpp', "shows another client's change", screen.shows('Sea'), screen.text)
         screen.press('4')
         steps.step('ncmpcpp', 'the media library', screen.shows('Ann', 'Bob'), screen.text)
         screen.press('3')
@@ -421,7 +422,7 @@ def run_ncmpcpp(steps, port, folder):
 
 
 def run_cantata(steps, port, folder):
-    """Cantata: its library is shown where a press on its first artist, and on `play` below the list, plays that artist's songs."""
+    """Cantata: it shows its library, and a click on the first artist and then on `play` below the list plays that artist's songs."""
     for line in ('stop', 'clear', 'random 0', 'single 0', 'consume 0'):
         steps.client.must(line)
     home, run = os.path.join(folder, 'cantata'), os.path.join(folder, 'run')
@@ -432,7 +433,7 @@ def run_cantata(steps, port, folder):
     around = dict(os.environ, HOME=home, XDG_RUNTIME_DIR=run, DISPLAY=':97', QT_QPA_PLATFORM='xcb', LANG='C.UTF-8')
     screen = subprocess.Popen(['Xvfb', ':97', '-screen', '0', '1200x800x24'], stderr=subprocess.DEVNULL)
     time.sleep(2)
-    # Without a message bus it ends at once; with one of its own no other instance is asked in its place.
+    # Without a message bus Cantata ends at once; with its own bus it cannot find another instance that runs already.
     words = ['dbus-run-session', '--', 'cantata']
     cantata = subprocess.Popen(words, env=around, stdout=subprocess.DEVNULL, stderr=subprocess.DEVNULL, start_new_session=True)
 

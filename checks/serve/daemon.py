@@ -1,4 +1,4 @@
-"""A daemon that runs for a check, the clients that ask it, and the songs that it plays."""
+"""Starts a daemon, or MPD, for a check; makes its songs; and connects clients to it."""
 import os
 import re
 import socket
@@ -12,22 +12,23 @@ import time
 HERE = os.path.dirname(os.path.abspath(__file__))
 ROOT = os.path.dirname(os.path.dirname(HERE))
 BUILT = os.path.join(ROOT, 'crates', 'music_daemon', 'out', 'music_daemon')
-START = 30     # the seconds within which a daemon is to listen
-ANSWER = 30    # the seconds within which an answer is to come
-END = 30       # the seconds within which a daemon that was told to end is to end
-# what every daemon says on standard error, and one whose outputs fail
+START = 30     # how many seconds a daemon may take until it listens
+ANSWER = 30    # how many seconds an answer may take
+END = 30       # how many seconds a daemon may take to end
+# the usual lines on standard error: about the start, scans, outputs and the end
 USUAL = re.compile(r'music_daemon: (?:version |scan(?: in \d+ ms)?: |output \d+: |end: )')
 
 
 def program_of(path):
-    """The program at a path, or the one that the repository built."""
+    """The program at this path, or else the one that was built in the repository."""
     path = os.path.abspath(path or BUILT)
     if not os.access(path, os.X_OK):
-        sys.exit('%s: no program; build it first' % path)
+        sys.exit('%s: there is no such program; build it first' % path)
     return path
 
 
-# A child holds what other threads have open until it becomes its program: a port that is looked at here must not be among it.
+# Between its fork and its exec, a child process has everything open that other threads have open. The port that `free_port` tries out must not
+# be among it, so no process is started meanwhile.
 STARTS = threading.Lock()
 
 
@@ -38,7 +39,7 @@ def free_port():
 
 
 def wave(frames, channels=2, bits=16, rate=44100, extensible=False, tags=()):
-    """The bytes of a WAVE file; a frame is a tuple of whole numbers, unsigned for 8 bits."""
+    """The bytes of a WAVE file. A frame is a tuple of whole numbers, which are unsigned for 8 bits."""
     width = bits // 8
     form = struct.pack('<HHIIHH', 0xfffe if extensible else 1, channels, rate, rate * channels * width, channels * width, bits)
     if extensible:
@@ -54,7 +55,7 @@ def chunk(name, content):
 
 
 def put_songs(folder, count, frames, rate=44100):
-    """So many songs of silence with tags, ten in a folder. Each has so many frames of 8 bits and one channel."""
+    """Writes so many silent songs with tags, ten in each folder. Each has so many frames, of 8 bits and one channel."""
     for number in range(count):
         below = os.path.join(folder, 'album %02d' % (number // 10))
         os.makedirs(below, exist_ok=True)
@@ -75,7 +76,7 @@ class Client:
             self.greeting = self.line()
 
     def line(self):
-        """The next line; an empty text where the daemon closed the connection."""
+        """The next line; an empty text if the daemon has closed the connection."""
         while b'\n' not in self.held:
             piece = self.socket.recv(1 << 20)
             if not piece:
@@ -88,7 +89,7 @@ class Client:
         self.socket.sendall(text.encode() + b'\n')
 
     def answer(self):
-        """The lines of an answer, `OK` or `ACK` last."""
+        """The lines of an answer, of which the last is `OK` or an `ACK`."""
         lines = []
         while True:
             lines.append(self.line())
@@ -100,14 +101,14 @@ class Client:
         return self.answer()
 
     def must(self, text):
-        """An answer that is to be a success."""
+        """The lines of an answer that must be a success, without the `OK`."""
         lines = self.ask(text)
         if lines[-1] != 'OK':
             raise AssertionError('%s: %s' % (text, lines[-1] or 'the connection was closed'))
         return lines[:-1]
 
     def value(self, text, key):
-        """The value of a key in an answer, or None."""
+        """The value of a key in the answer to a request, or None."""
         for line in self.must(text):
             if line.startswith(key + ': '):
                 return line[len(key) + 2:]
@@ -118,7 +119,7 @@ class Client:
 
 
 def path_of_link(link):
-    """Where a link leads; none where it is gone."""
+    """Where a link leads; None if it is gone."""
     try:
         return os.readlink(link)
     except FileNotFoundError:
@@ -126,7 +127,7 @@ def path_of_link(link):
 
 
 class Process:
-    """A server that runs, and what the system says of it."""
+    """A running server, and what the system says about it."""
 
     def __init__(self, words, port, folder, wait=True, environment=None):
         self.port = port
@@ -148,7 +149,7 @@ class Process:
             except OSError:
                 time.sleep(0.02)
         self.kill()
-        raise AssertionError('it does not listen')
+        raise AssertionError('it does not listen on its port')
 
     def client(self):
         return Client(self.port)
@@ -158,7 +159,7 @@ class Process:
         return self.faults.read().decode(errors='replace').strip()
 
     def unusual(self):
-        """What it says on standard error that is no news of its start, its scans, its outputs and its end."""
+        """What it said on standard error, without the usual lines about its start, its scans, its outputs and its end."""
         return '\n'.join(line for line in self.errors().splitlines() if not USUAL.match(line))
 
     def output(self):
@@ -171,7 +172,7 @@ class Process:
             return next(int(line.split()[1]) for line in status if line.startswith('VmRSS')) / 1000
 
     def seconds(self):
-        """The processor time that it used."""
+        """How many seconds of processor time it has used."""
         with open('/proc/%d/stat' % self.process.pid) as stat:
             fields = stat.read().rpartition(')')[2].split()
         return (int(fields[11]) + int(fields[12])) / os.sysconf('SC_CLK_TCK')
@@ -180,7 +181,7 @@ class Process:
         return len(os.listdir('/proc/%d/fd' % self.process.pid))
 
     def paths(self):
-        """What its open files are: paths, and `socket:` or another word of the system where there is none."""
+        """Its open files, as their paths; one without a path, such as a socket, has the system's name for it, such as `socket:[123]`."""
         folder = '/proc/%d/fd' % self.process.pid
         return [path for path in map(path_of_link, [os.path.join(folder, name) for name in os.listdir(folder)]) if path]
 
@@ -190,7 +191,7 @@ class Process:
 
 
 class Daemon(Process):
-    """music_daemon with settings of its own."""
+    """music_daemon, with a settings file that is written here."""
 
     def __init__(self, program, folder, music, outputs=(), shelf=None, kill=True, rate=44100, more='', wait=True, environment=None):
         self.settings = os.path.join(folder, 'settings.toml')
@@ -207,7 +208,7 @@ class Daemon(Process):
         super().__init__([program, 'serve', '--config', self.settings], port, folder, wait, environment)
 
     def end(self):
-        """Ends it by `kill`: its status and its summary."""
+        """Ends it with `kill`: its exit status, and the lines of its summary."""
         client = self.client()
         client.send('kill')
         client.close()
@@ -219,7 +220,7 @@ NULL = 'type "null"'
 
 
 class Mpd(Process):
-    """Debian's MPD on the same folder. An output is what stands in its block of the settings beside the name."""
+    """Debian's MPD, on a folder of music. An output is given as the lines of its block in the settings, without its name."""
 
     def __init__(self, folder, music, clients=100, outputs=(NULL,)):
         port = free_port()
@@ -241,7 +242,7 @@ class Mpd(Process):
 
 
 class Pacer:
-    """A FIFO with a reader that takes so many frames a second, as a sound card does."""
+    """A FIFO with a reader that reads so many frames a second, like a sound card."""
 
     CODE = 'import sys, time\nfile = open(sys.argv[1], "rb", 0)\nrate = int(sys.argv[2])\nstart = time.monotonic()\ndone = 0\n' \
         'while True:\n    piece = file.read(4096)\n    if not piece:\n        break\n    done += len(piece)\n' \
@@ -258,7 +259,7 @@ class Pacer:
 
 
 class Table:
-    """Lines that are printed as they come, and how many of them were wrong."""
+    """A table whose rows are printed one by one; counts how many of them were wrong."""
 
     def __init__(self, title, *widths):
         self.widths, self.failed = widths, 0
@@ -270,13 +271,13 @@ class Table:
         self.failed += not right
 
     def status(self):
-        """The status to exit with, once it is told how many lines were wrong."""
+        """Prints how many rows were wrong, and returns the exit status."""
         print('\n%d failed' % self.failed)
         return 1 if self.failed else 0
 
 
 def check_each(program, table, checks, rate):
-    """Each check with a folder of its own, which has three songs of twenty seconds; the status to exit with."""
+    """Runs each check with a new folder, in which there are three songs of twenty seconds; returns the exit status."""
     for check in checks:
         with tempfile.TemporaryDirectory() as folder:
             music = os.path.join(folder, 'music')

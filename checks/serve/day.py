@@ -1,12 +1,13 @@
 #!/usr/bin/env python3
-"""A day in minutes: a million edits while ten thousand songs are played into /dev/null, outputs go off and on, and scans find other songs.
+"""A day's work in minutes: a million edits, while ten thousand songs are played into /dev/null, outputs are switched off and on, and scans find
+other songs.
 
     checks/serve/day.py [PROGRAM] [--edits N] [--songs N] [--seconds N]
 
-Four clients edit one queue of some hundreds of entries, by single lines and by command lists; one plays, skips and changes modes; one
-switches outputs; one lets the folder be scanned while songs come and go in it; one waits for what changed. It ends once so many edits were
-answered and so many songs were played, or else after so many seconds (600), which fails. Printed: edits, songs, scans and switches; the slowest
-answer; the memory at each tenth of the edits, which must not grow from the middle on, once all has been done often; and at the end the books of both outputs.
+Four clients edit a queue of some hundreds of entries, with single lines and with command lists; one plays, skips and changes modes; one switches
+outputs; one has the folder scanned while songs are added to it and removed; one waits in `idle`. It ends when so many edits have been answered
+and so many songs have been played; if that takes longer than so many seconds (600), it fails. It prints the edits, songs, scans and switches;
+the slowest answer; the memory at each tenth of the edits, which must not grow in the second half; and the frame counts of both outputs.
 """
 import argparse
 import os
@@ -23,17 +24,17 @@ sys.dont_write_bytecode = True
 from daemon import Daemon, Table, program_of, put_songs
 
 RATE = 44100
-LENGTH = 22050      # the frames of a song
+LENGTH = 22050      # how many frames a song has
 SONGS = 200
-MANY, FEW = 900, 300    # the entries between which the editors keep the queue
-GROWTH = 1.0        # the megabytes by which the memory may grow from the middle on
-SLOWEST = 1.0       # the seconds within which each answer is to come
-SHARE = 50          # the lines that an editor sends at once
+MANY, FEW = 900, 300    # the queue is kept between these lengths
+GROWTH = 1.0        # by how many megabytes the memory may grow in the second half
+SLOWEST = 1.0       # how many seconds an answer may take
+SHARE = 50          # how many lines an editor sends at once
 BOOKS = re.compile(r'output (\d+): decoded (\d+) written (\d+) discarded (\d+) left (\d+)')
 
 
 class Day:
-    """What the clients of one day share."""
+    """What the clients have in common."""
 
     def __init__(self, daemon):
         self.daemon = daemon
@@ -59,7 +60,7 @@ def uri_of(number):
 
 
 def edit(draw, length):
-    """One edit of a queue of so many entries, which the editors keep between FEW and MANY."""
+    """A random edit of a queue with so many entries; it keeps the length between FEW and MANY."""
     place = lambda: draw.randrange(FEW // 2)
     kind = draw.randrange(100)
     if kind < 30:
@@ -80,7 +81,7 @@ def edit(draw, length):
 
 
 def edits(day, number):
-    """A client that edits until all edits are made. What it deletes may be gone: then it is refused, and that is right."""
+    """A client that edits until the day is over. If what it deletes is gone already, it is refused, which is right."""
     client, draw = day.daemon.client(), random.Random(number)
     while not day.is_over.is_set():
         length = int(client.value('status', 'playlistlength'))
@@ -125,7 +126,7 @@ def switches(day):
 
 
 def scans(day, music):
-    """A client that lets the folder be scanned, in which an album comes and goes that is in no queue."""
+    """A client that adds an album to the folder and removes it again, and has the folder scanned each time; no queue uses this album."""
     client, more = day.daemon.client(), os.path.join(music, 'more')
     while not day.is_over.is_set():
         if os.path.exists(more):
@@ -141,7 +142,7 @@ def scans(day, music):
 
 
 def waits(day):
-    """A client that waits for what changed, again and again."""
+    """A client that waits in `idle` again and again."""
     client = day.daemon.client()
     while not day.is_over.is_set():
         client.must('idle playlist player mixer options output database update')
@@ -159,17 +160,17 @@ def guarded(day, work, *words):
 
 
 def written(daemon):
-    """How many bytes the daemon wrote: to outputs nearly all of them."""
+    """How many bytes the daemon has written, nearly all of them to outputs."""
     with open('/proc/%d/io' % daemon.process.pid) as file:
         return int(next(line.split()[1] for line in file if line.startswith('wchar:')))
 
 
 def main():
-    parser = argparse.ArgumentParser(description='A day in minutes.')
-    parser.add_argument('program', nargs='?')
-    parser.add_argument('--edits', type=int, default=1_000_000)
-    parser.add_argument('--songs', type=int, default=10_000)
-    parser.add_argument('--seconds', type=int, default=600)
+    parser = argparse.ArgumentParser(description="A day's work in minutes.")
+    parser.add_argument('program', nargs='?', help='the built program (default: crates/music_daemon/out/music_daemon)')
+    parser.add_argument('--edits', type=int, default=1_000_000, help='how many edits (default: 1,000,000)')
+    parser.add_argument('--songs', type=int, default=10_000, help='how many songs (default: 10,000)')
+    parser.add_argument('--seconds', type=int, default=600, help='how many seconds it may take (default: 600)')
     given = parser.parse_args()
     table = Table('A day: %d edits, %d songs' % (given.edits, given.songs), 34, 60)
     with tempfile.TemporaryDirectory() as folder:
@@ -190,7 +191,7 @@ def live(table, program, folder, given):
     begin, memory = time.monotonic(), []
     for thread in threads:
         thread.start()
-    # 4 bytes a frame, to the second output too for the half of the time at least, and a tenth more for answers.
+    # 4 bytes for each frame, to two outputs, of which one is switched off now and then; and a tenth more for the answers.
     enough = given.songs * LENGTH * 4 * 2.2
     while not day.is_over.wait(0.05) and time.monotonic() - begin < given.seconds:
         if day.edits >= len(memory) * given.edits / 10 and len(memory) < 11:
@@ -208,7 +209,7 @@ def live(table, program, folder, given):
 
 
 def tell(table, day, given, took, memory):
-    table.row('edits', '%d, and %d refused, in %.0f s' % (day.edits, day.refused, took), right=day.edits >= given.edits and not day.faults)
+    table.row('edits', '%d made, %d refused, in %.0f s' % (day.edits, day.refused, took), right=day.edits >= given.edits and not day.faults)
     for fault in day.faults:
         table.row('', fault, right=False)
     table.row('scans, switches, skips, notices', ', '.join('%d' % day.counts[name] for name in ('scans', 'switches', 'skips', 'notices')), right=all(day.counts.values()))

@@ -1,22 +1,22 @@
 #!/usr/bin/env python3
-"""How the daemon's answers differ from MPD's: both are sent the transcripts of checks/serve/transcripts, and docs/DIFFERENCES.md names
-each difference and its reason.
+"""Compares the daemon's answers with MPD's: both are sent the requests in checks/serve/transcripts, and docs/DIFFERENCES.md must name each
+difference and its reason.
 
-    checks/serve/differences.py [PROGRAM]             compares
-    checks/serve/differences.py [PROGRAM] --write     and writes what was answered into the transcripts and the page
-    checks/serve/differences.py [PROGRAM] --only NAME  the transcripts of one file, without the page
-    checks/serve/differences.py --songs FOLDER        only writes the songs of the transcripts there
-    checks/serve/differences.py --at PORT --music FOLDER    with a daemon that already runs on such songs, here
+    checks/serve/differences.py [PROGRAM]                   compares
+    checks/serve/differences.py [PROGRAM] --write           compares, and writes the differences into the transcripts and the page
+    checks/serve/differences.py [PROGRAM] --only NAME       compares only the transcripts of one file, and not the page
+    checks/serve/differences.py --songs FOLDER              compares nothing, and writes the songs of the transcripts to FOLDER
+    checks/serve/differences.py --at PORT --music FOLDER    compares with a daemon that already runs on this machine, with the songs in FOLDER
 
-It needs Debian's package mpd, of version 0.23. A daemon that already runs has the settings that `settings_of` shows.
+It needs Debian's package mpd, version 0.23. A daemon that already runs must have the settings that `settings_of` shows.
 
-A transcript begins with `== NAME`. Its lines are those of the scripts of music_daemon: `1 add first` is client 1's; `sides.py` tells the
-steps. Each transcript begins with new clients and an empty queue. Below a line whose answers differ stand the names of the differences,
-behind `=`, and the lines that only MPD (`<`) and only music_daemon (`>`) answered. What the RULES below take out of the answers has a name
-on the page too, and no mark in the transcripts.
+A transcript begins with `== NAME`, new clients and an empty queue. Its lines are like those of scripts for music_daemon: `1 add first` is a
+line of client 1; `sides.py` explains the steps. Below a line with different answers are the names of the differences (after `=`), the lines that
+only MPD answered (after `<`), and those that only music_daemon answered (after `>`). The RULES below remove some differences before the answers
+are compared; these have names on the page too, but no marks in the transcripts.
 
-The check fails where answers differ otherwise than the transcript says, where a name is not on the page, where a difference that is on
-the page occurs no more, and where no transcript sends a command that music_daemon has.
+The check fails if answers do not differ in the way that the transcript says, if a difference is not on the page, if one that is on the page no
+longer occurs, or if no transcript uses some command that music_daemon has.
 """
 import argparse
 import difflib
@@ -37,15 +37,15 @@ from sides import RATE, Side, put_library, values
 PAGE = os.path.join(ROOT, 'docs', 'DIFFERENCES.md')
 SEEN = re.compile(r'(?<=<!-- seen -->\n).*(?=<!-- end -->)', re.S)
 ROW = re.compile(r'^\| \*\*([a-z-]+)\*\* \|', re.M)
-SHOWN = 3     # how many lines of an answer the page shows
-MOST = 8      # how many lines of a difference a transcript has; behind them stands how many more there were
-LEAST = 200   # how many transcripts there are at least
+SHOWN = 3     # how many lines of an answer the page shows at most
+MOST = 8      # how many lines of a difference a transcript shows at most, before it says how many more there were
+LEAST = 200   # how many transcripts there must be at least
 ACK = re.compile(r'(\d ACK \[\d+@\d+\] \{\w*\}) .*')
 TAGS = ('Title', 'Artist', 'Album', 'Date', 'Genre', 'Comment')
 OUTPUT = 'type "null"\nmixer_type "software"'
 
 Transcript = namedtuple('Transcript', 'name steps')
-# a line that is sent, the names of the differences of its answers, and the lines that only one of both answers, behind `< ` or `> `
+# a line that is sent, the names of the differences between the answers, and the lines that only one of the two answered, after `< ` or `> `
 Step = namedtuple('Step', 'line names answers')
 
 
@@ -57,7 +57,7 @@ def read(path):
 
 
 def parsed(text):
-    """The head of a file of transcripts, and its transcripts."""
+    """What comes before the first transcript of a file, and the transcripts."""
     head, *parts = re.split(r'(?m)^== ', text)
     return head, [transcript_of(part) for part in parts]
 
@@ -89,7 +89,7 @@ def written(head, transcripts):
 # ---- what is compared
 
 def without(pattern):
-    """A rule that takes lines out of MPD's answers."""
+    """A rule that removes lines from MPD's answers."""
     def rule(mpd, own):
         left = [line for line in mpd if not re.match(pattern, line)]
         return left, own, left != mpd
@@ -97,7 +97,7 @@ def without(pattern):
 
 
 def without_texts(mpd, own):
-    """Of two refusals of one number, place and command the text is not compared."""
+    """A rule that ignores the texts of two refusals with the same number, place and command."""
     pairs = [(ACK.match(one), ACK.match(other)) for one, other in zip(mpd, own)]
     same = [one and other and one.group(0) != other.group(0) and one.group(1) == other.group(1) for one, other in pairs]
     plain = [pair[0].group(1) if is_same else None for pair, is_same in zip(pairs, same)]
@@ -108,7 +108,7 @@ def without_texts(mpd, own):
 
 
 def without_order(mpd, own):
-    """The tags of a song are in the order of music_daemon."""
+    """A rule that puts the tags of each song into the order of music_daemon."""
     def in_order(lines):
         found, tags, is_song = [], [], False
         for line in lines + ['']:
@@ -124,7 +124,7 @@ def without_order(mpd, own):
 
 
 def without_status_order(mpd, own):
-    """The next song of a status stands behind the current one, as music_daemon has it."""
+    """A rule that puts the next song in `status` after the current one, where music_daemon has it."""
     after = [line for line in mpd if re.match(r'\d nextsong(id)?: ', line)]
     at = next((at for at, line in enumerate(mpd) if re.match(r'\d songid: ', line)), None)
     if not after or at is None:
@@ -135,7 +135,7 @@ def without_status_order(mpd, own):
 
 
 def without_plugin(mpd, own):
-    """The outputs of MPD here are of its kind `null`."""
+    """A rule that ignores the plugin of the outputs, which in this MPD is `null`."""
     if 'plugin: raw' not in {line[2:] for line in own}:
         return mpd, own, False
     plain = [line.replace('plugin: null', 'plugin: raw') for line in mpd]
@@ -143,7 +143,7 @@ def without_plugin(mpd, own):
 
 
 def sorted_lists(lines):
-    """The stored playlists of an answer in byte order: those of MPD come as their folder has them."""
+    """An answer with the stored playlists in byte order; MPD has them in the order in which its folder lists them."""
     found, lists = [], []
     for line in lines + ['']:
         if line[2:].startswith('playlist: '):
@@ -165,7 +165,7 @@ RULES = {
 
 
 def compared(mpd, own):
-    """The lines that only one of two answers has, in their order, and the rules that took something out."""
+    """The lines that only one of two answers has, in their order, and the rules that removed something."""
     used = set()
     for name, rule in RULES.items():
         mpd, own, has_used = rule(mpd, own)
@@ -184,8 +184,8 @@ def shortened(lines):
 
 
 class Seen:
-    """What differed: for each name the transcripts and an example, and for each rule how many answers it took something out of. And the
-    commands that were sent; `kill` would end both daemons."""
+    """What differed: for each name the transcripts and an example, and for each rule how many answers it changed. Also the commands that were
+    sent; `kill` counts as sent, since it would end both daemons."""
 
     def __init__(self):
         self.steps, self.rules, self.count, self.sent = {}, dict.fromkeys(RULES, 0), 0, {'kill'}
@@ -196,13 +196,13 @@ class Seen:
             self.steps.setdefault(name, []).append((transcript, step))
 
     def example(self, name):
-        """The first step that shows this difference and no other, else the first that shows it."""
+        """The first step that shows only this difference, or else the first that shows it among others."""
         found = self.steps[name]
         return next((it for it in found if it[1].names == [name]), found[0])
 
 
 def run(transcript, sides, seen):
-    """A transcript with what was answered now."""
+    """Runs a transcript, and returns it with the differences that there are now."""
     lines = [step.line for step in transcript.steps]
     with ThreadPoolExecutor(len(sides)) as both:
         answers = list(both.map(lambda side: side.answers(lines), sides))
@@ -229,7 +229,7 @@ def lines_shown(answers, sign):
 
 
 def table_of(seen):
-    """The part of the page that is made: how often each difference was seen, with an example."""
+    """The generated part of the page: how often each difference was seen, with an example."""
     lines = ['%d transcripts were compared.' % seen.count, '',
              '| Difference | Transcripts | Example | Sent | MPD answers | music_daemon answers |', '|---|---|---|---|---|---|']
     for name in sorted(seen.steps):
@@ -240,13 +240,13 @@ def table_of(seen):
 
 
 def page_faults(page, seen):
-    """What the page names otherwise than it was seen."""
+    """In what the page disagrees with what was seen."""
     named, found = ROW.findall(page), set(seen.steps) | {name for name, count in seen.rules.items() if count}
-    yield from ('%s: the page has it twice' % name for name in sorted({it for it in named if named.count(it) > 1}))
+    yield from ('%s: the page names it twice' % name for name in sorted({it for it in named if named.count(it) > 1}))
     yield from ('%s: the page does not name it' % name for name in sorted(found - set(named)))
-    yield from ('%s: the page names it, and it was not seen' % name for name in sorted(set(named) - found))
+    yield from ('%s: the page names it, but it was not seen' % name for name in sorted(set(named) - found))
     if SEEN.findall(page) != [table_of(seen)]:
-        yield 'the table of the page is not what was seen: run it with --write'
+        yield 'the table of the page does not show what was seen: run this with --write'
 
 
 # ---- both daemons
@@ -262,7 +262,7 @@ class At:
 
 
 def settings_of(pacers):
-    """What music_daemon is started with."""
+    """The settings with which music_daemon is started."""
     return {'outputs': [pacer.path for pacer in pacers], 'rate': RATE, 'kill': True, 'more': 'everyday = true'}
 
 
@@ -275,7 +275,7 @@ def compare(sides, table, is_written, only):
         wrong = [(old, new) for old, new in zip(transcripts, now) if old != new]
         table.row(os.path.basename(path), len(now), sum(any(step.answers for step in it.steps) for it in now), right=not wrong)
         for old, new in wrong:
-            print('\n'.join(difflib.unified_diff(*[written('', [it]).split('\n') for it in (old, new)], 'as it stands', 'now', n=9, lineterm='')))
+            print('\n'.join(difflib.unified_diff(*[written('', [it]).split('\n') for it in (old, new)], 'the transcript', 'now', n=9, lineterm='')))
         if is_written:
             with open(path, 'w', encoding='utf-8') as file:
                 file.write(written(head, now))
@@ -283,7 +283,7 @@ def compare(sides, table, is_written, only):
 
 
 def judged(seen, commands, table, is_written):
-    """Asks the page, and writes its table. The commands are those that music_daemon has."""
+    """Compares the page with what was seen, and with --write writes its table first. The commands are those that music_daemon has."""
     page = read(PAGE)
     if is_written:
         page = SEEN.sub(lambda _: table_of(seen), page)
@@ -293,25 +293,25 @@ def judged(seen, commands, table, is_written):
         table.row(name, '', count)
     faults = list(page_faults(page, seen))
     if seen.count < LEAST:
-        faults.append('%d transcripts; there are to be %d' % (seen.count, LEAST))
-    faults += ['no transcript sends %s' % name for name in commands if name not in seen.sent]
+        faults.append('there are only %d transcripts, and should be at least %d' % (seen.count, LEAST))
+    faults += ['no transcript uses the command %s' % name for name in commands if name not in seen.sent]
     for fault in faults:
         table.row(fault, right=False)
 
 
 def words():
-    parser = argparse.ArgumentParser(description="How the daemon's answers differ from MPD's.")
-    parser.add_argument('program', nargs='?')
-    parser.add_argument('--write', action='store_true')
-    parser.add_argument('--only', metavar='NAME')
-    parser.add_argument('--songs', metavar='FOLDER')
-    parser.add_argument('--at', type=int, metavar='PORT')
-    parser.add_argument('--music', metavar='FOLDER')
+    parser = argparse.ArgumentParser(description="Compares the daemon's answers with MPD's.")
+    parser.add_argument('program', nargs='?', help='the built program (default: crates/music_daemon/out/music_daemon)')
+    parser.add_argument('--write', action='store_true', help='write the differences into the transcripts and docs/DIFFERENCES.md')
+    parser.add_argument('--only', metavar='NAME', help='compare only the transcripts of this file')
+    parser.add_argument('--songs', metavar='FOLDER', help='only write the songs of the transcripts to this folder')
+    parser.add_argument('--at', type=int, metavar='PORT', help='use a daemon that already runs on this machine')
+    parser.add_argument('--music', metavar='FOLDER', help='with --at: the folder of songs of that daemon')
     return parser.parse_args()
 
 
 def started(given, folder, pacers):
-    """Both daemons on the songs, MPD first."""
+    """Starts both daemons on the same songs, MPD first."""
     music = given.music or os.path.join(folder, 'music')
     if not given.music:
         put_library(music)
@@ -330,9 +330,9 @@ def compared_by(given, folder, table):
             servers.append(server)
         sides = [Side(server) for server in servers]
         if not sides[0].owner.greeting.startswith('OK MPD 0.23.'):
-            table.row('this page is about MPD 0.23; here is %s' % sides[0].owner.greeting, right=False)
+            table.row('the page is about MPD 0.23, but the installed one answers %s' % sides[0].owner.greeting, right=False)
             return
-        table.row('', 'transcripts', 'differing')
+        table.row('', 'transcripts', 'different')
         seen = compare(sides, table, given.write, given.only)
         if not given.only:
             judged(seen, values(sides[1].owner.must('commands'), 'command'), table, given.write)
@@ -349,9 +349,9 @@ def main():
         put_library(given.songs)
         return 0
     if not shutil.which('mpd'):
-        print('mpd is missing, and nothing was compared: install the package mpd (Debian: apt-get install mpd)')
+        print('mpd is not installed (Debian: apt-get install mpd), so nothing was compared')
         return 0
-    table = Table('Beside MPD', 24, -11, -9)
+    table = Table("The daemon's answers next to MPD's", 24, -11, -9)
     with tempfile.TemporaryDirectory() as folder:
         compared_by(given, folder, table)
     return table.status()

@@ -1,11 +1,11 @@
 #!/usr/bin/env python3
-"""The examples of README and of examples/README.md, run as they stand there, but for ports and paths.
+"""Runs the examples of README.md and examples/README.md exactly as they are there, except for ports and paths.
 
     checks/serve/examples.py [PROGRAM]
 
-Three rooms by snapserver, aplay and a file; two queues in two rooms; ratings by stickers. It needs Debian's packages mpc and
-alsa-utils; where snapserver is not installed a reader stands in its place. The exit status is 1 where a room did not play what it
-was to play, or an answer is another one.
+They are: three rooms, with snapserver, aplay and a file; two queues in two rooms; and ratings with stickers. It needs Debian's packages mpc and
+alsa-utils; if snapserver is not installed, another reader takes its place. The exit status is 1 if a room did not play what it should, or if an
+answer is wrong.
 """
 import argparse
 import os
@@ -20,14 +20,14 @@ sys.dont_write_bytecode = True
 
 from daemon import Pacer, Process, ROOT, Table, free_port, program_of
 
-ALL = 132296        # the frames of examples/tunes
-LONGEST = 30        # the seconds within which a room is to have played them
-LEFT = 1.5          # the seconds that a reader has for what a ring and a FIFO hold
+ALL = 132296        # how many frames all files of examples/tunes have
+LONGEST = 30        # how many seconds a room may take to play them
+LEFT = 1.5          # how many seconds a reader gets to read what is left in a ring buffer and a FIFO
 BOOKS = re.compile(r'output (\d+): decoded (\d+) written (\d+) discarded (\d+) left (\d+)')
 
 
 class Example(Process):
-    """The daemon with the settings of an example, whose paths in /tmp are in a folder here."""
+    """The daemon with the settings of an example, whose paths in /tmp are replaced by paths in another folder."""
 
     def __init__(self, program, folder, name):
         port = free_port()
@@ -39,7 +39,8 @@ class Example(Process):
         super().__init__([program, 'serve', '--config', settings], port, folder)
 
     def end(self):
-        """Ends it by `kill`, once the readers took what was left: what was written to each output, and whether its books balance."""
+        """Lets the readers read what is left, and ends the daemon with `kill`: how many frames were written to each output, and whether the
+        frame counts balance."""
         time.sleep(LEFT)
         client = self.client()
         client.send('kill')
@@ -61,7 +62,7 @@ def block_under(path, heading):
 
 
 def run_block(lines, folder, port):
-    """Runs commands in bash, where mpc asks this daemon."""
+    """Runs commands in bash, with mpc connecting to this daemon."""
     done = subprocess.run(['bash', '-c', moved(lines, folder, port)], env={**os.environ, 'MPD_PORT': str(port), 'MPD_HOST': '127.0.0.1'},
                           stdout=subprocess.PIPE, stderr=subprocess.STDOUT, text=True, timeout=60)
     return done.returncode, done.stdout
@@ -121,8 +122,8 @@ def check_ratings(table, program, folder):
 
 
 def main():
-    parser = argparse.ArgumentParser(description='Runs the examples.')
-    parser.add_argument('program', nargs='?')
+    parser = argparse.ArgumentParser(description='Runs the examples of README.md and examples/README.md.')
+    parser.add_argument('program', nargs='?', help='the built program (default: crates/music_daemon/out/music_daemon)')
     program, table = program_of(parser.parse_args().program), Table('Examples', 34, 60)
     for check in (check_three, check_two, check_ratings):
         with tempfile.TemporaryDirectory() as folder:

@@ -1,12 +1,14 @@
 #!/usr/bin/env python3
-"""Instructions of a ping and of a frame (callgrind): two runs each, one of which does twice as much; the difference is what is counted.
+"""Counts the instructions that a ping and a frame take (with callgrind). For each, two runs are made, of which the second does twice as much; the
+difference is counted.
 
     checks/serve/instructions.py [PROGRAM] [--where]
 
-A ping of a script from its line to its printed answer; a ping of a client of the daemon where 64 are in flight, alone and beside ten clients that
-idle; a frame of a file at the full volume through one output to /dev/null. With --where it says of a ping, of an add in a list of 1,000, of
-`plchangesposid` after a change in 16,000 entries and of a frame, also with cross-fades, which functions take them, with all that each calls: those above a
-twentieth, but for those around all, and the lock. It needs Debian's package valgrind.
+Counted are: a ping in a script, from its line to its printed answer; a ping of a client of the daemon, of which 64 are sent together, alone and
+while ten other clients are in `idle`; and a frame of a file, at full volume, through one output to /dev/null. With --where it shows which functions
+take the instructions, including everything that each function calls: for a ping, for an `add` in a command list of 1,000, for `plchangesposid` after
+a change in a queue of 16,000, and for a frame without and with cross-fades. It leaves out functions that take less than a twentieth (except the
+lock), and those around everything. It needs Debian's package valgrind.
 """
 import argparse
 import os
@@ -31,13 +33,13 @@ def counting(program, out):
 
 
 def counted(out):
-    """The instructions of a run."""
+    """How many instructions a run took."""
     with open(out, encoding='utf-8') as told:
         return int(re.search(r'^(?:summary|totals): (\d+)', told.read(), re.M)[1])
 
 
 def by_function(out):
-    """The instructions of a run by function, with all that it calls."""
+    """How many instructions each function took in a run, including everything that it calls."""
     words = ['callgrind_annotate', '--inclusive=yes', '--threshold=100', '--show-percs=no', out]
     told = subprocess.run(words, stdout=subprocess.PIPE, check=True).stdout.decode()
     found = {}
@@ -89,7 +91,7 @@ def of_flight(program, pings, idle, read=counted):
 
 
 def of_queue(program, entries, line, count, read):
-    """The same of a line that a client sends so often, in lists of 1,000, with so many entries in the queue."""
+    """The same for a line that a client sends so many times, in command lists of 1,000, with so many entries in the queue."""
     with tempfile.TemporaryDirectory() as folder:
         music = os.path.join(folder, 'music')
         put_songs(music, 1, 441)
@@ -135,7 +137,7 @@ def of_frames(program, frames, read=counted, entries=1, fade=0):
 
 
 def show_parts(what, less, more, count):
-    """Prints what each function takes of one of so many, by two runs."""
+    """Prints how many instructions each function takes for one ping, line or frame, from two runs that differ by so many of them."""
     each = {name: (more[name] - less.get(name, 0)) / count for name in more}
     whole = max(each.values())
     table = Table('\n%s: %.0f' % (what, whole), -8, 70)
@@ -150,15 +152,15 @@ def show_where(program):
     show_parts('An `add` in a list', *(of_queue(program, 0, 'add "{uri}"', count, by_function) for count in (4000, 8000)), 4000)
     show_parts('`plchangesposid`', *(of_queue(program, 16000, 'plchangesposid {version}', count, by_function) for count in (1000, 3000)), 2000)
     show_parts('A frame', of_frames(program, FRAMES, by_function), of_frames(program, 2 * FRAMES, by_function), FRAMES)
-    # Songs of 30 seconds, of which each fades into the next for 10: two more have 40 seconds to be heard.
+    # Songs of 30 seconds, each of which fades into the next for 10 seconds: two more songs are 40 more seconds of sound.
     less, more = (of_frames(program, 30 * RATE, by_function, entries, 10) for entries in (2, 4))
     show_parts('A frame, a third of which fade', less, more, 40 * RATE)
 
 
 def main():
-    parser = argparse.ArgumentParser(description='Counts the instructions of a ping and of a frame.')
-    parser.add_argument('program', nargs='?')
-    parser.add_argument('--where', action='store_true')
+    parser = argparse.ArgumentParser(description='Counts the instructions that a ping and a frame take.')
+    parser.add_argument('program', nargs='?', help='the built program (default: crates/music_daemon/out/music_daemon)')
+    parser.add_argument('--where', action='store_true', help='show which functions take the instructions')
     given = parser.parse_args()
     program = program_of(given.program)
     if given.where:

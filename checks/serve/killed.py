@@ -1,11 +1,11 @@
 #!/usr/bin/env python3
-"""kill -9 while clients save: at the next start the shelf is that before or after the change that was under way.
+"""Kills the daemon with kill -9 while clients save: after the next start, the playlist store must be as it was before the change that was being
+made, or as it is after it.
 
-    checks/serve/killed.py [PROGRAM] [--times N]      (100 if left out)
+    checks/serve/killed.py [PROGRAM] [--times N]      (by default 100 times)
 
-Two clients save lists, change them and set stickers, as fast as they are answered; the daemon is killed at a random moment and
-started again on the same file, and both ask for all that they made. What was answered is there, whole; of the one change that
-was not answered, all or nothing.
+Two clients save playlists, change them and set stickers, as fast as they get answers. The daemon is killed at a random moment and started again
+with the same file. Every change that was answered must be there completely, and the one that was not answered either completely or not at all.
 """
 import argparse
 import os
@@ -19,11 +19,11 @@ sys.dont_write_bytecode = True
 
 from daemon import Daemon, Table, program_of, put_songs
 
-LONGEST = 0.15  # the seconds that clients have at most before the kill
+LONGEST = 0.15  # how many seconds the clients have at most before the kill
 
 
 class Saver(threading.Thread):
-    """A client with lists and stickers of its own: what it knows to be kept, and what the change under way would make of it."""
+    """A client with its own lists and stickers: those that it knows to be saved, and what the change that is being made would turn them into."""
 
     def __init__(self, daemon, number, songs, seed, lists, stickers):
         super().__init__()
@@ -31,7 +31,7 @@ class Saver(threading.Thread):
         self.lists, self.stickers, self.under_way, self.made = lists, stickers, None, 0
 
     def change(self):
-        """A change: its line, and the lists and stickers after it."""
+        """A random change: its line, and the lists and stickers after it."""
         lists, stickers = dict(self.lists), dict(self.stickers)
         name = 'list %d %d' % (self.number, self.draw.randrange(6))
         song = self.draw.choice(self.songs)
@@ -79,14 +79,14 @@ class Saver(threading.Thread):
 
 
 def main():
-    parser = argparse.ArgumentParser(description='kill -9 while clients save.')
-    parser.add_argument('program', nargs='?')
-    parser.add_argument('--times', type=int, default=100)
+    parser = argparse.ArgumentParser(description='Kills the daemon with kill -9 while clients save.')
+    parser.add_argument('program', nargs='?', help='the built program (default: crates/music_daemon/out/music_daemon)')
+    parser.add_argument('--times', type=int, default=100, help='how many times (default: 100)')
     given = parser.parse_args()
     program = program_of(given.program)
     draw = random.Random(7)
     table = Table('kill -9 while clients save', 40, 60)
-    counts = {'before': 0, 'after': 0, 'nothing under way': 0, 'WRONG': 0}
+    counts = {'before': 0, 'after': 0, 'no change': 0, 'WRONG': 0}
     made = 0
     with tempfile.TemporaryDirectory() as folder:
         music, shelf = os.path.join(folder, 'music'), os.path.join(folder, 'shelf.db')
@@ -100,7 +100,7 @@ def main():
                     found = saver.kept(client)
                     answered = (saver.lists, saver.stickers)
                     if found == answered:
-                        counts['before' if saver.under_way else 'nothing under way'] += 1
+                        counts['before' if saver.under_way else 'no change'] += 1
                     elif found == saver.under_way:
                         counts['after'] += 1
                     else:
@@ -121,10 +121,12 @@ def main():
         status, _ = daemon.end()
     table.row('times killed', given.times)
     table.row('changes that were answered', made, right=made > 0)
+    names = {'before': 'the store was as before the change', 'after': 'the store was as after the change',
+             'no change': 'no change was being made', 'WRONG': 'the store was something else'}
     for name, count in counts.items():
-        table.row('the shelf was as ' + name if name != 'WRONG' else 'the shelf was anything else', count, right=name != 'WRONG' or count == 0)
-    table.row('a change was under way at a kill', counts['before'] + counts['after'], right=counts['before'] + counts['after'] > 0)
-    table.row('the last start ended with status', status, right=status == 0)
+        table.row(names[name], count, right=name != 'WRONG' or count == 0)
+    table.row('a change was being made at the kill', counts['before'] + counts['after'], right=counts['before'] + counts['after'] > 0)
+    table.row('exit status of the last daemon', status, right=status == 0)
     return table.status()
 
 

@@ -1,12 +1,12 @@
 #!/usr/bin/env python3
-"""Load: 64 clients and 8 outputs, and clients that misbehave while others ask.
+"""Puts load on the daemon: 64 clients and 8 outputs, and clients that misbehave while others send requests.
 
     checks/serve/load.py [PROGRAM] [--seconds N] [--connections N]
 
-N seconds of 64 clients that ping, edit and wait (60), then one client that never reads, one that is closed and does not read, one that
-sends 10 MB without a newline, one that sends random bytes, and so many connections that are opened and closed (10,000). Memory, answers a second and times are
-printed; the exit status is 1 where a client got no answer or another one than it was to get, where an answer took a second or
-longer, or where the daemon kept open files or memory that it had not before.
+For N seconds (60), 64 clients ping, edit and wait in `idle`. Then there are: a client that never reads; one that sends `close` and does not read;
+one that sends 10 MB without a newline; one that sends random bytes; and so many connections that are opened and closed (10,000). It prints memory,
+answers a second, and times. The exit status is 1 if a client gets no answer or a wrong one, if an answer takes a second or longer, or if the
+daemon afterwards has more open files, or much more memory, than before.
 """
 import argparse
 import os
@@ -22,16 +22,16 @@ sys.dont_write_bytecode = True
 
 from daemon import Client, Daemon, Pacer, Table, program_of, put_songs
 
-SLOWEST = 1.0       # the seconds within which each answer is to come
-GROWTH = 80         # the megabytes by which the daemon may grow: unsent answers, and the window
-SENT = 10_000_000   # the bytes of a line without end
-LAST_READ = 10      # the seconds that a client which is closed has for its last answers
-# The refusals that an edit may meet: a place that the queue no longer has, a song that is not there, and a queue of 16,384 entries.
+SLOWEST = 1.0       # how many seconds an answer may take
+GROWTH = 80         # by how many megabytes the daemon may grow, for unsent answers and the history's window
+SENT = 10_000_000   # how many bytes are sent without a newline
+LAST_READ = 10      # how many seconds a client that is being disconnected gets to read its last answers
+# The refusals that an edit may get: a place that the queue no longer has, a song that does not exist, and a full queue (16,384 entries).
 REFUSED = (b'ACK [2@0]', b'ACK [50@0]', b'ACK [51@0] {add} playlist is full', b'ACK [51@0] {addid} playlist is full')
 
 
 class Asker:
-    """A client of the event loop: it sends a request when its last one is answered, and keeps the times."""
+    """A client of the event loop: it sends a request when the last one has been answered, and records the times."""
 
     def __init__(self, port, number, kind):
         self.number, self.kind, self.draw = number, kind, random.Random(number)
@@ -54,7 +54,7 @@ class Asker:
         self.client.send(self.request())
 
     def read(self):
-        """Takes what came; false where the daemon closed the connection."""
+        """Reads what has arrived; returns False if the daemon has closed the connection."""
         piece = self.client.socket.recv(1 << 16)
         if not piece:
             return False
@@ -76,7 +76,7 @@ class Asker:
 
 
 def run_askers(askers, seconds):
-    """Runs the clients side by side; how many were closed."""
+    """Runs the clients at the same time, and returns how many were disconnected."""
     closed = 0
     with selectors.DefaultSelector() as ready:
         for asker in askers:
@@ -92,38 +92,38 @@ def run_askers(askers, seconds):
 
 
 def check_many(table, daemon, seconds):
-    """64 clients with the one that watches, and a 65th that is closed without a greeting."""
+    """64 clients, one of which only watches, and a 65th one, which must be disconnected without a greeting."""
     before, used = daemon.memory(), daemon.seconds()
-    # One more is connected: the one that watches.
+    # The client that only watches is connected already.
     kinds = ['ping'] * 24 + ['edit'] * 24 + ['wait'] * 15
     askers = [Asker(daemon.port, number, kind) for number, kind in enumerate(kinds)]
     more = Client(daemon.port, greeted=False)
     greeting = more.line()
     more.close()
-    table.row('the 65th client', 'closed without a greeting' if greeting == '' else greeting, right=greeting == '')
+    table.row('the 65th client', 'disconnected without a greeting' if greeting == '' else greeting, right=greeting == '')
     closed = run_askers(askers, seconds)
     used, after = daemon.seconds() - used, daemon.memory()
     for kind in ('ping', 'edit', 'wait'):
         of_kind = [asker for asker in askers if asker.kind == kind]
         count, slowest = sum(asker.count for asker in of_kind), max(asker.slowest for asker in of_kind)
         wrong, least = sum(asker.wrong for asker in of_kind), min(asker.count for asker in of_kind)
-        told = '%.0f a second, the least of a client %d' % (count / seconds, least)
-        told += ', slowest %.1f ms' % (1000 * slowest) if kind != 'wait' else ', %d changes told' % sum(asker.notices for asker in of_kind)
+        told = '%.0f answers a second, at least %d for each client' % (count / seconds, least)
+        told += ', slowest %.1f ms' % (1000 * slowest) if kind != 'wait' else ', %d changes reported' % sum(asker.notices for asker in of_kind)
         full = sum(asker.full for asker in of_kind)
-        told += ', %d found the queue full' % full if full else ''
+        told += ', %d edits found the queue full' % full if full else ''
         table.row('%d clients: %s' % (len(of_kind), kind), told + (', %d WRONG' % wrong if wrong else ''),
                   right=not wrong and least > 0 and slowest < SLOWEST)
     table.row('processor time', '%.0f %% of one' % (100 * used / seconds))
     table.row('memory', '%.1f MB, then %.1f MB' % (before, after), right=after - before < GROWTH)
-    table.row('clients that were closed', closed, right=closed == 0)
+    table.row('clients that were disconnected', closed, right=closed == 0)
     for asker in askers:
         asker.client.close()
-    # The daemon sees at its next round that they are gone.
+    # The daemon notices in its next round that they are gone.
     time.sleep(0.5)
 
 
 class Neighbour(threading.Thread):
-    """A client that pings all the while, as a measure of what another costs it."""
+    """A client that pings all the time, which shows how much another client disturbs it."""
 
     def __init__(self, port):
         super().__init__()
@@ -142,11 +142,11 @@ class Neighbour(threading.Thread):
         self.ends = True
         self.join()
         self.client.close()
-        return 'the slowest of %d pings beside it %.1f ms' % (self.count, 1000 * self.slowest)
+        return 'slowest of %d pings meanwhile %.1f ms' % (self.count, 1000 * self.slowest)
 
 
 def beside(table, daemon, name, misbehave):
-    """Misbehaves while a neighbour pings; the neighbour is to be answered in time, and memory is to stay bounded."""
+    """Misbehaves while another client pings, which must get its answers in time; and memory must stay bounded."""
     before = daemon.memory()
     neighbour = Neighbour(daemon.port)
     neighbour.start()
@@ -161,7 +161,7 @@ def beside(table, daemon, name, misbehave):
 
 
 def never_reads(port):
-    """Asks for the whole queue again and again, and reads nothing: it is closed when too much is unsent, or is read no more."""
+    """Asks for the whole queue again and again, and reads nothing: when too much is unsent, the daemon must disconnect it, or stop reading."""
     client = Client(port)
     client.socket.settimeout(5)
     count = 0
@@ -170,17 +170,17 @@ def never_reads(port):
             client.socket.sendall(b'playlistinfo\n' * 100)
             count += 100
     except socket.timeout:
-        return 'its requests are read no more after %d' % count, True
+        return 'the daemon stopped reading after %d requests' % count, True
     except OSError:
-        return 'closed after %d requests' % count, True
+        return 'disconnected after %d requests' % count, True
     finally:
         client.close()
-    return 'it was never closed', False
+    return 'it was never disconnected', False
 
 
 def closed_and_never_reads(daemon):
     def misbehave(port):
-        """Asks for more than the system's buffers hold, says `close`, and reads nothing: it has its place for ten seconds, and no longer."""
+        """Asks for more than the system's buffers hold, sends `close`, and reads nothing: it may keep its place for ten seconds, and no longer."""
         before = daemon.files()
         client = Client(port)
         client.socket.sendall(b'playlistinfo 0:1000\n' * 40 + b'close\n')
@@ -189,12 +189,12 @@ def closed_and_never_reads(daemon):
         time.sleep(LAST_READ)
         freed = daemon.files() == before
         client.close()
-        return '%d place held after %d s, %s after %d' % (held, LAST_READ / 2, 'none' if freed else 'still', 1.5 * LAST_READ), held == 1 and freed
+        return 'places held: %d after %d s, %s after %d s' % (held, LAST_READ / 2, '0' if freed else 'more', 1.5 * LAST_READ), held == 1 and freed
     return misbehave
 
 
 def no_newline(port):
-    """Sends 10 MB without a newline: it is closed at byte 16,385."""
+    """Sends 10 MB without a newline: it must be disconnected at byte 16,385."""
     client = Client(port)
     client.socket.settimeout(5)
     sent = 0
@@ -202,15 +202,15 @@ def no_newline(port):
         while sent < SENT:
             sent += client.socket.send(b'a' * 65536)
         line = client.line()
-        return 'closed without an answer' if line == '' else 'answered ' + line, line == ''
+        return 'disconnected without an answer' if line == '' else 'answered ' + line, line == ''
     except OSError as fault:
-        return 'closed after %d bytes were sent (%s)' % (sent, type(fault).__name__), not isinstance(fault, socket.timeout)
+        return 'disconnected after it had sent %d bytes (%s)' % (sent, type(fault).__name__), not isinstance(fault, socket.timeout)
     finally:
         client.close()
 
 
 def random_bytes(port):
-    """Sends random bytes, with newlines among them, and a whole line at their end."""
+    """Sends random bytes, with newlines among them, and a proper line at the end."""
     draw = random.Random(1)
     answers = closed = 0
     for _ in range(20):
@@ -242,26 +242,26 @@ def many_connections(count):
                 client.send('ping')
             client.close()
         wanted = sum(number % 3 > 0 for number in range(count))
-        return '%d opened and closed, %d greeted of %d that waited' % (count, greeted, wanted), greeted == wanted
+        return '%d opened and closed; %d of the %d that waited for a greeting got it' % (count, greeted, wanted), greeted == wanted
     return connect
 
 
 def check_misbehaviour(table, daemon, connections):
     beside(table, daemon, 'never reads', never_reads)
-    beside(table, daemon, 'closed and never reads', closed_and_never_reads(daemon))
+    beside(table, daemon, 'sends close, never reads', closed_and_never_reads(daemon))
     beside(table, daemon, '10 MB without a newline', no_newline)
     beside(table, daemon, 'random bytes', random_bytes)
     beside(table, daemon, 'connections', many_connections(connections))
 
 
 def main():
-    parser = argparse.ArgumentParser(description='Load on the daemon.')
-    parser.add_argument('program', nargs='?')
-    parser.add_argument('--seconds', type=int, default=60)
-    parser.add_argument('--connections', type=int, default=10_000)
+    parser = argparse.ArgumentParser(description='Puts load on the daemon.')
+    parser.add_argument('program', nargs='?', help='the built program (default: crates/music_daemon/out/music_daemon)')
+    parser.add_argument('--seconds', type=int, default=60, help='how long the 64 clients send requests (default: 60)')
+    parser.add_argument('--connections', type=int, default=10_000, help='how many connections are opened and closed (default: 10,000)')
     given = parser.parse_args()
     program = program_of(given.program)
-    table = Table('Load, with 8 outputs that play', 28, 100)
+    table = Table('Load, while 8 outputs play', 30, 100)
     with tempfile.TemporaryDirectory() as folder:
         music = os.path.join(folder, 'music')
         put_songs(music, 100, 441_000)
@@ -277,7 +277,7 @@ def main():
             check_misbehaviour(table, daemon, given.connections)
             time.sleep(1)
             state = client.value('status', 'state')
-            table.row('it plays on', state, right=state == 'play')
+            table.row('it goes on playing', state, right=state == 'play')
             table.row('open files', '%d, then %d' % (files, daemon.files()), right=daemon.files() == files)
             client.must('stop')
             status, summary = daemon.end()

@@ -1,14 +1,18 @@
 #!/usr/bin/env python3
-"""Refused memory: in each run one allocation of the daemon, from its start to `kill`, finds no memory.
+"""Refused memory: in each run one allocation of the daemon, between its start and `kill`, fails.
 
     checks/serve/memory.py [PROGRAM] [--step N] [--jobs N]
 
-N counts up until a run ends before its Nth allocation; with --step only each Nth is tried. Two clients add, save, ask, wait and play.
-A run is right where each answer is. A start may end with status 1 and `music_daemon: out of memory`; a client may be closed before
-its greeting, and then comes again; one answer may want memory (`ACK [52@..]`), and all later answers are as if its line, of a list
-its later lines, had not come. An output whose file could not be opened for want of memory is off, as for any fault of opening, and
-discarded all. Where there is no memory for the end, the daemon ends with status 1 and that line. Else what was played is whole in
-the output's file, and the summary balances.
+First the first allocation is refused, then the second, and so on, until a run ends before that allocation; with --step only every Nth is tried.
+Two clients add songs, save a playlist, ask questions, wait in `idle` and play. A run is right if each answer is right, and if at most one of these
+happens:
+- the start ends with status 1 and `music_daemon: out of memory`;
+- a client is disconnected before its greeting, and then connects again;
+- a request is refused for lack of memory (`ACK [52@..]`); then all later answers are as if this line, and in a command list the lines after it, had
+  not come;
+- an output whose file could not be opened for lack of memory is off, as after any other fault, and has discarded everything;
+- the daemon has no memory for its end, and ends with status 1 and that line.
+Otherwise the output's file has everything that was played, and the frame counts in the summary balance.
 """
 import argparse
 import concurrent.futures
@@ -29,7 +33,7 @@ SUMMARY = re.compile(r'output 0: decoded (\d+) written (\d+) discarded (\d+) lef
 IDLE = 'output 0: decoded 0 written 0 discarded 0 left 0\n'
 RIGHT, START_ENDED, CLOSED, REFUSED, OFF, NO_SUMMARY, FAILED = 'right', 'start ended', 'client closed', 'answer refused', 'output off', 'no summary', 'FAILED'
 SORTS = RIGHT, START_ENDED, CLOSED, REFUSED, OFF, NO_SUMMARY, FAILED
-LONGEST = 10    # the seconds within which all is played
+LONGEST = 10    # how many seconds playing everything may take
 
 
 class Wrong(Exception):
@@ -37,7 +41,7 @@ class Wrong(Exception):
 
 
 class Household:
-    """Two clients of a daemon, and what it must answer them: the ids in the queue, and the list that was saved."""
+    """Two clients of a daemon, and what determines the right answers: the songs in the queue, and the list that was saved."""
 
     def __init__(self, daemon):
         self.daemon, self.queue, self.added, self.saved, self.sticker = daemon, [], 0, None, False
@@ -45,19 +49,19 @@ class Household:
         self.first, self.second = self.let_in(), self.let_in()
 
     def let_in(self):
-        """A client that was greeted. One for which there was no memory is closed, and comes again."""
+        """A client that got its greeting. If there was no memory for it, it is disconnected, and connects again."""
         while True:
             try:
                 client = Client(self.daemon.port)
                 if client.greeting:
                     return client
             except ConnectionResetError:
-                # unless it was the start that ended, this client comes again
+                # This client connects again, unless the start has ended.
                 time.sleep(0.02)
             self.closed += 1
 
     def ask(self, line, wanted):
-        """Whether a line is answered as it must be; if not, it wanted memory."""
+        """Whether a line gets the right answer; if not, it was refused for lack of memory."""
         answer = self.first.ask(line)
         if answer == wanted:
             return True
@@ -76,7 +80,7 @@ class Household:
         return True
 
     def add_list(self, uris):
-        """Songs that are added in one list; those before the one that wants memory stand."""
+        """Adds songs in one command list; if one is refused for lack of memory, those before it stay in the queue."""
         self.first.send('\n'.join(['command_list_ok_begin', *('addid %s' % uri for uri in uris), 'command_list_end']))
         answer, wanted = self.first.answer(), []
         for place, uri in enumerate(uris):
@@ -90,7 +94,7 @@ class Household:
             raise Wrong('a list: %s' % answer)
 
     def status(self):
-        """What `status` says by its keys, once it is answered."""
+        """The fields of `status`, by their keys; asks again if it is refused for lack of memory."""
         while True:
             answer = self.first.ask('status')
             if answer[-1] == 'OK':
@@ -105,7 +109,7 @@ class Household:
             raise Wrong('status: %s at %d songs and %d changes' % (status, len(self.queue), self.changes))
 
     def edit(self):
-        """Songs are added, kept and shown."""
+        """Adds songs, saves them as a list, and asks about them."""
         self.add('a.wav')
         self.add('b.wav')
         self.changes = len(self.queue)
@@ -124,9 +128,9 @@ class Household:
         self.look()
 
     def wait(self):
-        """The second client waits, and hears of a change of the first."""
+        """Lets the second client wait in `idle`, and checks that it gets a notice of a change by the first."""
         self.second.send('idle playlist')
-        # its line has been read once a line that came later is answered
+        # When a line that was sent later has been answered, the daemon has read the `idle`.
         self.status()
         if not self.add('a.wav'):
             self.second.send('noidle')
@@ -150,13 +154,13 @@ class Household:
         return 'outputenabled: 0' in answer
 
     def play(self, path):
-        """All songs are played, one after the other, and written, unless the output is off."""
+        """Plays all songs, and waits until they have been written, unless the output is off."""
         while not self.ask('play 0', ['OK']):
             pass
         end = time.monotonic() + LONGEST
         while self.status()['state'] != 'stop' or not (self.is_off() or os.path.exists(path) and os.path.getsize(path) == 4 * self.frames()):
             if time.monotonic() > end:
-                raise Wrong('it still plays')
+                raise Wrong('it is still playing')
             time.sleep(0.01)
 
     def kill(self):
@@ -171,7 +175,7 @@ class Household:
 
 
 def listens(daemon):
-    """Whether it came to listen; a start that ended wanted memory."""
+    """Whether the daemon listens; if it does not, its start has ended for lack of memory."""
     end = time.monotonic() + START
     while time.monotonic() < end:
         if daemon.process.poll() is not None:
@@ -185,7 +189,7 @@ def listens(daemon):
 
 
 def met(daemon):
-    """Its two clients; none where its start ended, which it may also do once it listens."""
+    """The daemon's two clients; None if its start has ended, which may happen even after it has begun to listen."""
     try:
         return Household(daemon) if listens(daemon) else None
     except ConnectionRefusedError:
@@ -193,8 +197,8 @@ def met(daemon):
 
 
 def ended(daemon, played, path):
-    """The sort of the end of a daemon that was ended by `kill`: it wrote all; or its output could not be opened, and it discarded
-    all; or it had no memory for the end."""
+    """How a daemon ended after `kill`: it wrote everything; or its output could not be opened, and it discarded everything; or it had no memory for
+    its end."""
     status = daemon.process.wait(END)
     if (status, daemon.output(), daemon.unusual()) == (1, '', 'music_daemon: out of memory'):
         return NO_SUMMARY
@@ -208,12 +212,12 @@ def ended(daemon, played, path):
     if (decoded, written, size) == (played, played, 4 * played):
         return RIGHT
     if size is not None or (written, left) != (0, 0):
-        raise Wrong('%d frames were played, the file has %s bytes; %s' % (played, size, summary.group()))
+        raise Wrong('%d frames were played, but the file has %s bytes; %s' % (played, size, summary.group()))
     return OFF
 
 
 def run(program, library, music, number):
-    """One run: its sort, why it is wrong, and how many allocations it made."""
+    """Makes one run: its sort, what is wrong, and how many allocations it made."""
     with tempfile.TemporaryDirectory() as folder:
         path, report = os.path.join(folder, 'out.raw'), os.path.join(folder, 'report')
         environment = dict(os.environ, LD_PRELOAD=library, FAULTY_REPORT=report, FAULTY_ALLOCATION=str(number))
@@ -245,10 +249,10 @@ def count_in(report):
 
 
 def main():
-    parser = argparse.ArgumentParser(description='Refused memory of a daemon.')
-    parser.add_argument('program', nargs='?')
-    parser.add_argument('--step', type=int, default=1)
-    parser.add_argument('--jobs', type=int, default=4)
+    parser = argparse.ArgumentParser(description='Refuses one allocation of the daemon in each run.')
+    parser.add_argument('program', nargs='?', help='the built program (default: crates/music_daemon/out/music_daemon)')
+    parser.add_argument('--step', type=int, default=1, metavar='N', help='refuse only every Nth allocation (default: 1)')
+    parser.add_argument('--jobs', type=int, default=4, help='how many runs at a time (default: 4)')
     given = parser.parse_args()
     program, sorts, failures, tried = program_of(given.program), dict.fromkeys(SORTS, 0), [], 0
     with tempfile.TemporaryDirectory() as folder, concurrent.futures.ThreadPoolExecutor(given.jobs) as pool:
@@ -269,7 +273,7 @@ def main():
                 failures += [why] if sort == FAILED else []
             tried = numbers[-1] + given.step - 1
             is_over = is_over or len(failures) > 20
-    print('One allocation of a daemon is refused, from its start to `kill`: %d runs' % sum(sorts.values()))
+    print('In each run one allocation of the daemon is refused, between its start and `kill`: %d runs' % sum(sorts.values()))
     for sort in SORTS:
         print('  %-16s %6d' % (sort, sorts[sort]))
     for why in failures:

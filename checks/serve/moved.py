@@ -1,11 +1,12 @@
 #!/usr/bin/env python3
-"""A shelf's file of profile 1 that a start moves to profile 2: with each write of the move refused, with the daemon killed at each, and
-killed many times at a moment drawn. What is then in the file is read by Debian's sqlite3 and by the daemon.
+"""Checks that a start converts a playlist store (a shelf) of a version before 0.9.0, which has profile 1, to profile 2. This is done with each
+write of the conversion refused in turn, with the daemon killed at each write, and with the daemon killed many times at random moments. Each time
+sqlite3 and the daemon read what is then in the file.
 
-    checks/serve/moved.py [PROGRAM] [--kills N]      (200 if left out)
+    checks/serve/moved.py [PROGRAM] [--kills N]      (by default 200 kills)
 
-The file is one that was closed, and one left open with its log beside it. The row of playlists' stickers is run over a file too, with
-a start between any two of its lines.
+The file is one that was closed properly, and one that was left open, with its log next to it. The worked row about stickers of playlists is also
+run on a file, with a restart between any two of its lines.
 """
 import argparse
 import glob
@@ -23,8 +24,8 @@ sys.dont_write_bytecode = True
 from daemon import HERE, ROOT, Daemon, Table, program_of, put_songs
 
 ROW = os.path.join(ROOT, 'crates', 'worked_rows', 'data', 'stickers-of-stored-playlists.row')
-MANY = 5_000      # the stickers of the file whose move is killed at moments that are drawn
-MOST = 100_000    # the stickers of the file whose move is timed
+MANY = 5_000      # how many stickers the file has whose conversion is killed at random moments
+MOST = 100_000    # how many stickers the file has whose conversion is timed
 TABLES = (
     'CREATE TABLE profile (one INTEGER PRIMARY KEY CHECK (one = 1), number INTEGER NOT NULL)',
     'CREATE TABLE list (name TEXT NOT NULL PRIMARY KEY, uris TEXT NOT NULL)',
@@ -35,7 +36,7 @@ NAMES = {1: {'profile', 'list', 'sticker'}, 2: {'profile', 'list', 'sticker', 'n
 
 
 def files_of(path):
-    """The file of a store and those beside it, such as its log, but for what sqlite3 shares in memory."""
+    """The file of a store, and those next to it, such as its log, except the one that sqlite3 maps as shared memory."""
     return [name for name in glob.glob(glob.escape(path) + '*') if not name.endswith('-shm')]
 
 
@@ -48,7 +49,7 @@ def copy(source, target):
 
 
 def first_profile(path, lists, stickers, is_closed):
-    """A file of profile 1, as the release before wrote it, in a store with a log."""
+    """Writes a file of profile 1 with a log, as releases before 0.9.0 did."""
     made = path + '.made'
     store = sqlite3.connect(made, isolation_level=None)
     store.execute('PRAGMA journal_mode = WAL')
@@ -71,7 +72,8 @@ def first_profile(path, lists, stickers, is_closed):
 
 
 def read(path):
-    """The number of the profile, the lists, and the stickers of songs, as sqlite3 reads a copy of the file; None where no profile says it."""
+    """The profile's number, the lists, and the stickers of songs, as sqlite3 reads them from a copy of the file; None if the file is not an intact
+    store of one of the profiles."""
     with tempfile.TemporaryDirectory() as folder:
         other = os.path.join(folder, 'copy.db')
         copy(path, other)
@@ -85,7 +87,7 @@ def read(path):
         lists = dict(store.execute('SELECT name, uris FROM list'))
         rows = store.execute("SELECT 'song', uri, name, value FROM sticker").fetchall()
         if number == 2:
-            # the old table is to be empty
+            # The old table must be empty.
             rows = store.execute('SELECT kind, target, name, value FROM note').fetchall() if not rows else None
         store.close()
         return number, lists, rows
@@ -98,7 +100,7 @@ def is_kept(path, lists, stickers):
 
 
 class Trial:
-    """A file of profile 1 in a folder, and starts over copies of it."""
+    """A file of profile 1, and starts of the daemon on copies of it."""
 
     def __init__(self, program, folder, music, lists, stickers, is_closed=True):
         self.program, self.folder, self.music, self.lists, self.stickers = program, folder, music, lists, stickers
@@ -115,7 +117,7 @@ class Trial:
         return Daemon(self.program, self.folder, self.music, shelf=self.path, wait=wait, environment=environment)
 
     def is_told(self):
-        """Whether the daemon, started over what is there, tells these lists and stickers and has moved them."""
+        """Starts the daemon on the file as it is: whether it answers with these lists and stickers, and has converted the file."""
         daemon = self.start()
         client = daemon.client()
         lists = {name: client.must('listplaylist "%s"' % name) for name in (line[10:] for line in client.must('listplaylists'))}
@@ -133,7 +135,8 @@ class Trial:
         return status == 0 and lists == told and found == self.stickers and kept is not None and kept[0] == 2
 
     def try_write(self, library, variable, count):
-        """A start with the fault at this write: whether it ended by that, whether the move was done, and whether anything is wrong."""
+        """Starts the daemon with a fault at this write: whether the start ended, whether the conversion was complete, and whether anything is
+        wrong."""
         self.put_back()
         daemon = self.start(dict(os.environ, LD_PRELOAD=library, **{variable: str(count)}), wait=False)
         ended = self.is_ended(daemon)
@@ -142,7 +145,7 @@ class Trial:
         return ended, moved, not kept or not self.is_told()
 
     def is_ended(self, daemon):
-        """Whether it ended by itself, or by the fault; one that listens is killed."""
+        """Whether it ended by itself or because of the fault; if it listens instead, it is killed."""
         try:
             daemon.wait_for_port()
         except AssertionError:
@@ -155,7 +158,7 @@ class Trial:
 
 
 def small(songs):
-    """Lists and stickers with what is hard: empty texts, quotes, long ones, names that differ in case."""
+    """Lists and stickers that are difficult: with empty texts, quotes, long texts, and names that differ only in case."""
     lists = {'one': ''.join(uri + '\n' for uri in songs), 'none': '', "it's": songs[0] + '\n'}
     stickers = {(uri, name): '%s of %d' % (name, number) for number, uri in enumerate(songs) for name in ('rating', 'Rating')}
     stickers[songs[0], 'long'] = 'x' * 4000
@@ -165,7 +168,7 @@ def small(songs):
 
 
 def try_writes(table, trial, library, how):
-    """Each write of a start in turn: the program is killed at it until one start has no such write, and then it is refused."""
+    """For each write of a start: kills the program at this write, until a start has no such write; and then refuses each of these writes."""
     stops, moved, wrong = 0, 0, 0
     while True:
         ended, is_moved, is_wrong = trial.try_write(library, 'FAULTY_STOP', stops + 1)
@@ -173,16 +176,16 @@ def try_writes(table, trial, library, how):
         if not ended:
             break
         stops, moved = stops + 1, moved + is_moved
-    table.row('%s, killed at each of %d writes, %d after the move' % (how, stops, moved), '%d wrong' % wrong, right=stops > 0 and wrong == 0 and moved < stops)
+    table.row('%s, killed at each of %d writes, %d after it was converted' % (how, stops, moved), '%d wrong' % wrong, right=stops > 0 and wrong == 0 and moved < stops)
     ends, wrong = 0, 0
     for count in range(1, stops + 1):
         ended, _, is_wrong = trial.try_write(library, 'FAULTY_WRITE', count)
         ends, wrong = ends + ended, wrong + is_wrong
-    table.row('%s, each refused in turn, %d starts ended by it' % (how, ends), '%d wrong' % wrong, right=ends > 0 and wrong == 0)
+    table.row('%s, each write refused in turn, which ended %d starts' % (how, ends), '%d wrong' % wrong, right=ends > 0 and wrong == 0)
 
 
 def try_kills(table, trial, kills):
-    """Kills at moments drawn from the time that a start with the move takes, and a third of it more."""
+    """Kills the daemon at random moments, within the time that a start with the conversion takes, and a third more."""
     draw = random.Random(11)
     began = time.monotonic()
     trial.start().kill()
@@ -196,11 +199,11 @@ def try_kills(table, trial, kills):
         kept = is_kept(trial.path, trial.lists, trial.stickers)
         wrong += not kept
         moved += kept and read(trial.path)[0] == 2
-    table.row('killed %d times within %.2f s, %d of them after the move' % (kills, longest, moved), '%d wrong' % wrong, right=wrong == 0 and 0 < moved < kills)
+    table.row('killed %d times within %.2f s, %d of them after it was converted' % (kills, longest, moved), '%d wrong' % wrong, right=wrong == 0 and 0 < moved < kills)
 
 
 def lines_of_row():
-    """The lines of the row of playlists' stickers, each with its answer."""
+    """The lines of the worked row about stickers of playlists, each with its answer."""
     steps = []
     with open(ROW, encoding='utf-8') as row:
         for line in row:
@@ -212,7 +215,7 @@ def lines_of_row():
 
 
 def try_row(table, program, folder, music):
-    """The row over a file, with another start of the daemon between any two of its lines."""
+    """Runs that row on a file, with a restart of the daemon between any two of its lines."""
     steps, path, wrong = lines_of_row(), os.path.join(folder, 'row.db'), 0
     for cut in range(len(steps) + 1):
         for name in files_of(path):
@@ -223,7 +226,7 @@ def try_row(table, program, folder, music):
             wrong += sum(client.ask(line) != answer for line, answer in part)
             client.close()
             wrong += daemon.end()[0] != 0
-    table.row('the row of %d lines with a start between any two' % len(steps), '%d wrong' % wrong, right=bool(steps) and wrong == 0)
+    table.row('the worked row, with a restart between any two of its %d lines' % len(steps), '%d wrong' % wrong, right=bool(steps) and wrong == 0)
 
 
 def seconds_to_start(trial):
@@ -235,12 +238,12 @@ def seconds_to_start(trial):
 
 
 def main():
-    parser = argparse.ArgumentParser(description='Moves a shelf of profile 1.')
-    parser.add_argument('program', nargs='?')
-    parser.add_argument('--kills', type=int, default=200)
+    parser = argparse.ArgumentParser(description='Checks that a start converts a playlist store of profile 1.')
+    parser.add_argument('program', nargs='?', help='the built program (default: crates/music_daemon/out/music_daemon)')
+    parser.add_argument('--kills', type=int, default=200, help='how many kills at random moments (default: 200)')
     given = parser.parse_args()
     program = program_of(given.program)
-    table = Table('A shelf of profile 1 that is moved', 70, 40)
+    table = Table('A playlist store of profile 1 that is converted', 70, 40)
     with tempfile.TemporaryDirectory() as folder:
         music, library = os.path.join(folder, 'music'), os.path.join(folder, 'faulty.so')
         put_songs(music, 12, 100)
@@ -249,7 +252,7 @@ def main():
         for how, is_closed in (('closed', True), ('left open', False)):
             trial = Trial(program, folder, music, *small(songs), is_closed)
             right = read(trial.path)[0] == 1 and trial.is_told() and is_kept(trial.path, trial.lists, trial.stickers)
-            table.row('%s, moved, told by the daemon, read by sqlite3' % how, 'as it was' if right else 'not so', right=right)
+            table.row('%s, converted, read by the daemon and by sqlite3' % how, 'as it was' if right else 'not as it was', right=right)
             try_writes(table, trial, library, how)
         try_row(table, program, folder, music)
         many = {('song %d' % number, 'rating'): str(number) for number in range(MANY)}
@@ -257,7 +260,7 @@ def main():
         trial = Trial(program, folder, music, {}, {('song %d' % number, 'rating'): str(number) for number in range(MOST)})
         first, later = seconds_to_start(trial), seconds_to_start(trial)
         right = is_kept(trial.path, {}, trial.stickers) and read(trial.path)[0] == 2
-        table.row('%d stickers are moved' % MOST, '%.2f s, and %.2f s once they are' % (first, later), right=right)
+        table.row('a start with %d stickers' % MOST, '%.2f s with the conversion, %.2f s later' % (first, later), right=right)
     return table.status()
 
 

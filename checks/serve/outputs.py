@@ -1,5 +1,5 @@
 #!/usr/bin/env python3
-"""What becomes of outputs whose path or reader fails, while clients are served.
+"""Checks what happens to outputs whose path or reader fails, and that clients are served meanwhile.
 
     checks/serve/outputs.py [PROGRAM]
 """
@@ -13,7 +13,7 @@ sys.dont_write_bytecode = True
 from daemon import Daemon, Pacer, Table, check_each, program_of
 
 RATE = 44100
-READ = 100_000  # the bytes that a reader takes before it goes away
+READ = 100_000  # how many bytes a reader reads before it leaves
 
 
 def enabled(client):
@@ -21,7 +21,7 @@ def enabled(client):
 
 
 def becomes(asked, wanted, seconds=10):
-    """Whether what is asked becomes what is wanted in time; and what it was last."""
+    """Whether a value becomes the expected one in time; and what it was the last time."""
     end = time.monotonic() + seconds
     while time.monotonic() < end:
         found = asked()
@@ -49,10 +49,10 @@ def playing(program, folder, music, outputs):
 
 
 def check_no_path(table, program, folder, music):
-    """A path that cannot be opened: its output is off, the other goes on, and it cannot be turned on again."""
+    """A path that cannot be opened: its output is switched off and cannot be switched on again, and the other one goes on."""
     daemon, client = playing(program, folder, music, [os.path.join(folder, 'nosuch', 'file'), '/dev/null'])
     right, found = becomes(lambda: enabled(client), ['0', '1'])
-    table.row('a path in a folder that is not there', 'enabled: %s' % ' '.join(found), right=right)
+    table.row('a path in a folder that does not exist', 'enabled: %s' % ' '.join(found), right=right)
     refused = client.ask('enableoutput 0')[-1]
     table.row('', refused, right=refused == 'ACK [52@0] {enableoutput} output has failed')
     failed = [line for line in daemon.errors().splitlines() if 'cannot write' in line]
@@ -65,14 +65,14 @@ def check_no_path(table, program, folder, music):
 
 
 def check_reader_goes(table, program, folder, music):
-    """A FIFO whose reader goes away: its output is off, and the other, a paced one, plays on."""
+    """A FIFO whose reader leaves: its output is switched off, and the other, which is read at the pace of a sound card, goes on playing."""
     gone, pacer = os.path.join(folder, 'gone'), Pacer(os.path.join(folder, 'paced'))
     os.mkfifo(gone)
     reader = subprocess.Popen([sys.executable, '-c', 'import sys; open(sys.argv[1], "rb").read(%d)' % READ, gone])
     daemon, client = playing(program, folder, music, [pacer.path, gone])
     reader.wait()
     right, found = becomes(lambda: enabled(client), ['1', '0'])
-    table.row('a reader that goes away', 'enabled: %s' % ' '.join(found), right=right)
+    table.row('a reader that leaves', 'enabled: %s' % ' '.join(found), right=right)
     before = float(client.value('status', 'elapsed'))
     time.sleep(1)
     after = float(client.value('status', 'elapsed'))
@@ -85,7 +85,7 @@ def check_reader_goes(table, program, folder, music):
 
 
 def check_no_reader(table, program, folder, music):
-    """A FIFO without a reader: nothing plays, clients are served, and all goes on once there is a reader."""
+    """A FIFO without a reader: nothing plays, clients are served, and everything goes on once there is a reader."""
     alone = os.path.join(folder, 'alone')
     os.mkfifo(alone)
     daemon, client = playing(program, folder, music, [alone, '/dev/null'])
@@ -95,7 +95,7 @@ def check_no_reader(table, program, folder, music):
     time.sleep(1)
     used = daemon.seconds() - used
     after = client.value('status', 'elapsed')
-    table.row('a FIFO without a reader', 'elapsed %s, a second later %s; slowest ping %.1f ms; %.0f ms of processor' % (before, after, slowest * 1e3, used * 1e3),
+    table.row('a FIFO without a reader', 'elapsed %s, a second later %s; slowest ping %.1f ms; %.0f ms of processor time' % (before, after, slowest * 1e3, used * 1e3),
               right=before == after and slowest < 0.5 and used < 0.3)
     reader = subprocess.Popen(['cat', alone], stdout=subprocess.DEVNULL)
     right, _ = becomes(lambda: client.value('status', 'elapsed') != after, True)
@@ -107,21 +107,21 @@ def check_no_reader(table, program, folder, music):
 
 
 def check_slow_reader(table, program, folder, music):
-    """A reader that stops reading: clients are served, and the end waits for it until it is gone."""
+    """A reader that stops reading: clients are served, and the end of the daemon waits for the reader until it is gone."""
     slow = os.path.join(folder, 'slow')
     os.mkfifo(slow)
     reader = subprocess.Popen([sys.executable, '-c', 'import sys, time; file = open(sys.argv[1], "rb", 0); file.read(4096); time.sleep(1000)', slow])
     daemon, client = playing(program, folder, music, [slow])
     time.sleep(1)
     slowest = slowest_ping(client)
-    table.row('a reader that stops', 'slowest ping %.1f ms' % (slowest * 1e3), right=slowest < 0.5)
+    table.row('a reader that stops reading', 'slowest ping %.1f ms' % (slowest * 1e3), right=slowest < 0.5)
     client.send('kill')
     time.sleep(0.5)
     waits = daemon.process.poll() is None
     reader.kill()
     reader.wait()
     status = daemon.process.wait(20)
-    table.row('', 'kill waits for it: %s; then status %d, %s' % ('yes' if waits else 'no', status, daemon.output().strip()),
+    table.row('', 'kill waits for the reader: %s; then status %d, %s' % ('yes' if waits else 'no', status, daemon.output().strip()),
               right=status == 0 and 'unsettled' not in daemon.output())
 
 

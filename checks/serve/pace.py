@@ -1,12 +1,12 @@
 #!/usr/bin/env python3
-"""What the daemon costs while it is stopped, paused and plays, and how fast it decodes.
+"""Measures what the daemon costs while it is stopped, paused and playing, and how fast it decodes.
 
     checks/serve/pace.py [PROGRAM] [--seconds N]
 
-With 0, 1, 3 and 8 outputs that are read as fast as they are heard: processor time in percent of one processor, memory, and whether the
-books settle. Then frames a second through one and three outputs that take all (/dev/null), and microseconds of a ping alone, beside three
-more clients, and beside the decoder and three such outputs, which take the lock for each block. A daemon that is stopped or paused may use half
-a percent of one processor.
+With 0, 1, 3 and 8 outputs that are read as fast as they are heard, it prints processor time (in percent of one processor) and memory, and checks
+that the frame counts balance. Then it prints frames a second through one and through three outputs that take everything at once (/dev/null); and
+microseconds of a ping: alone, while three more clients ping, and while the decoder and three such outputs take the lock for each block. A daemon
+that is stopped or paused may use half a percent of one processor.
 """
 import argparse
 import os
@@ -22,22 +22,22 @@ sys.dont_write_bytecode = True
 from daemon import Daemon, Pacer, Table, program_of, put_songs, wave
 
 RATE = 44100
-LONG = 10_000_000  # frames of 16 bits and two channels
+LONG = 10_000_000  # how many frames the long song has, of 16 bits and two channels
 IDLE = 0.5
-PINGS = 64  # in flight
+PINGS = 64  # how many pings are sent together
 FLOOD = 'import socket, sys\nclient = socket.create_connection(("127.0.0.1", int(sys.argv[1])))\nclient.recv(100)\n' \
     'while True:\n    client.sendall(b"ping\\n" * 64)\n    held = 0\n    while held < 192:\n        held += len(client.recv(4096))\n'
 
 
 def used(daemon, seconds):
-    """The processor time in percent while nobody asks."""
+    """Processor time in percent, while no client sends requests."""
     start, before = time.monotonic(), daemon.seconds()
     time.sleep(seconds)
     return 100 * (daemon.seconds() - before) / (time.monotonic() - start)
 
 
 def settled(summary):
-    """The numbers of each output, and whether each frame that was decoded was written, discarded or left."""
+    """The frame counts of each output, and whether every decoded frame was written, discarded or left over."""
     found = [[int(number) for number in re.findall(r'[a-z]+ (\d+)(?= |$)', line.split(':')[1])] for line in summary]
     return found, all(len(it) == 4 and it[0] == sum(it[1:]) for it in found)
 
@@ -53,7 +53,7 @@ def check_idle(table, program, count, seconds):
         client.must('add ""')
         client.must('repeat 1')
         stopped = used(daemon, seconds)
-        # Without an output nothing takes frames in time, so nothing is played.
+        # Without an output nothing takes frames, so nothing is played.
         playing = paused = 0.0
         if count:
             client.must('play')
@@ -104,7 +104,7 @@ def check_speed(table, program, count, seconds):
 
 
 def ping_time(client, seconds):
-    """Microseconds of a ping where 64 are in flight."""
+    """Microseconds for each ping if 64 are sent together."""
     count, start = 0, time.monotonic()
     while time.monotonic() - start < seconds:
         client.socket.sendall(b'ping\n' * PINGS)
@@ -142,9 +142,9 @@ def check_callers(table, program, seconds):
 
 
 def main():
-    parser = argparse.ArgumentParser(description='What the daemon costs, and how fast it decodes.')
-    parser.add_argument('program', nargs='?')
-    parser.add_argument('--seconds', type=float, default=10)
+    parser = argparse.ArgumentParser(description='Measures what the daemon costs, and how fast it decodes.')
+    parser.add_argument('program', nargs='?', help='the built program (default: crates/music_daemon/out/music_daemon)')
+    parser.add_argument('--seconds', type=float, default=10, help='for how long each figure is measured (default: 10)')
     given = parser.parse_args()
     program = program_of(given.program)
     idle = Table('Processor time, of one processor\n  outputs  stopped   paused    playing   memory     the end', 7, 8, 8, 8, 9, 60)

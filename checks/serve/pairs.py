@@ -1,5 +1,5 @@
-"""Figures for beside_mpd.py for which both servers are started anew: a larger library; frames a second, processor time and wake-ups while
-they play."""
+"""The figures of beside_mpd.py for which both servers are started again: those with a larger library, and frames a second, processor time and
+wake-ups while they play."""
 import os
 import struct
 import tempfile
@@ -9,9 +9,9 @@ from daemon import Daemon, Mpd, NULL, Pacer, put_songs, wave
 
 RATE = 44100
 LIBRARY = 5000
-SONG = 30 * RATE      # the frames of a song, of 16 bits and two channels
-FADE = 10             # the seconds of a cross-fade
-SECONDS = 10          # how long processor time and wake-ups are counted
+SONG = 30 * RATE      # how many frames a song has, of 16 bits and two channels
+FADE = 10             # how many seconds a cross-fade takes
+SECONDS = 10          # for how many seconds processor time and wake-ups are counted
 FAST = 'type "null"\nsync "no"'
 PIPE = 'type "fifo"\npath "%s"\nformat "44100:16:2"'
 
@@ -24,7 +24,7 @@ def put_song(music):
 
 
 class Pair:
-    """Both servers on one folder, each with outputs of its own."""
+    """Both servers on the same folder, each with its own outputs."""
 
     def __init__(self, program, folder, music, with_mpd, outputs, of_mpd):
         own = tempfile.mkdtemp(dir=folder)
@@ -45,7 +45,7 @@ def queue(client, entries):
 
 
 def speed(entries, fade):
-    """Million frames a second of so many songs, each of which fades into the next for so many seconds."""
+    """Million frames a second, while so many songs are played, each of which fades into the next for so many seconds."""
     def measured(server):
         client = server.client()
         queue(client, entries)
@@ -53,7 +53,7 @@ def speed(entries, fade):
         start = time.perf_counter()
         client.must('play 0')
         while client.value('status', 'state') != 'stop':
-            # No wait for a notice: MPD stands still at a song's end, now and then, until a client asks.
+            # This asks again and again instead of waiting for a notice, since MPD now and then stops at the end of a song until a client asks.
             time.sleep(0.01)
         passed = time.perf_counter() - start
         client.close()
@@ -62,7 +62,7 @@ def speed(entries, fade):
 
 
 def woken(server):
-    """How often threads of a server were woken: each let its processor go of itself before."""
+    """How often the threads of a server were woken, which is how often they had given up the processor by themselves."""
     folder, count = '/proc/%d/task' % server.process.pid, 0
     for task in os.listdir(folder):
         with open('%s/%s/status' % (folder, task)) as file:
@@ -71,7 +71,7 @@ def woken(server):
 
 
 def costs(server):
-    """Processor time in percent of one processor, and wake-ups a second."""
+    """Processor time, in percent of one processor, and wake-ups a second."""
     start, used, before = time.perf_counter(), server.seconds(), woken(server)
     time.sleep(SECONDS)
     passed = time.perf_counter() - start
@@ -90,7 +90,7 @@ def of_pipes(server):
 
 
 def of_idle(server):
-    """Processor time and wake-ups a second while ten clients wait."""
+    """Processor time and wake-ups a second while ten clients wait in `idle`."""
     waiting = [server.client() for _ in range(10)]
     for one in waiting:
         one.send('idle')
@@ -102,7 +102,7 @@ def of_idle(server):
 
 
 def of_library(server):
-    """Milliseconds of a list of all songs, the best of five."""
+    """Milliseconds that `listall` takes, the best of five times."""
     client, best = server.client(), float('inf')
     for _ in range(5):
         start = time.perf_counter()
@@ -116,7 +116,7 @@ def of_library(server):
 
 
 def figures(program, folder, with_mpd):
-    """Rows of a name, a unit and a figure of each server."""
+    """Rows with a name, a unit, and a figure for each server."""
     library, music = os.path.join(folder, 'library'), os.path.join(folder, 'music')
     put_songs(library, LIBRARY, 441)
     put_song(music)

@@ -1,12 +1,13 @@
 #!/usr/bin/env python3
-"""Partitions: 16 of them with 64 clients, what one costs, and rooms that play apart.
+"""Checks partitions: 16 of them with 64 clients, what a partition costs, and rooms that play independently.
 
     checks/serve/partitions.py [PROGRAM] [--seconds N]
 
-N seconds (20) of 63 clients in 16 partitions that edit, ask and wait there, each in a queue that no other partition shows; the instructions
-of lines with one partition and with 16 (by Debian's package valgrind), and the memory of an empty one; two rooms of which one's reader stands still; and an output
-that is moved to and fro while both its partitions play. The exit status is 1 where an answer is wrong, where a client
-hears of another partition, where a room falls silent for another's reader, or where the books of an output do not balance.
+There are: for N seconds (20), 63 clients in 16 partitions, which edit, ask and wait there, each partition with its own queue; how many instructions
+some lines take with one partition and with 16 (with Debian's package valgrind), and how much memory an empty partition takes; two rooms, in one of
+which the reader stalls; and an output that is moved back and forth while both its partitions play. The exit status is 1 if an answer is wrong, if a
+client is told of a change in another partition, if a room falls silent because of another room's reader, or if the frame counts of an output do not
+balance.
 """
 import argparse
 import os
@@ -22,27 +23,28 @@ sys.dont_write_bytecode = True
 from daemon import Client, Daemon, Pacer, Table, program_of, put_songs
 from load import Asker, run_askers
 
-MOST = 16           # partitions
-DEAREST = 1.5       # times what a line costs where there is one partition
-TIMES = 200         # that a line is run
-# lines of a script, and how many events its history holds (0: as many as by default); with 1 each event is folded
+MOST = 16           # how many partitions there are
+DEAREST = 1.5       # how many times as much a line may cost with 16 partitions as with one
+TIMES = 200         # how many times a line is run
+# lines of a script, and how many events its history's window holds (0: the default); with 1 there is a fold for each event
 COSTS = [
     ('`ping`', ['1 ping'], 0),
     ('`status`', ['1 status'], 0),
     ('`outputs`', ['1 outputs'], 0),
     ('`addid`', ['1 addid a.wav'], 0),
     ('`setvol`', ['1 setvol 30', '1 setvol 40'], 0),
-    ('a change told to a client', ['2 idle mixer', '1 setvol 30', '2 idle mixer', '1 setvol 40'], 0),
+    ('a change reported to a client', ['2 idle mixer', '1 setvol 30', '2 idle mixer', '1 setvol 40'], 0),
     ('a `ping` and a fold', ['1 ping'], 1),
 ]
-EMPTY = 20          # the most kB of an empty partition
-SLOWEST = 1.0       # the seconds within which each answer is to come
-MOVES = 40          # of an output that is moved to and fro
+EMPTY = 20          # how many kB an empty partition may take
+SLOWEST = 1.0       # how many seconds an answer may take
+MOVES = 40          # how many times an output is moved
 BOOKS = re.compile(r'output (\d+): decoded (\d+) written (\d+) discarded (\d+) left (\d+)')
 
 
 class Tenant(Asker):
-    """A client of a partition. A silent one waits for what none of its partition changes, once it was told of all that its move raised."""
+    """A client in a partition. A silent one waits for something that nobody in its partition changes; before that it gets the notice about its own
+    move to the partition."""
 
     def __init__(self, port, number, kind, place):
         super().__init__(port, number, kind)
@@ -52,7 +54,7 @@ class Tenant(Asker):
             if self.client.ask('partition p%d' % place) != ['OK']:
                 raise AssertionError('no partition p%d' % place)
             if self.client.ask('idle options') != ['changed: options', 'OK']:
-                raise AssertionError('a move does not raise everything')
+                raise AssertionError('after a move to another partition, idle does not report everything')
             self.client.socket.setblocking(False)
 
     def request(self):
@@ -69,7 +71,7 @@ def new_partitions(daemon, count):
 
 
 def check_load(table, program, folder, music, seconds):
-    """16 partitions with four clients each, one of which waits for what nobody in its partition changes; eight of them play."""
+    """16 partitions with four clients each, one of which waits for something that nobody in its partition changes; eight partitions play."""
     pacers = [Pacer(os.path.join(folder, 'fifo%d' % number)) for number in range(8)]
     daemon = Daemon(program, folder, music, [pacer.path for pacer in pacers])
     first = new_partitions(daemon, MOST)
@@ -91,8 +93,8 @@ def check_load(table, program, folder, music, seconds):
         table.row('%d clients: %s' % (len(of_kind), kind), '%.0f a second, slowest %.1f ms, %d wrong' % (
             sum(tenant.count for tenant in of_kind) / seconds, 1000 * slowest, wrong), right=not wrong and slowest < SLOWEST)
     heard = sum(tenant.notices for tenant in tenants if tenant.kind == 'silent')
-    table.row('clients that wait for modes', '%d changes told' % heard, right=heard == 0)
-    table.row('clients that were closed', closed, right=closed == 0)
+    table.row('clients that wait for modes', '%d changes reported' % heard, right=heard == 0)
+    table.row('clients that were disconnected', closed, right=closed == 0)
     names = {line for line in first.must('listpartitions')}
     table.row('listpartitions', '%d names' % len(names), right=len(names) == MOST)
     for tenant in tenants:
@@ -101,7 +103,8 @@ def check_load(table, program, folder, music, seconds):
 
 
 def balances(table, daemon, pacers=(), client=None):
-    """The daemon ends, and each output's frames are those written, discarded or left. A client that is there has a place for sure."""
+    """Ends the daemon, and checks that the frame counts of each output balance. If a client is given, it is used, since a new one might find no free
+    place."""
     client = client or daemon.client()
     for line in client.must('listpartitions'):
         client.must('partition %s' % line.partition(': ')[2])
@@ -112,11 +115,11 @@ def balances(table, daemon, pacers=(), client=None):
         pacer.close()
     books = [[int(word) for word in BOOKS.match(line).groups()] for line in summary if BOOKS.match(line)]
     right = status == 0 and books and all(decoded == written + discarded + left for _, decoded, written, discarded, left in books)
-    table.row('the books at the end', '%d outputs, %d frames decoded' % (len(books), sum(book[1] for book in books)), right=right)
+    table.row('frame counts at the end', '%d outputs, %d frames decoded' % (len(books), sum(book[1] for book in books)), right=right)
 
 
 def instructions(program, folder, lines, partitions, length, history):
-    """Instructions of some lines of a script, by callgrind, with so many partitions of which the first has so many entries."""
+    """How many instructions some lines of a script take, counted by callgrind, with so many partitions; the first one has so many entries."""
     before = ['! song a.wav 8000'] + ['! limit history %d' % history] * bool(history)
     before += ['1 newpartition p%d' % number for number in range(1, partitions)] + ['1 add a.wav'] * length
     counted = []
@@ -130,11 +133,11 @@ def instructions(program, folder, lines, partitions, length, history):
 
 
 def check_cost(table, program, folder, music):
-    """What lines cost with one partition and with 16, in instructions; and the memory of an empty partition."""
+    """What lines cost with one partition and with 16, in instructions; and how much memory an empty partition takes."""
     for name, lines, history in COSTS:
         one = instructions(program, folder, lines, 1, 0, history)
         of_many = instructions(program, folder, lines, MOST, 0, history)
-        # a fold copies every partition, so 16 may cost what one does 16 times
+        # A fold copies every partition, so with 16 it may cost 16 times as much.
         most = (MOST if history else DEAREST) * one
         table.row(name, '%.0f instructions, with 16 partitions %.0f' % (one, of_many), right=of_many <= most)
     daemon = Daemon(program, folder, music, ['/dev/null'])
@@ -151,7 +154,7 @@ def check_cost(table, program, folder, music):
 
 
 def check_rooms(table, program, folder, music):
-    """A reader in one room stands still: the other room plays on."""
+    """The reader in one room stalls: the other room goes on playing."""
     still, pacer = os.path.join(folder, 'still'), Pacer(os.path.join(folder, 'paced'))
     os.mkfifo(still)
     reader = subprocess.Popen([sys.executable, '-c', 'import sys, time; file = open(sys.argv[1], "rb", 0); file.read(4096); time.sleep(1000)', still])
@@ -166,15 +169,15 @@ def check_rooms(table, program, folder, music):
     before = float(kitchen.value('status', 'elapsed')), float(upstairs.value('status', 'elapsed'))
     time.sleep(2)
     after = float(kitchen.value('status', 'elapsed')), float(upstairs.value('status', 'elapsed'))
-    table.row('a reader that stands still', 'its room %.3f, two seconds later %.3f' % (before[1], after[1]), right=before[1] == after[1])
-    table.row('', 'the other room %.3f, then %.3f' % (before[0], after[0]), right=after[0] - before[0] > 1)
+    table.row('a reader that stalls', 'elapsed in its room %.3f, two seconds later %.3f' % (before[1], after[1]), right=before[1] == after[1])
+    table.row('', 'elapsed in the other room %.3f, then %.3f' % (before[0], after[0]), right=after[0] - before[0] > 1)
     reader.kill()
     reader.wait()
     balances(table, daemon, [pacer])
 
 
 def check_moves(table, program, folder, music):
-    """An output is moved to and fro while both partitions play."""
+    """An output is moved back and forth while both partitions play."""
     pacers = [Pacer(os.path.join(folder, 'room%d' % number)) for number in range(2)]
     daemon = Daemon(program, folder, music, [pacer.path for pacer in pacers])
     one, two = daemon.client(), new_partitions(daemon, 2)
@@ -197,9 +200,9 @@ def check_moves(table, program, folder, music):
 
 
 def main():
-    parser = argparse.ArgumentParser(description='Checks of several partitions.')
-    parser.add_argument('program', nargs='?')
-    parser.add_argument('--seconds', type=float, default=20)
+    parser = argparse.ArgumentParser(description='Checks partitions.')
+    parser.add_argument('program', nargs='?', help='the built program (default: crates/music_daemon/out/music_daemon)')
+    parser.add_argument('--seconds', type=float, default=20, help='how long the clients send requests (default: 20)')
     given = parser.parse_args()
     program, table = program_of(given.program), Table('Partitions', 34, 90)
     checks = [lambda *them: check_load(*them, given.seconds), check_cost, check_rooms, check_moves]

@@ -1,12 +1,13 @@
 #!/usr/bin/env python3
-"""Outputs with patience: a reader that stands still is waited for so long and no longer, and an end never waits for it.
+"""Checks outputs with `patience` (a timeout): the daemon waits that long, and no longer, for a reader that stalls; and it never waits for one when it
+is shut down.
 
     checks/serve/patience.py [PROGRAM]
 
-Three outputs with patience, of which one's reader stops for a minute: the gaps in the sound of the others, answers while it stands, who is off
-and on again, the books at the end; a FIFO that nobody reads; a reader that goes away and comes back; an output that its user switched off
-or on while its path stood still; a player that is stopped meanwhile; a moved output; `kill` within a second; and the state, which has an
-output on that is off for its path.
+There are: three outputs with patience, of which one's reader stalls for a minute (measured are the gaps in the sound of the others, the answers
+meanwhile, which outputs are switched off and on again, and the frame counts at the end); a FIFO that nobody reads; a reader that leaves and comes
+back; an output that a user switches off or on while its reader stalls; a player that is stopped meanwhile; an output that was moved to another
+partition; `kill`, which must end the daemon within a second; and the saved state, in which an output that was switched off for its reader is on.
 """
 import os
 import re
@@ -21,16 +22,16 @@ from daemon import Client, Daemon, Pacer, Process, Table, check_each, free_port,
 
 RATE = 44100
 PATIENCE = 2        # seconds
-LATEST = 1.5        # seconds after its patience within which an output is off, and after its path's return within which it is on
-GAP = 0.5           # the most seconds by which the others may fall silent beyond the patience
-STEADY = 0.5        # the most seconds without sound of an output that nobody holds up
-SLOWEST = 0.5       # the seconds within which each answer is to come
-ENDS = 1.0          # the seconds within which a daemon is to end
+LATEST = 1.5        # how many seconds after its patience an output may still be on, and after its reader's return still off
+GAP = 0.5           # how many seconds longer than the patience the other outputs may be silent
+STEADY = 0.5        # how many seconds an output may be silent that nothing holds up
+SLOWEST = 0.5       # how many seconds an answer may take
+ENDS = 1.0          # how many seconds a daemon may take to end
 BOOKS = re.compile(r'output (\d+): decoded (\d+) written (\d+) discarded (\d+) left (\d+)')
 
 
 class Reader(Pacer):
-    """A paced reader that tells of each piece when it came, and can be made to stand still."""
+    """A reader at the pace of a sound card that records when each piece came, and that can be made to stall."""
 
     CODE = 'import sys, time\nfile = open(sys.argv[1], "rb", 0)\nrate = int(sys.argv[2])\ntold = open(sys.argv[1] + ".times", "a", 1)\n' \
         'start, done = time.monotonic(), 0\nwhile True:\n    piece = file.read(4096)\n    if not piece:\n        break\n' \
@@ -51,7 +52,7 @@ class Reader(Pacer):
         self.process.send_signal(signal.SIGCONT)
 
     def pieces(self):
-        """When each piece came, and how many bytes it had."""
+        """When each piece came, and how many bytes it has."""
         with open(self.path + '.times') as file:
             return [(float(line.split()[0]), int(line.split()[1])) for line in file if line.endswith('\n')]
 
@@ -61,7 +62,7 @@ class Reader(Pacer):
 
 
 class Patient(Daemon):
-    """A daemon whose outputs have patience, where it is a number."""
+    """A daemon with outputs that have patience, or none if it is None."""
 
     def __init__(self, program, folder, music, outputs, more='', wait=True, rate=RATE):
         self.settings = os.path.join(folder, 'settings.toml')
@@ -80,7 +81,7 @@ def enabled(client):
 
 
 def becomes(asked, wanted, seconds):
-    """After how many seconds what is asked is what is wanted; None where it is not in time."""
+    """After how many seconds a value is the expected one; None if it is not in time."""
     start = time.monotonic()
     while time.monotonic() < start + seconds:
         if asked() == wanted:
@@ -99,7 +100,7 @@ def play(client, *lines):
 
 
 def end(table, daemon, readers=()):
-    """The daemon ends within a second, and the books of each output balance."""
+    """Checks that the daemon ends within a second, and that the frame counts of each output balance."""
     client = daemon.client()
     start = time.monotonic()
     client.send('kill')
@@ -112,7 +113,7 @@ def end(table, daemon, readers=()):
     table.row('`kill`', 'status %s after %.2f s' % (status, took), right=status == 0 and took < ENDS)
     books = [[int(word) for word in BOOKS.match(line).groups()] for line in daemon.output().splitlines() if BOOKS.match(line)]
     right = bool(books) and all(decoded == written + discarded + left for _, decoded, written, discarded, left in books)
-    table.row('the books', '; '.join('%d = %d + %d + %d' % tuple(book[1:]) for book in books), right=right)
+    table.row('frame counts', '; '.join('%d = %d + %d + %d' % tuple(book[1:]) for book in books), right=right)
     for reader in readers:
         reader.goes_on()
         reader.close()
@@ -130,12 +131,12 @@ def slowest_answer(client, seconds):
 
 
 def check_minute(table, program, folder, music):
-    """Of three readers one stops for a minute. The rings last longer than its patience: the others never fall silent."""
+    """One of three readers stalls for a minute. The ring buffers last longer than the patience, so the other outputs never fall silent."""
     stand(table, program, folder, music, 'ring = 65536', 1, 60, STEADY)
 
 
 def check_stands(table, program, folder, music):
-    """With rings that do not, the others wait for it as long as it has patience, and no longer."""
+    """With ring buffers that do not last as long, the others fall silent for as long as the patience, and no longer."""
     stand(table, program, folder, music, '', PATIENCE, 5, PATIENCE + GAP)
 
 
@@ -150,17 +151,17 @@ def stand(table, program, folder, music, more, patience, seconds, most):
     stopped = time.monotonic()
     readers[1].stands()
     off = becomes(lambda: enabled(client), '101', patience + 1 + LATEST)
-    table.row('%s patience %d: it is off after' % (more, patience), shown(off), right=off is not None and off >= patience - 0.1)
-    table.row('a client that waits is told', waiter.answer()[0], right=off is not None)
+    table.row('%s patience %d: it is switched off after' % (more, patience), shown(off), right=off is not None and off >= patience - 0.1)
+    table.row('a client in `idle` gets', waiter.answer()[0], right=off is not None)
     slowest = slowest_answer(client, stopped + seconds - time.monotonic())
     now = time.monotonic()
-    table.row('slowest answer while it stands', '%.0f ms, for %.0f s' % (1000 * slowest, now - stopped), right=slowest < SLOWEST)
+    table.row('slowest answer while it stalls', '%.0f ms, for %.0f s' % (1000 * slowest, now - stopped), right=slowest < SLOWEST)
     for number in (0, 2):
         gap, later = readers[number].longest_gap(stopped, now), readers[number].longest_gap(now - 2, now)
-        table.row('output %d: longest gap' % number, '%.2f s, and once it is off %.2f s' % (gap, later), right=gap < most and later < STEADY)
+        table.row('output %d: longest gap' % number, '%.2f s; after the other is off, %.2f s' % (gap, later), right=gap < most and later < STEADY)
     readers[1].goes_on()
     back = becomes(lambda: enabled(client), '111', LATEST)
-    table.row('its reader goes on: it is on after', shown(back), right=back is not None)
+    table.row('its reader goes on: it is switched on after', shown(back), right=back is not None)
     time.sleep(2)
     now = time.monotonic()
     for number in range(3):
@@ -175,7 +176,7 @@ def stand(table, program, folder, music, more, patience, seconds, most):
 
 
 def check_short(table, program, folder, music):
-    """A reader that stands still for less than the patience: all wait, nothing is lost, and none is off."""
+    """A reader that stalls for less than the patience: all outputs wait, nothing is lost, and none is switched off."""
     readers = [Reader(os.path.join(folder, 'short%d' % number)) for number in range(2)]
     daemon = Patient(program, folder, music, [(reader.path, 30) for reader in readers])
     client = daemon.client()
@@ -191,32 +192,32 @@ def check_short(table, program, folder, music):
 
 
 def check_unread(table, program, folder, music):
-    """A FIFO that nobody reads from the start: the other plays once its patience is over; a reader comes, goes and comes again."""
+    """A FIFO that nobody reads from the start: the other output plays once the patience is over. Then a reader comes, leaves and comes again."""
     alone, paced = os.path.join(folder, 'alone'), Reader(os.path.join(folder, 'beside'))
     os.mkfifo(alone)
     daemon = Patient(program, folder, music, [(alone, PATIENCE), (paced.path, PATIENCE)])
     client = daemon.client()
     play(client)
     off = becomes(lambda: enabled(client), '01', PATIENCE + 1 + LATEST)
-    table.row('a FIFO without a reader: off after', shown(off), right=off is not None and off >= PATIENCE - 0.1)
+    table.row('a FIFO without a reader: switched off after', shown(off), right=off is not None and off >= PATIENCE - 0.1)
     time.sleep(2)
     gap = paced.longest_gap(time.monotonic() - 1, time.monotonic())
     table.row('the other: longest gap', '%.2f s' % gap, right=gap < STEADY)
     for word in ('a reader comes', 'another comes'):
         reader = Reader(alone)
         back = becomes(lambda: enabled(client), '11', LATEST)
-        table.row('%s: on after' % word, shown(back), right=back is not None)
+        table.row('%s: switched on after' % word, shown(back), right=back is not None)
         time.sleep(1)
         count = sum(size for _, size in reader.pieces())
         table.row('', '%d bytes, whole frames' % count, right=count > 0 and count % 4 == 0)
         reader.close()
         off = becomes(lambda: enabled(client), '01', PATIENCE + 1 + LATEST)
-        table.row('it goes: off after', shown(off), right=off is not None and off >= PATIENCE - 0.5)
+        table.row('it leaves: switched off after', shown(off), right=off is not None and off >= PATIENCE - 0.5)
     end(table, daemon, [paced])
 
 
 def check_by_hand(table, program, folder, music):
-    """A user switches an output on while its path stands: its patience begins anew. One that a user switched off stays off."""
+    """If a user switches an output on while its reader stalls, its patience begins again. If a user switches it off, it stays off."""
     readers = [Reader(os.path.join(folder, 'hand%d' % number)) for number in range(2)]
     daemon = Patient(program, folder, music, [(reader.path, PATIENCE) for reader in readers])
     client = daemon.client()
@@ -227,10 +228,10 @@ def check_by_hand(table, program, folder, music):
     for turn in range(3):
         client.must('enableoutput 0')
         off = becomes(lambda: enabled(client), '01', PATIENCE + 1 + LATEST)
-        table.row('on by hand, %d: off after' % (turn + 1), shown(off), right=off is not None and off >= PATIENCE - 0.1)
+        table.row('switched on by a user, %d: off after' % (turn + 1), shown(off), right=off is not None and off >= PATIENCE - 0.1)
     readers[0].goes_on()
     back = becomes(lambda: enabled(client), '11', LATEST)
-    table.row('its reader goes on: on after', shown(back), right=back is not None)
+    table.row('its reader goes on: switched on after', shown(back), right=back is not None)
     refused = client.ask('enableoutput 0')[-1]
     table.row('it has not failed', refused, right=refused == 'OK')
     client.must('disableoutput 0')
@@ -239,12 +240,12 @@ def check_by_hand(table, program, folder, music):
     time.sleep(PATIENCE + 2)
     readers[0].goes_on()
     time.sleep(LATEST)
-    table.row('off by hand, and its reader stands and goes on', enabled(client), right=enabled(client) == '01')
+    table.row('off by a user; its reader stalls and goes on', enabled(client), right=enabled(client) == '01')
     end(table, daemon, readers)
 
 
 def check_switches(table, program, folder, music):
-    """Of an output that is off for its path somebody's later word holds: on and off again, it stays off."""
+    """An output was switched off for its reader, and then a user switches it on and off again: it stays off."""
     reader = Reader(os.path.join(folder, 'switches'))
     daemon = Patient(program, folder, music, [(reader.path, PATIENCE)])
     client = daemon.client()
@@ -258,7 +259,7 @@ def check_switches(table, program, folder, music):
     time.sleep(0.5)
     reader.goes_on()
     time.sleep(LATEST)
-    table.row('on and off by hand while its reader stands', enabled(client), right=enabled(client) == '0')
+    table.row('on and off by a user while its reader stalls', enabled(client), right=enabled(client) == '0')
     client.must('enableoutput 0')
     time.sleep(1)
     reader.stands()
@@ -274,7 +275,7 @@ def check_switches(table, program, folder, music):
 
 
 def check_stopped(table, program, folder, music):
-    """While nothing is played no output is switched off, however long its reader stands still."""
+    """While nothing is played, no output is switched off, however long its reader stalls."""
     readers = [Reader(os.path.join(folder, 'stopped%d' % number)) for number in range(2)]
     daemon = Patient(program, folder, music, [(reader.path, PATIENCE) for reader in readers])
     client = daemon.client()
@@ -286,7 +287,7 @@ def check_stopped(table, program, folder, music):
         client.must(word)
         used = daemon.seconds()
         off = becomes(lambda: enabled(client), '01', 2 * PATIENCE + 1)
-        table.row('`%s` while it stands: off after' % word, '%s, %.2f s of a processor' % (shown(off), daemon.seconds() - used), right=off is None)
+        table.row('`%s` while it stalls: off after' % word, '%s, %.2f s of processor time' % (shown(off), daemon.seconds() - used), right=off is None)
         readers[0].goes_on()
         time.sleep(1)
         client.must(again)
@@ -296,7 +297,7 @@ def check_stopped(table, program, folder, music):
 
 
 def check_moved(table, program, folder, music):
-    """An output of another partition is switched off and on there."""
+    """An output in another partition is switched off and on there."""
     readers = [Reader(os.path.join(folder, 'moved%d' % number)) for number in range(2)]
     daemon = Patient(program, folder, music, [(reader.path, PATIENCE) for reader in readers])
     kitchen, upstairs = daemon.client(), daemon.client()
@@ -316,7 +317,7 @@ def check_moved(table, program, folder, music):
 
 
 def check_end(table, program, folder, music):
-    """`kill` while the path stands, before and after its output is off; and what it did not take is told."""
+    """`kill` while the reader stalls, before and after its output is switched off; and the daemon says how much the reader did not take."""
     for name, seconds in (('within its patience', 0.5), ('once it is off', PATIENCE + 2)):
         path = os.path.join(folder, 'end %.1f' % seconds)
         reader = Reader(path)
@@ -332,7 +333,7 @@ def check_end(table, program, folder, music):
 
 
 def check_without(table, program, folder, music):
-    """Without the key an output is waited for, as an output beside it with the key is not."""
+    """An output without the key `patience` is waited for without limit, even if another output has the key."""
     readers = [Reader(os.path.join(folder, 'without%d' % number)) for number in range(2)]
     daemon = Patient(program, folder, music, [(readers[0].path, None), (readers[1].path, PATIENCE)])
     client = daemon.client()
@@ -349,7 +350,7 @@ def check_without(table, program, folder, music):
 
 
 def check_kept(table, program, folder, music):
-    """The state has an output on that is off for its path: after `kill`, and after `kill -9` while it is off."""
+    """In the saved state an output that was switched off for its reader is on: after `kill`, and after `kill -9` while it is off."""
     for word in ('kill', 'kill -9'):
         kept, reader = os.path.join(folder, 'state of ' + word), Reader(os.path.join(folder, 'kept by ' + word))
         daemon = Patient(program, folder, music, [(reader.path, PATIENCE)], 'state = "%s"' % kept)
@@ -372,7 +373,7 @@ def check_kept(table, program, folder, music):
 
 
 def check_clients(table, program, folder, music):
-    """With patience 63 clients are served, and with a state 62."""
+    """With patience the daemon serves 63 clients, and with a saved state as well 62."""
     for more, wanted in (('', 63), ('state = "%s"' % os.path.join(folder, 'state of clients'), 62)):
         daemon = Patient(program, folder, music, [('/dev/null', PATIENCE)], more)
         time.sleep(1)
@@ -385,7 +386,7 @@ def check_clients(table, program, folder, music):
                     clients.append(client)
             except OSError:
                 pass
-        table.row('clients that are served%s' % (' beside a state' if more else ''), len(clients), right=len(clients) == wanted)
+        table.row('clients that are served%s' % (' with a saved state' if more else ''), len(clients), right=len(clients) == wanted)
         for client in clients:
             client.close()
         time.sleep(0.5)

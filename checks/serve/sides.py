@@ -1,4 +1,4 @@
-"""The two daemons of differences.py: the songs that both play, and a daemon to which transcripts are sent."""
+"""The parts of differences.py that deal with the daemons: the songs that both have, and how a transcript is sent to a daemon."""
 import os
 import re
 import struct
@@ -8,7 +8,7 @@ from daemon import ANSWER, Client, wave
 
 RATE = 8000
 INFO = {'Title': b'INAM', 'Artist': b'IART', 'Album': b'IPRD', 'Date': b'ICRD', 'Genre': b'IGNR', 'Comment': b'ICMT'}
-# a URI, its seconds of silence, its tags
+# the URI of each song, its seconds of silence, and its tags
 SONGS = [
     ('Bare.wav', 20, {}),
     ('Brief.wav', 0.2, {'Title': 'Fly'}),
@@ -22,10 +22,10 @@ SONGS = [
     ('zoo/den/c.wav', 20, {'Title': 'Emu', 'Album': 'Two'}),
     ('zoo/z.wav', 20, {'Title': 'Gnu', 'Album': 'One', 'Comment': 'live'}),
 ]
-WAIT = 0.2    # the seconds in which a client that waits is told of a change
-LATEST = 15   # the seconds within which a status is to become what a transcript waits for
+WAIT = 0.2    # how many seconds a waiting client is given until it gets its notice
+LATEST = 15   # how many seconds a transcript waits for a value of `status` at most
 
-# What is not compared, since it is another in each run, or counts from another start in each daemon: a pattern and what stands for it.
+# What is not compared, since it changes from run to run, or since the two daemons count from different starts: a pattern, and its replacement.
 VOLATILE = [
     (r'(elapsed|uptime|db_update|Last-Modified): .*', r'\1: T'),
     (r'time: \d+:', 'time: T:'),
@@ -48,7 +48,7 @@ def put_library(folder):
 
 
 class Speaker(Client):
-    """A client of a transcript, and whether it is within a list or waits for a notice."""
+    """A client of a transcript, and whether it is in a command list, or waits in `idle`."""
 
     def __init__(self, port, owner):
         super().__init__(port)
@@ -56,7 +56,7 @@ class Speaker(Client):
         self.is_listing = self.is_idle = self.is_closed = self.has_idle = False
 
     def told(self, seconds):
-        """What it is sent within so many seconds, up to the end of an answer."""
+        """What it receives within so many seconds, up to the end of an answer."""
         self.socket.settimeout(seconds)
         lines = []
         try:
@@ -71,12 +71,12 @@ class Speaker(Client):
         return lines
 
     def told_soon(self):
-        """What it is sent where perhaps nothing comes: the daemon has answered another client since."""
+        """What it receives if perhaps nothing comes: first the daemon must have answered another client."""
         self.owner.must('ping')
         return self.told(WAIT)
 
     def say(self, data):
-        """Sends a line: what it is answered."""
+        """Sends a line, and returns the answer."""
         self.socket.sendall(data + b'\n')
         word = data.split(b' ')[0]
         if self.is_listing or data.strip() in LIST_BEGINS:
@@ -87,7 +87,7 @@ class Speaker(Client):
         return self.told(ANSWER)
 
     def collect(self, word):
-        """A line of a list. MPD begins to wait where a list has `idle`."""
+        """Sends a line of a command list. If a list contains `idle`, MPD begins to wait."""
         self.is_listing, self.has_idle = word != b'command_list_end', self.has_idle and self.is_listing or word == b'idle'
         if self.is_listing:
             return self.told_soon() if self.is_idle else []
@@ -96,8 +96,8 @@ class Speaker(Client):
 
 
 class Side:
-    """A daemon during one transcript. Ids and queue versions are counted from its start: `$1` is the first id after it, `%0` the version
-    that the queue had."""
+    """A daemon during a transcript. Ids and queue versions are counted from the beginning of the transcript: `$1` is the first id after it, and
+    `%0` the version that the queue had then."""
 
     def __init__(self, server):
         self.port, self.clients, self.owner = server.port, {}, Client(server.port)
@@ -108,10 +108,10 @@ class Side:
         return self.clients[number]
 
     def begin(self):
-        """Makes the player as it was when it was opened."""
+        """Puts the player back into the state in which it was started."""
         for client in [self.owner, *self.clients.values()]:
             client.close()
-        # MPD closes a client that says nothing for a minute, as long as the other daemon may be busy.
+        # MPD disconnects a client that sends nothing for a minute, which is how long the other daemon may be busy.
         self.owner, self.clients, self.partition = Client(self.port), {}, 'default'
         for name in values(self.owner.must('listpartitions'), 'partition'):
             if name != 'default':
@@ -121,23 +121,23 @@ class Side:
         self.first_id, self.first_version = int(values(told, 'Id')[0]), int(values(told, 'playlist')[0])
 
     def end(self):
-        """Takes away the stickers, which no other command does."""
+        """Deletes the stickers, which `begin` does not do."""
         for uri, _, _ in SONGS:
             self.owner.ask('sticker delete song ' + quoted(uri))
 
     def take_back(self, name):
-        """Ends a partition, whose outputs come back."""
+        """Deletes a partition, after its outputs have been moved back."""
         end = time.monotonic() + ANSWER
         for output in ('out0', 'out1'):
             self.owner.must('moveoutput ' + output)
-        # Its clients, which were closed, may not be gone yet.
+        # The daemon may not have noticed yet that its clients are gone.
         while self.owner.ask('delpartition ' + name)[-1] != 'OK':
             if time.monotonic() > end:
                 raise AssertionError('the partition %s cannot be deleted' % name)
             time.sleep(0.02)
 
     def answers(self, lines):
-        """What is answered to each line of a transcript."""
+        """The answer to each line of a transcript."""
         self.begin()
         told = [self.run(line) for line in lines]
         if any(' sticker ' in line for line in lines):
@@ -145,7 +145,7 @@ class Side:
         return told
 
     def run(self, line):
-        """Runs a line of a transcript: the lines that are answered, each behind its client's number."""
+        """Runs a line of a transcript: the lines of the answer, each after its client's number."""
         first, _, rest = line.partition(' ')
         if first == '!':
             return self.step(rest.split(' '))
@@ -162,7 +162,7 @@ class Side:
         return answer + self.notices(number)
 
     def notices(self, speaker=0):
-        """What clients that wait are told, but the one that spoke."""
+        """The notices to waiting clients, except the one that has just sent a line."""
         waiting = [number for number in sorted(self.clients) if number != speaker and self.clients[number].is_idle]
         if waiting:
             self.owner.must('ping')
@@ -170,8 +170,8 @@ class Side:
         return ['%d %s' % (number, line) for number in waiting for line in self.clients[number].told(0.01)]
 
     def step(self, words):
-        """`wait KEY [VALUE...]`: until the status has that key, with one of these values; `wait no KEY`: until it has it not.
-        `gone N`: client N disconnects. `bytes N HEX`: client N sends a line of these bytes."""
+        """Runs a step. `wait KEY [VALUE...]` waits until `status` has this key, with one of these values, if there are any; `wait no KEY` waits
+        until it does not have it. With `gone N` client N disconnects. With `bytes N HEX` client N sends a line of these bytes."""
         if words[0] == 'gone':
             self.clients.pop(int(words[1])).close()
             time.sleep(WAIT)
@@ -192,7 +192,7 @@ class Side:
         return False
 
     def normal(self, line, is_stats):
-        """A line of an answer as it is compared."""
+        """A line of an answer, in the form in which it is compared."""
         if line.startswith('partition: '):
             self.partition = line.partition(': ')[2]
         for pattern, plain in VOLATILE + ([('playtime: .*', 'playtime: T')] if is_stats else []):

@@ -1,6 +1,6 @@
 #!/usr/bin/env python3
-"""The bytes that come out: known folders are played through the daemon to files, which are compared with the frames that the
-definitions give, worked out here from the samples.
+"""Checks the bytes that outputs write: the daemon plays known folders to files, which are compared with the frames that the definitions give;
+these are computed here from the samples.
 
     checks/serve/sound.py [PROGRAM]
 """
@@ -15,11 +15,11 @@ sys.dont_write_bytecode = True
 from daemon import Daemon, Pacer, Table, program_of, wave
 
 RATE = 8000
-PLAY = 60  # the seconds within which a queue is to be played
+PLAY = 60  # how many seconds playing a queue may take
 
 
 def samples(seed, frames, channels, bits):
-    """Frames of noise, with the greatest and least values among them."""
+    """Frames of noise, with the least and the greatest values at the beginning."""
     draw = random.Random(seed)
     least, most = (0, 255) if bits == 8 else (-(1 << (bits - 1)), (1 << (bits - 1)) - 1)
     noise = [tuple(draw.randint(least, most) for _ in range(channels)) for _ in range(frames)]
@@ -27,7 +27,7 @@ def samples(seed, frames, channels, bits):
 
 
 def heard(frames, bits):
-    """The frames as left and right of 16 bits: 8 bits are widened, of 24 the high ones are taken, one channel is doubled."""
+    """The frames as left and right samples of 16 bits: 8 bits are widened, 24 bits are cut to the high ones, and one channel is doubled."""
     def sample(value):
         return (value - 128) * 256 if bits == 8 else value if bits == 16 else value >> 8
     return [(sample(frame[0]), sample(frame[-1])) for frame in frames]
@@ -42,13 +42,13 @@ def gained(frames, volume):
 
 
 def faded(first, second):
-    """Two pieces of one length, mixed: the first goes, the second comes."""
+    """Two pieces of the same length, mixed: the first fades out, the second fades in."""
     length = len(first)
     return [tuple(toward_zero(a * (length - i) + b * i, length) for a, b in zip(x, y)) for i, (x, y) in enumerate(zip(first, second))]
 
 
 def played(songs, seconds=0):
-    """The frames of songs in order, each fading into the next. A fade ends with its song; the next one goes on behind it."""
+    """The frames of songs in order, each fading into the next. A fade ends with its song; the next song goes on after it."""
     out, at = [], 0
     for song, follower in zip(songs, songs[1:] + [None]):
         if follower is None or seconds == 0:
@@ -67,14 +67,14 @@ def as_bytes(frames):
 
 
 def wait_for_size(path, size):
-    """Waits until a file has so many bytes, and a little longer for more."""
+    """Waits until a file has so many bytes, and a little longer, in case more come."""
     end = time.monotonic() + PLAY
     while time.monotonic() < end and (not os.path.exists(path) or os.path.getsize(path) < size):
         time.sleep(0.02)
     time.sleep(0.2)
 
 
-# Name, frames, channels, bits, extensible.
+# name, frames, channels, bits, and whether the format is the extensible one
 SONGS = [
     ('a.wav', 20001, 2, 16, False), ('b.wav', 12345, 1, 8, False), ('c.wav', 9000, 2, 24, True), ('d.wav', 1, 1, 16, False),
     ('e.wav', 1024, 2, 8, False), ('f.wav', 30000, 1, 24, False), ('g.wav', 2048, 1, 16, True),
@@ -82,7 +82,7 @@ SONGS = [
 
 
 def put_folder(folder):
-    """The songs of a folder as they are heard, in byte order of their names."""
+    """Writes the songs into a folder, and returns their frames as they should be heard, in the byte order of their names."""
     os.makedirs(folder)
     songs = []
     for seed, (name, frames, channels, bits, extensible) in enumerate(SONGS):
@@ -98,7 +98,7 @@ def first_difference(one, other):
 
 
 def check_queue(table, program, folder, music, case, lines, wanted):
-    """Plays a queue to two files and looks at both; a third output is off and makes no file."""
+    """Plays a queue to two files and compares both; a third output is off, and must not make a file."""
     paths = [os.path.join(folder, '%s %d' % (case, number)) for number in range(3)]
     daemon = Daemon(program, folder, music, [paths[0], paths[1], (paths[2], False)], rate=RATE)
     client = daemon.client()
@@ -113,15 +113,15 @@ def check_queue(table, program, folder, music, case, lines, wanted):
     for number in range(2):
         found = open(paths[number], 'rb').read() if os.path.exists(paths[number]) else b''
         right = found == wanted and summary[number] == 'output %d: decoded %d written %d discarded 0 left 0' % (number, count, count)
-        told = '%d bytes' % len(found) + ('' if found == wanted else ' of %d, from byte %d on others' % (len(wanted), first_difference(found, wanted)))
+        told = '%d bytes' % len(found) + ('' if found == wanted else ' of %d, wrong from byte %d on' % (len(wanted), first_difference(found, wanted)))
         table.row(case, number, told, summary[number], right=right and state == 'stop' and status == 0)
     off = 'output 2: decoded 0 written 0 discarded 0 left 0'
     table.row(case, 2, 'no file' if not os.path.exists(paths[2]) else 'a file', summary[2], right=not os.path.exists(paths[2]) and summary[2] == off)
 
 
 def check_a_seek(table, program, folder, music, songs):
-    """A paced output beside a file: what comes out is a front of the queue, then the rest of a song from where it was sought. What the
-    paced output did not write it discarded, and behind the end it has the rest left."""
+    """A seek, with an output that is read at the pace of a sound card, and one to a file. The file gets the beginning of the queue, and then the
+    rest of the song from the place of the seek. The other output has discarded what it did not write, and at the end the rest is left over."""
     fifo, path = os.path.join(folder, 'fifo'), os.path.join(folder, 'sought')
     pacer = Pacer(fifo, RATE)
     daemon = Daemon(program, folder, music, [path, fifo], rate=RATE)
@@ -139,7 +139,7 @@ def check_a_seek(table, program, folder, music, songs):
     found, rest = open(path, 'rb').read(), as_bytes(songs[5][20000:])
     front = found[:len(found) - len(rest)]
     right = found.endswith(rest) and 0 < len(front) and as_bytes(songs[0] + songs[5]).startswith(front)
-    table.row('a seek', 0, '%d bytes, then %d of the song sought' % (len(front), len(rest)), summary[0], right=right)
+    table.row('a seek', 0, '%d bytes, then %d from the place of the seek' % (len(front), len(rest)), summary[0], right=right)
     words = summary[1].split()
     settled = len(words) == 10 and int(words[3]) == int(words[5]) + int(words[7]) + int(words[9]) and int(words[7]) > 0
     table.row('a seek', 1, 'decoded = written + discarded + left', summary[1], right=settled)
@@ -147,7 +147,7 @@ def check_a_seek(table, program, folder, music, songs):
 
 def main():
     program = program_of(sys.argv[1] if len(sys.argv) > 1 else None)
-    table = Table('The bytes that come out', 26, 6, 42, 60)
+    table = Table('The bytes that outputs write', 26, 6, 42, 60)
     table.row('queue', 'output', 'file', 'summary')
     with tempfile.TemporaryDirectory() as folder:
         music = os.path.join(folder, 'music')

@@ -1,5 +1,5 @@
 #!/usr/bin/env python3
-"""Starts that fail: the one line on standard error and the status 1, in the order in which the causes are looked for.
+"""Checks starts that fail: each prints one line on standard error and exits with status 1. Also checks the order in which faults are looked for.
 
     checks/serve/starts.py [PROGRAM]
 """
@@ -17,31 +17,31 @@ sys.dont_write_bytecode = True
 from daemon import Daemon, Table, program_of, put_songs
 
 GOOD = 'music = "%(music)s"\nlisten = "127.0.0.1:%(taken)d"\n'
-# What is wrong, the settings (None: there are none), and the line.
+# what is wrong, the settings (None: there is no file), and the line that is printed
 CASES = [
-    ('no file of settings', None, 'cannot read %(settings)s'),
-    ('settings that are no text', b'\xff\xfe', 'cannot read %(settings)s'),
+    ('no settings file', None, 'cannot read %(settings)s'),
+    ('settings that are not UTF-8', b'\xff\xfe', 'cannot read %(settings)s'),
     ('settings that are not TOML', 'music', 'bad setting '),
     ('an unknown key', GOOD + 'port = 1', 'bad setting port'),
-    ('a bad key before an absent one', 'rate = 1', 'bad setting rate'),
+    ('a bad key, reported before a missing one', 'rate = 1', 'bad setting rate'),
     ('no listen', 'music = "%(music)s"', 'bad setting listen'),
     ('no music', 'listen = ""', 'bad setting music'),
     ('history of 0', GOOD + 'history = 0', 'bad setting history'),
     ('an output without its path', GOOD + '[[output]]\nname = "a"', 'bad setting output'),
     ('a line break in a key', GOOD + '"a\\nb" = 1', r'bad setting a\nb'),
-    ('bad settings before a bad shelf', GOOD + 'shelf = "/nosuch/shelf"\nring = 1', 'bad setting ring'),
-    ('a shelf in a folder that is not there', GOOD + 'shelf = "/nosuch/shelf"', 'cannot open shelf'),
+    ('bad settings, reported before a bad shelf', GOOD + 'shelf = "/nosuch/shelf"\nring = 1', 'bad setting ring'),
+    ('a shelf in a folder that does not exist', GOOD + 'shelf = "/nosuch/shelf"', 'cannot open shelf'),
     ('a shelf that is a folder', GOOD + 'shelf = "%(music)s"', 'cannot open shelf'),
-    ('a shelf that is no database', GOOD + 'shelf = "%(settings)s"', 'cannot open shelf'),
+    ('a shelf that is not a database', GOOD + 'shelf = "%(settings)s"', 'cannot open shelf'),
     ('a database with other tables', GOOD + 'shelf = "%(other)s"', 'cannot open shelf'),
     ('a shelf of another profile', GOOD + 'shelf = "%(ninth)s"', 'cannot open shelf'),
-    ('a bad shelf before a bad folder', 'music = "/nosuch"\nlisten = ""\nshelf = "/nosuch/shelf"', 'cannot open shelf'),
-    ('a folder that is not there', 'music = "/nosuch"\nlisten = ""', 'cannot read folder /nosuch'),
+    ('a bad shelf, reported before a bad folder', 'music = "/nosuch"\nlisten = ""\nshelf = "/nosuch/shelf"', 'cannot open shelf'),
+    ('a folder that does not exist', 'music = "/nosuch"\nlisten = ""', 'cannot read folder /nosuch'),
     ('a line break in a folder', 'music = "/no\\nsuch"\nlisten = ""', r'cannot read folder /no\nsuch'),
-    ('a file for a folder', 'music = "%(settings)s"\nlisten = ""', 'cannot read folder %(settings)s'),
+    ('a file in place of a folder', 'music = "%(settings)s"\nlisten = ""', 'cannot read folder %(settings)s'),
     ('no address', 'music = "%(music)s"\nlisten = "here"', 'cannot listen at here, which is no address and port such as 127.0.0.1:6600'),
     ('a line break in an address', 'music = "%(music)s"\nlisten = "a\\nb"', r'cannot listen at a\nb, which is no address and port such as 127.0.0.1:6600'),
-    ('a name for an address', 'music = "%(music)s"\nlisten = "house:6600"', 'cannot listen at house:6600, which is no address and port such as 127.0.0.1:6600'),
+    ('a name in place of an address', 'music = "%(music)s"\nlisten = "house:6600"', 'cannot listen at house:6600, which is no address and port such as 127.0.0.1:6600'),
     ('a state that is a folder', GOOD + 'state = "%(music)s"', 'cannot read %(music)s'),
     ('an address of another machine', 'music = "%(music)s"\nlisten = "192.0.2.1:6600"', 'cannot listen at 192.0.2.1:6600, which is no address of this machine'),
     ('a port that is taken', GOOD, 'cannot listen at 127.0.0.1:%(taken)d, where another program listens'),
@@ -49,7 +49,7 @@ CASES = [
 
 
 def databases(folder):
-    """A database with a table of its own, and a shelf of profile 9."""
+    """Makes a database with some other table, and a shelf of profile 9."""
     other, ninth = os.path.join(folder, 'other.db'), os.path.join(folder, 'ninth.db')
     with sqlite3.connect(other) as store:
         store.execute('CREATE TABLE note (text TEXT)')
@@ -62,7 +62,7 @@ def databases(folder):
 
 
 def check_faults(program, folder, music):
-    table = Table('Starts that fail', 40, 8, 60)
+    table = Table('Starts that fail', 42, 8, 60)
     table.row('what is wrong', 'status', 'standard error')
     names = dict(databases(folder), music=music, settings=os.path.join(folder, 'faulty.toml'))
     with socket.socket() as door:
@@ -83,7 +83,7 @@ def check_faults(program, folder, music):
 
 
 def check_one_start(program, folder, music):
-    """A start with one idle output, its shelf and its summary; a second daemon on the same shelf; a start after it."""
+    """A start with an output that never plays: its shelf and its summary; a second daemon on the same shelf; and the next start."""
     table = Table('\nA start and its end', 40, 60)
     shelf, path = os.path.join(folder, 'shelf.db'), os.path.join(folder, 'never written')
     daemon = Daemon(program, folder, music, [path], shelf=shelf)
@@ -104,7 +104,7 @@ def check_one_start(program, folder, music):
     client.must('add ""')
     client.must('save one')
     status, summary = daemon.end()
-    table.row('the status, and the summary', '%d, %s' % (status, ' '.join(summary)), right=(status, summary) == (0, ['output 0: decoded 0 written 0 discarded 0 left 0']))
+    table.row('the exit status, and the summary', '%d, %s' % (status, ' '.join(summary)), right=(status, summary) == (0, ['output 0: decoded 0 written 0 discarded 0 left 0']))
     told = daemon.errors().splitlines()
     table.row('the line of the end', told[-1], right=len(told) == 3 and told[-1] == 'music_daemon: end: decoded 0 written 0 discarded 0 left 0')
     table.row('an output that never played', 'no file' if not os.path.exists(path) else 'a file', right=not os.path.exists(path))
@@ -113,13 +113,13 @@ def check_one_start(program, folder, music):
         copy.write(file.read())
     with sqlite3.connect(alone) as store:
         found = store.execute('SELECT name FROM list').fetchall()
-    table.row("the shelf's one file, read by sqlite3", found, right=found == [('one',)])
+    table.row("the shelf's file, read by sqlite3", found, right=found == [('one',)])
     daemon = Daemon(program, folder, music, shelf=shelf, kill=False)
     client = daemon.client()
     lists = client.must('listplaylists')
     table.row('the next start has its lists', ' '.join(lists), right=lists == ['playlist: one'])
     refused = client.ask('kill')[-1]
-    table.row('kill without the setting', refused, right=refused == 'ACK [4@0] {kill} no permission for "kill"')
+    table.row('`kill` where the settings do not allow it', refused, right=refused == 'ACK [4@0] {kill} no permission for "kill"')
     daemon.process.terminate()
     status = daemon.process.wait(30)
     table.row('a signal ends it', 'status %d' % status, right=status == -15)

@@ -1,12 +1,13 @@
 #!/usr/bin/env python3
-"""The state over starts: what is there again, also of partitions, kill -9 while clients edit, stops at each write, and files of a state that are none.
+"""Checks the saved state: what comes back after a restart, also of partitions; kill -9 while clients edit; kills at each call on the state's
+files; and files that are not a saved state.
 
-    checks/serve/state.py [PROGRAM] [--times N] [--beside N]      (200 kills, 8 daemons at a time if left out)
+    checks/serve/state.py [PROGRAM] [--times N] [--beside N]      (by default 200 kills, and 8 daemons at a time)
 
-One client edits the queue without a pause, and then one in each of three partitions; the daemon is killed at a random moment and started
-again on the same file of the state.
-The queue that comes back is one that stood at most three seconds before the kill, or, before the first write, the one of the start.
-The disk that is full is a small one in memory, and the file of another user is read as nobody: both need root.
+One client edits the queue without a pause, and in a second series one client in each of three partitions; the daemon is killed at a random moment
+and started again with the same state file. The queue that comes back must be one that was there at most three seconds before the kill; before the
+first write, it is the one from the start. The full disk is a small one in memory, and the file of another user is read as the user nobody; both
+need root.
 """
 import argparse
 import concurrent.futures
@@ -23,16 +24,16 @@ sys.dont_write_bytecode = True
 
 from daemon import Daemon, Pacer, Table, program_of, put_songs
 
-OLDEST = 3.0    # the seconds that the queue which comes back may have stood before the kill
-LONGEST = 5.0   # the seconds that a client has at most before the kill
-PLAYED = 12.0   # the seconds that the place in a song which is played may be behind: it is looked at every ten
-WRITTEN = 3.0   # the seconds within which a change is in the file
+OLDEST = 3.0    # how many seconds old the queue that comes back may be
+LONGEST = 5.0   # how many seconds a client has at most before the kill
+PLAYED = 12.0   # how many seconds the saved position in a playing song may be behind; it is saved every ten seconds
+WRITTEN = 3.0   # how many seconds it may take until a change is in the file
 NOBODY = 65534
 KEYS = ('volume', 'repeat', 'random', 'single', 'consume', 'playlistlength', 'xfade', 'state', 'song', 'elapsed')
 
 
 def queue_of(client):
-    """The queue: of each entry its URI and its priority."""
+    """The queue: the URI and the priority of each entry."""
     found = []
     for line in client.must('playlistinfo'):
         key, _, value = line.partition(': ')
@@ -53,7 +54,7 @@ def started(program, folder, music, path, outputs=()):
 
 
 class Editor(threading.Thread):
-    """A client that edits, and each queue that it made with the moments between which it stood."""
+    """A client that edits, and each queue that it made, with the time from which and the time until which it was there."""
 
     def __init__(self, daemon, songs, seed, room='default'):
         super().__init__()
@@ -62,7 +63,7 @@ class Editor(threading.Thread):
         self.queues, self.wrong = [[time.monotonic(), None, queue_of(self.client)]], None
 
     def edit(self, queue):
-        """A line, and the queue that it makes of this one."""
+        """A random edit of this queue: its line, and the queue after it."""
         kind = self.draw.randrange(6)
         if kind < 3 and len(queue) < 30 or not queue:
             song = self.draw.choice(self.songs)
@@ -78,7 +79,7 @@ class Editor(threading.Thread):
         try:
             for number in range(1 << 30):
                 line, queue = self.edit(self.queues[-1][2])
-                # It stands from when it is sent, whether its answer comes or not; and the one before until the answer.
+                # The new queue may be there from the moment when the line is sent, whether the answer comes or not; the old one until the answer.
                 self.queues.append([time.monotonic(), None, queue])
                 self.client.must(line)
                 self.queues[-2][1] = time.monotonic()
@@ -93,7 +94,7 @@ EDITS = ('add "album 00/0003.wav"', 'add "album 00/0001.wav"', 'add ""', 'prio 7
 LAST = (
     ('paused', ('seek 2 4.5', 'pause 1')),
     ('stopped', ('play 1', 'stop')),
-    ('stopped, first of one', ('clear', 'add "album 00/0002.wav"', 'play 0', 'stop')),
+    ('stopped, one song', ('clear', 'add "album 00/0002.wav"', 'play 0', 'stop')),
     ('no song', ('stop', 'clear')),
     ('random', ('clear', 'random 1', 'add ""', 'seek 4 2', 'pause 1')),
     ('oneshot', ('single oneshot', 'consume oneshot', 'seek 13 1', 'pause 1')),
@@ -101,8 +102,8 @@ LAST = (
 
 
 def check_all_back(program, folder, music):
-    """Players are there again, after `kill` and after kill -9."""
-    table = Table('What is there again', 50, 60)
+    """Players come back as they were, after `kill` and after kill -9."""
+    table = Table('What comes back', 50, 60)
     kept = os.path.join(folder, 'kept')
     for name, last in LAST:
         for ends in ('kill', 'kill -9'):
@@ -120,15 +121,15 @@ def check_all_back(program, folder, music):
                 daemon.kill()
             daemon = started(program, folder, music, kept, ['/dev/null'])
             found = state_of(daemon.client())
-            told = 'as it was' if found == wanted else '%s for %s' % (found, wanted)
+            told = 'as it was' if found == wanted else '%s instead of %s' % (found, wanted)
             table.row('%s, after %s' % (name, ends), told, right=found == wanted and daemon.errors().count('\n') == 0)
             daemon.end()
     return table.failed
 
 
 def check_played(program, folder, music):
-    """A song that is played is played on from about where it was."""
-    table = Table('\nA song that is played', 50, 60)
+    """A song that was playing goes on from about where it was."""
+    table = Table('\nA song that was playing', 50, 60)
     for ends, most in (('kill', 1.5), ('kill -9', PLAYED)):
         kept, pacer = os.path.join(folder, 'played by ' + ends), Pacer(os.path.join(folder, 'pipe by ' + ends))
         daemon = started(program, folder, music, kept, [pacer.path])
@@ -141,7 +142,7 @@ def check_played(program, folder, music):
             daemon.end()
         else:
             daemon.kill()
-        # Nobody reads its FIFO: what is played stays within a ring of where it began.
+        # Nobody reads its FIFO, so the position cannot move on by more than a ring buffer holds.
         unread = os.path.join(folder, 'unread by ' + ends)
         os.mkfifo(unread)
         daemon = started(program, folder, music, kept, [unread])
@@ -155,7 +156,8 @@ def check_played(program, folder, music):
 
 
 def killed_once(program, folder, music, songs, number, moment):
-    """The age of the queue that came back; None where it never stood, or a line made another queue than it should."""
+    """Kills the daemon once: the age of the queue that came back, and how many edits were made. The age is None if that queue was never there,
+    or if an edit had a wrong result."""
     own = os.path.join(folder, 'killed %d' % number)
     os.mkdir(own)
     kept = os.path.join(own, 'state')
@@ -183,12 +185,12 @@ def check_kills(program, folder, music, songs, times, beside, once=killed_once, 
     wrong = [number for number, (age, _) in enumerate(results) if age is None]
     oldest = max([age for age, _ in results if age is not None] or [0.0])
     table.row('kills, and edits before them', '%d, %d' % (times, sum(edits for _, edits in results)))
-    table.row('queues that never stood', str(wrong or 'none'), right=not wrong)
-    table.row('the oldest that came back stood so long before', '%.2f s' % oldest, right=oldest <= OLDEST)
+    table.row('kills after which a wrong queue came back', str(wrong or 'none'), right=not wrong)
+    table.row('age of the oldest queue that came back', '%.2f s' % oldest, right=oldest <= OLDEST)
     return table.failed
 
 
-# Each partition: the outputs that come there, and what is said in it; the last lines leave it playing, paused or stopped.
+# For each partition: the outputs that are moved there, and the lines that are sent in it; after these it is paused or stopped.
 ROOMS = (
     ('default', (), ('add ""', 'setvol 41', 'seek 3 2', 'pause 1')),
     ('kitchen', ('out1', 'out3'), ('disableoutput 1', 'add "album 00/0003.wav"', 'add "album 00/0001.wav"', 'prio 7 1', 'crossfade 2', 'consume 1', 'seek 1 4.5', 'pause 1')),
@@ -206,7 +208,7 @@ def open_rooms(client, rooms):
 
 
 def rooms_of(client):
-    """Each partition with its state."""
+    """The state of each partition."""
     found = {}
     for line in client.must('listpartitions'):
         name = line.partition(': ')[2]
@@ -217,14 +219,14 @@ def rooms_of(client):
 
 
 def rounded(rooms):
-    """The partitions with the place in a song in tenths of a second, since a song begins again at a whole frame."""
+    """The partitions, with the positions in songs in tenths of a second, since a song goes on from a whole frame."""
     def tenths(state):
         return {key: '%.1f' % float(value) if key == 'elapsed' and value else value for key, value in state.items()}
     return {name: (tenths(state), queue, outputs) for name, (state, queue, outputs) in rooms.items()}
 
 
 def check_rooms(program, folder, music):
-    """Partitions are there again with their outputs, after `kill` and after kill -9; and a song that is gone takes nothing with it."""
+    """Partitions come back with their outputs, after `kill` and after kill -9; and if a song no longer exists, nothing else is lost."""
     table = Table('\nPartitions', 50, 60)
     kept = os.path.join(folder, 'rooms')
     for ends in ('kill', 'kill -9'):
@@ -242,8 +244,8 @@ def check_rooms(program, folder, music):
         daemon = started(program, folder, music, kept, OUTPUTS)
         found = rooms_of(daemon.client())
         is_same = rounded(found) == rounded(wanted)
-        told = 'as it was' if is_same else '%s for %s' % (found, wanted)
-        table.row('three, after %s' % ends, told, right=is_same and 'music_daemon: state: ' not in daemon.errors())
+        told = 'as it was' if is_same else '%s instead of %s' % (found, wanted)
+        table.row('three partitions, after %s' % ends, told, right=is_same and 'music_daemon: state: ' not in daemon.errors())
         daemon.end()
     with open(kept) as file:
         lines = file.read()
@@ -252,13 +254,14 @@ def check_rooms(program, folder, music):
     daemon = started(program, folder, music, kept, OUTPUTS)
     found = rooms_of(daemon.client())
     right = found['kitchen'][1] == (('album 00/0001.wav', 7),) and rounded(found)['bath'] == rounded(wanted)['bath'] and found['kitchen'][2] == wanted['kitchen'][2]
-    table.row('a song that is gone', 'the others are there', right=right)
+    table.row('a song that no longer exists', 'the others come back' if right else 'the others do not come back', right=right)
     daemon.kill()
     return table.failed
 
 
 def rooms_killed_once(program, folder, music, songs, number, moment):
-    """The greatest age of a queue that came back in one of three partitions; None where one never stood, or an output stands elsewhere or otherwise."""
+    """Kills the daemon once: the greatest age of the queues that came back in three partitions, and how many edits were made. The age is None
+    if one of the queues was never there, or if an output is in another partition or switched differently."""
     own = os.path.join(folder, 'rooms killed %d' % number)
     os.mkdir(own)
     kept = os.path.join(own, 'state')
@@ -297,7 +300,8 @@ CALLS = ('openat', 'write', 'fsync', 'close', 'rename')
 
 
 def traced_program(program, folder, call, number):
-    """A script that runs the program until this call on the state's files was made for the so manyth time, and kills it there; its folder."""
+    """Writes a script that runs the program, and kills it when it makes this call on the state's files for the Nth time; returns the folder of
+    the script."""
     own = os.path.join(folder, 'stop %s %d' % (call, number))
     os.mkdir(own)
     kept, traced = os.path.join(own, 'state'), os.path.join(own, 'traced')
@@ -311,7 +315,7 @@ def traced_program(program, folder, call, number):
 
 
 def stopped_once(program, own, music):
-    """Whether the daemon was killed by the script of a folder; the queue that came back, and how many lines of the file were refused."""
+    """Runs the script of a folder: whether it killed the daemon; the queue that came back; and how many lines of the file were refused."""
     kept = os.path.join(own, 'state')
     daemon = Daemon(os.path.join(own, 'traced'), own, music, more='state = "%s"' % kept, wait=False)
     try:
@@ -332,15 +336,15 @@ def stopped_once(program, own, music):
 
 
 def check_stops(program, folder, music, beside):
-    """The daemon is killed as it opens, writes, stores, closes or renames a file of the state, at each such call of its first writes."""
-    table = Table('\nA stop at each call of a write', 50, 60)
+    """The daemon is killed when it opens, writes, syncs, closes or renames a file of the state, at each of the first such calls."""
+    table = Table("\nA kill at each call on the state's files", 50, 60)
     if shutil.which('strace') is None:
         table.row('left out', 'strace is not installed')
         return table.failed
     old = (('album 00/0001.wav', 0),)
     middle = old + (('album 00/0002.wav', 0),)
     new = old + (('album 00/0002.wav', 9),)
-    # All are written first: a process that is started meanwhile would hold one open, and it could not be run.
+    # All scripts are written first: a process that is started while one is being written would hold it open, and then it could not be run.
     folders = {(call, number): traced_program(program, folder, call, number) for call in CALLS for number in range(1, 7)}
     with concurrent.futures.ThreadPoolExecutor(beside) as pool:
         runs = {stop: pool.submit(stopped_once, program, own, music) for stop, own in folders.items()}
@@ -348,11 +352,11 @@ def check_stops(program, folder, music, beside):
     stops = {stop: found for stop, (stopped, found) in results.items() if stopped}
     wrong = [stop for stop, (_, (queue, refused)) in results.items() if queue not in (old, middle, new) or refused]
     unstopped = [stop for stop, (stopped, (queue, _)) in results.items() if not stopped and queue != new]
-    table.row('stops', ', '.join('%s %d' % (call, sum(1 for stop in stops if stop[0] == call)) for call in CALLS), right=all(any(stop[0] == call for stop in stops) for call in CALLS))
-    table.row('the earlier queue was there', str(sum(1 for queue, _ in stops.values() if queue == old)), right=any(queue == old for queue, _ in stops.values()))
-    table.row('a later queue was there', str(sum(1 for queue, _ in stops.values() if queue != old)), right=any(queue != old for queue, _ in stops.values()))
-    table.row('any other, or a line that is refused', str(wrong or 'none'), right=not wrong)
-    table.row('not the last queue where there was no stop', str(unstopped or 'none'), right=not unstopped)
+    table.row('kills', ', '.join('%s %d' % (call, sum(1 for stop in stops if stop[0] == call)) for call in CALLS), right=all(any(stop[0] == call for stop in stops) for call in CALLS))
+    table.row('the earlier queue came back', str(sum(1 for queue, _ in stops.values() if queue == old)), right=any(queue == old for queue, _ in stops.values()))
+    table.row('a later queue came back', str(sum(1 for queue, _ in stops.values() if queue != old)), right=any(queue != old for queue, _ in stops.values()))
+    table.row('any other queue, or a refused line', str(wrong or 'none'), right=not wrong)
+    table.row('not the last queue, although nothing was killed', str(unstopped or 'none'), right=not unstopped)
     return table.failed
 
 
@@ -374,14 +378,14 @@ def check_full(program, folder, music):
     disk = os.path.join(folder, 'disk')
     os.mkdir(disk)
     if subprocess.run(['mount', '-t', 'tmpfs', '-o', 'size=64k', 'tmpfs', disk], capture_output=True).returncode != 0:
-        table.row('left out', 'no small disk can be made here')
+        table.row('left out', 'a small disk cannot be made here')
         return table.failed
     try:
         kept = os.path.join(disk, 'state')
         daemon = started(program, folder, music, kept)
         client = daemon.client()
         client.must('add "album 00/0001.wav"')
-        table.row('with room it is written', 'yes', right=wait_until(lambda: os.path.exists(kept) and '0001' in text_at(kept)))
+        table.row('while there is room, the state is written', 'yes', right=wait_until(lambda: os.path.exists(kept) and '0001' in text_at(kept)))
         with open(os.path.join(disk, 'filler'), 'wb', 0) as filler:
             try:
                 while True:
@@ -391,16 +395,16 @@ def check_full(program, folder, music):
         before = text_at(kept)
         for line in ('add ""', 'prio 5 0'):
             client.must(line)
-        table.row('the fault is told', daemon.errors()[-60:], right=wait_until(lambda: 'cannot write state %s' % kept in daemon.errors()))
+        table.row('the fault is reported', daemon.errors()[-60:], right=wait_until(lambda: 'cannot write state %s' % kept in daemon.errors()))
         time.sleep(2 * WRITTEN)
-        table.row('once', str(daemon.errors().count('cannot write')), right=daemon.errors().count('cannot write') == 1)
-        table.row('the file is the earlier one', 'yes', right=text_at(kept) == before)
+        table.row('how many times', str(daemon.errors().count('cannot write')), right=daemon.errors().count('cannot write') == 1)
+        table.row('the file still has the earlier state', 'yes', right=text_at(kept) == before)
         wanted = queue_of(client)
         os.remove(os.path.join(disk, 'filler'))
         time.sleep(WRITTEN)
         daemon.kill()
         daemon = started(program, folder, music, kept)
-        table.row('with room again it is written', 'yes', right=queue_of(daemon.client()) == wanted)
+        table.row('when there is room again, it is written', 'yes', right=queue_of(daemon.client()) == wanted)
         daemon.kill()
     finally:
         subprocess.run(['umount', disk])
@@ -408,7 +412,7 @@ def check_full(program, folder, music):
 
 
 def ran(program, folder, path, music, user=None):
-    """The status and the errors of a start that is to end by itself."""
+    """The exit status and the errors of a start that should end by itself."""
     settings = os.path.join(folder, 'odd.toml')
     with open(settings, 'w') as file:
         file.write('music = "%s"\nlisten = "127.0.0.1:0"\nstate = "%s"\n' % (music, path))
@@ -417,8 +421,8 @@ def ran(program, folder, path, music, user=None):
 
 
 def check_files(program, folder, music):
-    """Files that are no state."""
-    table = Table('\nFiles of a state', 50, 60)
+    """Files that are not a saved state, or not completely."""
+    table = Table('\nState files with other content', 50, 60)
     path = os.path.join(folder, 'odd')
     with open(path, 'wb') as file:
         file.write(b'add "nothing"\n' * 7500000)
@@ -437,17 +441,17 @@ def check_files(program, folder, music):
         found = ran(program, folder, path, music, NOBODY)
         table.row('of another user', found[1].strip()[-60:], right=found == (1, 'music_daemon: cannot read %s\n' % path) and text_at(path) == 'setvol 3\n')
     else:
-        table.row('of another user', 'left out, for want of root')
+        table.row('of another user', 'left out, since it needs root')
     refused = path + '.refused'
     odd = random.Random(3).randbytes(100000)
     good = 'setvol 12\naddid "album 00/0001.wav" 0\n'
     lines = 'nonsense\nkill\nidle\naddid "nosuch.wav" 0\n'
     lists = 'command_list_begin\naddid "nosuch.wav" 0\nprio 9 0\nseek 0 3\ncommand_list_end\ncommand_list_begin\naddid "album 00/0002.wav" 0\nprio 4 0\ncommand_list_end\n'
     cases = (
-        ('bytes that are no text, and lines behind them', odd + b'\n' + good.encode(), None, (('album 00/0001.wav', 0),)),
-        ('lines that are refused: the others are run', (lines + good).encode(), 4, (('album 00/0001.wav', 0),)),
-        ('lists that are refused: no other song is touched', (good + lists).encode(), 1, (('album 00/0002.wav', 4), ('album 00/0001.wav', 0))),
-        ('a file that ends in a list', (good + 'command_list_begin\naddid "album 00/0002.wav" 0\nprio 4').encode(), 1, (('album 00/0002.wav', 0), ('album 00/0001.wav', 0))),
+        ('bytes that are not text, and then lines', odd + b'\n' + good.encode(), None, (('album 00/0001.wav', 0),)),
+        ('refused lines: the others are run', (lines + good).encode(), 4, (('album 00/0001.wav', 0),)),
+        ('refused lists: other songs stay as they are', (good + lists).encode(), 1, (('album 00/0002.wav', 4), ('album 00/0001.wav', 0))),
+        ('a file that ends in the middle of a list', (good + 'command_list_begin\naddid "album 00/0002.wav" 0\nprio 4').encode(), 1, (('album 00/0002.wav', 0), ('album 00/0001.wav', 0))),
     )
     for name, content, count, queue in cases:
         with open(path, 'wb') as file:
@@ -459,10 +463,10 @@ def check_files(program, folder, music):
         with open(refused, 'rb') as file:
             right = file.read() == content
         right = right and found == ('12', queue) and (len(told) == 11 if count is None else len(told) == count)
-        table.row(name, '%d told, %s' % (len(told), found), right=right)
+        table.row(name, '%d reported, %s' % (len(told), found), right=right)
         daemon.end()
         os.remove(refused)
-    table.row('the state in the shelf\'s file', '', right=one_file(program, folder, music))
+    table.row('state and shelf name the same file', 'refused', right=one_file(program, folder, music))
     return table.failed
 
 
@@ -475,10 +479,10 @@ def one_file(program, folder, music):
 
 
 def main():
-    parser = argparse.ArgumentParser(description='The state over starts.')
-    parser.add_argument('program', nargs='?')
-    parser.add_argument('--times', type=int, default=200)
-    parser.add_argument('--beside', type=int, default=8)
+    parser = argparse.ArgumentParser(description='Checks the saved state across restarts.')
+    parser.add_argument('program', nargs='?', help='the built program (default: crates/music_daemon/out/music_daemon)')
+    parser.add_argument('--times', type=int, default=200, help='how many times the daemon is killed in each series (default: 200)')
+    parser.add_argument('--beside', type=int, default=8, help='how many daemons run at a time (default: 8)')
     given = parser.parse_args()
     program = program_of(given.program)
     with tempfile.TemporaryDirectory() as folder:

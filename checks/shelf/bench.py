@@ -1,11 +1,11 @@
-"""How long calls of a shelf over a database take, beside the same statements through sqlite3, in memory and on a file.
+"""Measures how long calls of a playlist store (a shelf) in a database take, next to the same statements run by sqlite3, in memory and in a file.
 
 Usage: bench.py PROGRAM     (shelf_bench, which bench.sh builds)
 
-`command` is the program sqlite3 over a script of the same statements, less its time for the script without them; `library` is
-SQLite as Python has it, where each statement is compiled once and its texts are bound, as the shelf's are. `times` is the multiple
-of the library's time. On a file all have a log and sync at each commit (journal_mode WAL, synchronous FULL), as the port does;
-`no syncs` is the library with synchronous OFF. Syncs are counted with strace, where that is there.
+`command` is the program sqlite3, run on a script with the same statements, minus its time for the script without them. `library` is Python's
+sqlite3 module, which compiles each statement once and binds its texts, as the shelf does. `times` is how many times as long as the library the
+shelf takes. In a file all of them use a log, and sync at each commit (journal_mode WAL, synchronous FULL), as Rattle's library sqlite does; `no
+syncs` is Python's module with synchronous OFF. Syncs are counted with strace, if it is installed.
 """
 import os
 import re
@@ -27,9 +27,10 @@ TABLES = [
 PUT = 'INSERT OR REPLACE INTO list (name, uris) VALUES (?1, ?2)'
 LIST = 'SELECT uris FROM list WHERE name = ?1'
 SET = 'INSERT OR REPLACE INTO note (kind, target, name, value) VALUES (?1, ?2, ?3, ?4)'
-# how often each is called in memory and on a file, where each change waits for the disk (`query` is what `list` asks the port, without the shelf)
+# how often each call is made in memory, and in a file, where each change waits for the disk; `query` is the query that `list` makes, without the
+# shelf
 CALLS = {'memory': {'put': 20, 'list': 100, 'query': 100, 'stickers': 10000}, 'file': {'put': 20, 'list': 100, 'query': 100, 'stickers': 500}}
-# the wanted multiple of sqlite3's time in memory
+# the target: how many times as long as Python's module the shelf may take in memory
 WANTED = 3
 
 
@@ -38,7 +39,7 @@ def quoted(text):
 
 
 def statements(call, count):
-    """The statements before the measured ones, and those, each with its values."""
+    """The statements before the measured ones, and the measured ones, each with its values."""
     if call == 'put':
         return [], [(PUT, ('long', TEXT))] * count
     if call in ('list', 'query'):
@@ -124,7 +125,7 @@ def syncs(program, call, count):
 
 def main():
     program = sys.argv[1]
-    print('%-8s %-10s %7s %12s %12s %12s %8s  %s' % ('', 'call', 'calls', 'us a call', 'command', 'library', 'times', 'wanted'))
+    print('%-8s %-10s %7s %12s %12s %12s %8s  %s' % ('', 'call', 'calls', 'us a call', 'command', 'library', 'times', 'target'))
     for place, calls in CALLS.items():
         for call, count in calls.items():
             own = least(place, ours(program, call, count)) / count * 1e6
@@ -132,15 +133,15 @@ def main():
             by_library = least(place, library(call, count, 'FULL')) / count * 1e6
             print('%-8s %-10s %7d %12.1f %12.1f %12.1f %8.1f  %s' %
                   (place, call, count, own, by_command, by_library, own / by_library,
-                   'within %d times' % WANTED if place == 'memory' else 'what the syncs cost'))
+                   'at most %d times' % WANTED if place == 'memory' else 'depends on the disk'))
     print()
     for call, count in (('put', 20), ('stickers', 500)):
         synced = least('file', library(call, count, 'FULL')) / count * 1e6
         unsynced = least('file', library(call, count, 'OFF')) / count * 1e6
-        counted = '%.2f' % (syncs(program, call, count) / count) if shutil.which('strace') else 'no strace'
+        counted = '%.2f' % (syncs(program, call, count) / count) if shutil.which('strace') else '? (no strace)'
         own = least('file', ours(program, call, count)) / count * 1e6
         memory = least('memory', ours(program, call, count)) / count * 1e6
-        print('%-10s syncs a call %s; us a call: on a file %.1f, in memory %.1f; library with syncs %.1f, no syncs %.1f' %
+        print('%-10s syncs a call %s; us a call: in a file %.1f, in memory %.1f; library with syncs %.1f, no syncs %.1f' %
               (call, counted, own, memory, synced, unsynced))
 
 

@@ -1,6 +1,6 @@
 #!/bin/sh
-# Prints how long calls of a shelf over a database take, beside the same statements through sqlite3 (see bench.py).
-# Usage: bench.sh [ROOT]     (ROOT is the repository's top folder; two folders up from here if left out)
+# Measures how long calls of a playlist store in a database take, next to the same statements run by sqlite3 (see bench.py).
+# Usage: bench.sh [ROOT]     (ROOT is the top folder of the repository; by default the one that this script is in)
 set -eu
 here=$(cd "$(dirname "$0")" && pwd)
 root=$(cd "${1:-$here/../..}" && pwd)

@@ -1,8 +1,8 @@
-"""Reads with sqlite3 the files that a shelf wrote, once closed and once left open, with its log beside it.
+"""Lets sqlite3 read files that the playlist store (the shelf) has written: one that was closed, and one that was left open, with its log next to it.
 
 Usage: reader.py PROGRAM     (shelf_bench, which reader.sh builds)
-Right are: the lists and stickers below, by their bytes, number 2 in the profile, and `PRAGMA integrity_check` with `ok`.
-The exit status is 1 where one differs.
+A file must have exactly the lists and stickers below, byte for byte, and the number 2 in its profile, and `PRAGMA integrity_check` must say `ok`.
+The exit status is 1 if anything differs.
 """
 import os
 import subprocess
@@ -40,10 +40,10 @@ def rows(path, query):
 
 
 def check(path):
-    """The name of each check, and whether it holds."""
+    """The name of each check, and whether it succeeds."""
     lists = [coded(name, ''.join(uri + '\n' for uri in uris)) for name, uris in LISTS.items()]
     stickers = [coded(kind, target, name, value) for (kind, target, name), value in STICKERS.items()]
-    # the text's bytes in order, as sqlite3's own index gives them
+    # in the byte order of the texts, as sqlite3's own index gives them
     yield 'lists', rows(path, 'SELECT hex(name), hex(uris) FROM list ORDER BY name') == sorted(lists)
     by_key = 'SELECT hex(kind), hex(target), hex(name), hex(value) FROM note ORDER BY kind, target, name'
     yield 'stickers', rows(path, by_key) == sorted(stickers) and rows(path, 'SELECT count(*) FROM sticker') == ['0']

@@ -1,6 +1,6 @@
 #!/bin/sh
-# Reads files that a shelf over a database wrote with sqlite3 (see reader.py).
-# Usage: reader.sh [ROOT]     (ROOT is the repository's top folder; two folders up from here if left out)
+# Lets sqlite3 read database files that the playlist store has written (see reader.py).
+# Usage: reader.sh [ROOT]     (ROOT is the top folder of the repository; by default the one that this script is in)
 set -eu
 here=$(cd "$(dirname "$0")" && pwd)
 root=$(cd "${1:-$here/../..}" && pwd)

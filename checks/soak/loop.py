@@ -1,4 +1,5 @@
-"""Many clients in one loop: each is a generator that gives what it asks, or for how many seconds it rests, and is sent the lines of the answer."""
+"""Runs many clients in one loop. Each client is a generator: it yields a request, and is sent the lines of the answer; or it yields for how many
+seconds it pauses."""
 import heapq
 import itertools
 import os
@@ -11,13 +12,13 @@ from answers import Fault, check_answer_line
 
 CLOSE, CONNECT = 'close the connection', 'connect'
 SUBSYSTEMS = {'database', 'update', 'stored_playlist', 'playlist', 'player', 'mixer', 'output', 'options', 'partition', 'sticker', 'subscription', 'message'}
-CONNECT_WITHIN = 60 # seconds
-MOST_FAULTS = 20    # that are told
+CONNECT_WITHIN = 60 # how many seconds a connect may take
+MOST_FAULTS = 20    # how many faults are printed in the table
 GREETING = 'OK MPD '
 
 
 class Waits:
-    """Waits in `idle` for so many seconds at most, and then says `noidle`."""
+    """Waits in `idle` for at most so many seconds, and then sends `noidle`."""
 
     def __init__(self, names, seconds):
         self.request, self.seconds = ' '.join(['idle', *names]), seconds
@@ -33,7 +34,7 @@ class Asker:
 
 
 class Loop:
-    """Runs the clients, and other works that ask nothing, until its end."""
+    """Runs the clients, and other work that sends no requests, until the end."""
 
     def __init__(self, port, latest):
         self.latest = latest
@@ -46,12 +47,12 @@ class Loop:
         heapq.heappush(self.timers, (time.monotonic() + seconds, next(self.order), work, words))
 
     def again(self, seconds, work):
-        """A work that is done now, and again each so many seconds."""
+        """Does some work now, and again every so many seconds."""
         work()
         self.at(seconds, self.again, seconds, work)
 
     def begin(self, name, story):
-        """A client with its story: a function that makes the generator."""
+        """Begins a client with its story, which is a function that makes the generator."""
         asker = Asker(name, story)
         self.askers.append(asker)
         self.connect(asker)
@@ -73,7 +74,7 @@ class Loop:
         self.go_on(asker, None)
 
     def go_on(self, asker, lines):
-        """Tells a client its answer, and does what it gives next."""
+        """Gives a client its answer, and does what it asks for next."""
         if self.is_over:
             return
         try:
@@ -88,7 +89,7 @@ class Loop:
         self.send(asker, wish)
 
     def wake(self, asker, lives):
-        """A client goes on that has rested, unless it began anew meanwhile."""
+        """Lets a client go on after a pause, unless it was started again meanwhile."""
         if asker.lives == lives:
             self.go_on(asker, None)
 
@@ -100,14 +101,14 @@ class Loop:
         asker.socket.sendall(asker.asked.encode() + b'\n')
 
     def no_more(self, asker, number):
-        """A client that still waits does not wait on. Where it was told meanwhile, the daemon passes over the line."""
+        """Ends the wait of a client that still waits in `idle`. If the daemon has just answered it, the daemon ignores the `noidle`."""
         if asker.rests == number and asker.since is not None and not self.is_over:
             asker.since = time.monotonic()
             asker.asked = 'noidle'
             asker.socket.sendall(b'noidle\n')
 
     def wrong(self, asker, fault):
-        """Tells of a fault, and lets the client begin anew."""
+        """Prints a fault, and starts the client again."""
         self.faults.append('%s: %s' % (asker.name, fault))
         print('%s: %s' % (time.strftime('%H:%M:%S'), self.faults[-1]), file=sys.stderr, flush=True)
         if asker.socket:
@@ -133,7 +134,7 @@ class Loop:
             self.take(asker, line.decode(errors='backslashreplace'))
 
     def closed(self, asker):
-        """A client that comes while the daemon does not know yet that another went is closed without a greeting, and comes again."""
+        """If a client connects before the daemon has noticed that another one left, it is disconnected without a greeting, and tries again."""
         if not asker.is_greeted:
             self.turned_away += 1
             self.disconnect(asker)
@@ -150,9 +151,9 @@ class Loop:
         try:
             check_answer_line(line)
             if asker.since is None:
-                raise Fault('a line that was not asked for', repr(line))
+                raise Fault('a line without a request', repr(line))
             if line.startswith('changed: ') and line[9:] not in SUBSYSTEMS:
-                raise Fault('no subsystem', repr(line))
+                raise Fault('an unknown subsystem', repr(line))
         except Fault as fault:
             return self.wrong(asker, fault)
         asker.lines.append(line)
@@ -169,7 +170,7 @@ class Loop:
         self.go_on(asker, lines)
 
     def look_for_late(self):
-        """Whoever was not answered in time; one that waits in `idle` has time."""
+        """Finds the clients that were not answered in time; a client in `idle` may wait for any time."""
         for asker in self.askers:
             if asker.since is not None and not asker.asked.startswith('idle') and time.monotonic() - asker.since > self.latest:
                 self.wrong(asker, Fault('no answer', 'to %s within %g s' % (asker.asked.partition('\n')[0], self.latest)))
@@ -194,7 +195,7 @@ class Loop:
 
 
 class Readers:
-    """The readers of all outputs' FIFOs, at the pace of sound cards; each can stand still for some seconds, or go and come back."""
+    """The readers of the FIFOs of all outputs, which read as fast as sound cards play; each can stall for some seconds, or leave and come back."""
 
     def __init__(self, folder, count, rate):
         self.paths = [os.path.join(folder, 'room%d' % number) for number in range(count)]
@@ -211,14 +212,14 @@ class Readers:
         self.still[number] = time.monotonic() + seconds
 
     def go(self, number, seconds):
-        """It closes its path, and opens it again once it reads on."""
+        """Lets a reader close its FIFO, and open it again when it goes on reading."""
         if self.files[number] is not None:
             os.close(self.files[number])
         self.files[number] = None
         self.stand(number, seconds)
 
     def take(self):
-        """Reads what each is to have heard since the last time."""
+        """Reads as much as a sound card would have played since the last time."""
         now = time.monotonic()
         size, self.last = int((now - self.last) * self.rate), now
         for number, path in enumerate(self.paths):

@@ -1,4 +1,4 @@
-"""What the clients of a long life do. Each is a generator; what an answer must be is checked on the way."""
+"""What the clients of a long run do. Each is a generator, which also checks the answers."""
 import os
 import random
 import shutil
@@ -7,13 +7,13 @@ from answers import Fault
 from daemon import put_songs
 from loop import CLOSE, CONNECT, Waits
 
-SONGS = 100         # of the folder
-LENGTH = 80_000     # frames of a song: ten seconds
-LONGEST = 60        # entries of a queue
+SONGS = 100         # how many songs the folder has
+LENGTH = 80_000     # how many frames a song has: ten seconds
+LONGEST = 60        # how many entries a queue has at most
 LOOKS = ['ping', 'status', 'currentsong', 'playlistinfo 0:5', 'plchangesposid 1 0:5', 'outputs', 'listpartitions', 'list artist',
          'count artist "Artist 3"', 'lsinfo', 'search any song window 0:10', 'listplaylists', 'commands', 'stats', 'tagtypes', 'channels',
          'list album group artist', 'playlistid', 'listall "album 03"']
-# the refusals that are right: the player has stopped, and the output is in another partition
+# the refusals that have a reason: the player has stopped, or the output is in another partition
 REFUSED = {'next': '[55@0] {next} not playing', 'previous': '[55@0] {previous} not playing', 'seekcur': '[55@0] {seekcur} not playing',
            'toggleoutput': '[50@0] {toggleoutput} no such output', 'enableoutput': '[50@0] {enableoutput} no such output'}
 
@@ -23,7 +23,7 @@ def uri_of(number):
 
 
 def ask(request, *permitted):
-    """The lines of an answer without the last; a refusal that is not permitted is a fault."""
+    """Sends a request: the lines of the answer without the last. A refusal is a fault, unless it is permitted."""
     lines = yield request
     last = lines[-1]
     if last != 'OK' and not any(last.startswith('ACK ' + front) for front in permitted):
@@ -36,7 +36,7 @@ def in_list(*requests):
 
 
 def answers_of(lines):
-    """The answers of a list's commands."""
+    """The answers to the commands of a command list."""
     found = [[]]
     for line in lines:
         found[-1:] = [found[-1], []] if line == 'list_OK' else [found[-1] + [line]]
@@ -62,7 +62,7 @@ def moved_to(part):
 
 
 def editor(part, draw, pace):
-    """The only one who edits its partition's queue: it knows what is in it, and compares."""
+    """The only client that edits its partition's queue: it knows what is in the queue, and compares."""
     yield from moved_to(part)
     yield from ask('clear')
     queue = []
@@ -114,7 +114,7 @@ def player(part, draw, pace):
 
 
 def looker(part, draw, pace):
-    """Asks for all sorts of things; with a playlist, a sticker and a channel of its own, of which it knows what they hold."""
+    """Sends all kinds of requests. It has a playlist, a sticker and a channel of its own, and knows what is in them."""
     yield from moved_to(part)
     song, tag, name = uri_of(10 + part), 'rating%d' % part, 'list%d' % part
     yield from ask('subscribe own%d' % part)
@@ -130,7 +130,7 @@ def looker(part, draw, pace):
             lines = yield from ask('sticker get song "%s" %s' % (song, tag))
             must(lines == ['sticker: %s=%s' % (tag, value)], 'sticker get', lines)
         elif kind == 2:
-            # What is saved, listed and loaded within one list is one queue.
+            # Within one command list, what is saved and listed is the same queue.
             _, listed, queue, _ = answers_of((yield from ask(in_list('save ' + name, 'listplaylist ' + name, 'playlistinfo', 'rm ' + name))))
             must(values(listed, 'file') == values(queue, 'file'), 'listplaylist of what was saved', listed)
         elif kind == 3:
@@ -142,7 +142,7 @@ def looker(part, draw, pace):
 
 
 def waiter(part, draw, pace):
-    """Waits for what changes, and gives up now and then."""
+    """Waits in `idle` for changes, and gives up now and then."""
     yield from moved_to(part)
     while True:
         names = draw.choice([[], ['player', 'mixer', 'options'], ['playlist'], ['output', 'partition'], ['database', 'update', 'stored_playlist', 'sticker']])
@@ -153,8 +153,8 @@ def waiter(part, draw, pace):
 
 
 def guest(draw, pace):
-    """Makes a partition, plays in it, and takes it away."""
-    # one that began anew may have left it
+    """Makes a partition, plays in it, and deletes it."""
+    # If this client was started again, the partition may still be there.
     yield from ask('delpartition guest', '[50@0]')
     while True:
         yield from ask('newpartition guest')
@@ -172,7 +172,7 @@ def guest(draw, pace):
 
 
 def comer(draw, pace):
-    """Comes and goes: within a list, while it waits, or after an answer."""
+    """Connects and disconnects: after a command list, after a wait in `idle`, or after an answer."""
     while True:
         yield from ask('ping')
         kind = draw.randrange(3)
@@ -186,7 +186,7 @@ def comer(draw, pace):
 
 
 def scanner(music, draw, pace):
-    """Lets the folder be scanned, in which an album comes and goes that is in no queue."""
+    """Adds an album to the folder and removes it again, and has the folder scanned each time; no queue uses this album."""
     more = os.path.join(music, 'more')
     while True:
         yield rest(draw, 15 * pace)
@@ -205,8 +205,8 @@ def scanner(music, draw, pace):
 
 
 def stories(music, seed, pace):
-    """The stories of all clients by name: four in each of 15 partitions, of which one lets the folder be scanned; one that makes the 16th partition;
-    one that comes and goes."""
+    """The stories of all clients, by name: four clients in each of 15 partitions, one of which has the folder scanned instead; one client that
+    makes the 16th partition; and one that connects and disconnects."""
     def told(kind, *words):
         draw = random.Random(len(found) + 1000 * seed)
         return lambda: kind(*words, draw, pace)

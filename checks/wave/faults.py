@@ -1,7 +1,7 @@
-"""Reads a file with each allocation refused in turn, with each read failing in turn, and in reads of a few bytes.
+"""Reads a file with each allocation refused in turn, with each read failing in turn, and by reads of a few bytes.
 
-Usage: faults.py PROGRAM LIBRARY     (wave_show and the preload library of faulty.c; bench.sh builds both)
-Right are: the whole output, or a front of it and then NoMemory or ReadFault, or status 1 with a front of it.
+Usage: faults.py PROGRAM LIBRARY     (wave_show, and the preload library of faulty.c; faults.sh builds both)
+The program must print the whole output; or the beginning of it and then NoMemory or ReadFault; or the beginning of it, and exit with status 1.
 """
 import os
 import subprocess
@@ -27,7 +27,7 @@ Comment: Say hi
 
 
 def run(program, folder, library, **faults):
-    """The status, the output and how many calls there were."""
+    """The exit status, the output, and how many calls there were."""
     report = os.path.join(folder, 'report')
     environment = dict(os.environ, LD_PRELOAD=library, FAULTY_REPORT=report)
     environment.update({'FAULTY_' + name.upper(): str(number) for name, number in faults.items()})
@@ -68,8 +68,8 @@ def main(program, library):
         for piece in (1, 3, 7):
             if run(program, folder, library, piece=piece)[:2] != (0, WHOLE):
                 wrong += 1
-                print('WRONG in reads of %d bytes' % piece)
-        print('pieces of 1, 3 and 7 bytes read')
+                print('WRONG with reads of %d bytes' % piece)
+        print('also read in pieces of 1, 3 and 7 bytes')
     return 1 if wrong else 0
 
 
