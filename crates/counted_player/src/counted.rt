@@ -163,6 +163,11 @@ impl<L: Ledgers> Counted<L> {
         WakeFingerprint::of(&self.partition)
     }
 
+    /// Whether that changed since it was seen so. What was seen is then what there is now.
+    pub fn wakes(&self, seen: &mut WakeFingerprint) -> bool {
+        seen.renew(&self.partition)
+    }
+
     /// Whether the daemon has ended.
     pub fn has_ended(&self) -> bool
         ensures ended { result ≡ self.now.present.shared.ended }

@@ -1,5 +1,5 @@
 //! What a thread at rest is woken for.
-ghost use Rattle.std.specs.Prelude.{◌≡◌};
+ghost use Rattle.std.specs.Prelude.{◌≡◌, true};
 ghost use Rattle.counted_player.specs.Waking.{part_fingerprint};
 
 use partition::Partition;
@@ -7,10 +7,13 @@ use player_core::Playback;
 use player_state::Part;
 
 /// What changes where a decoder or an output has something to do: which partitions there are, and of each
-/// whether and what is played and which outputs are enabled; and the end.
-#[derive(Clone, Copy, PartialEq, Eq)]
+/// whether and what is played and which outputs are enabled; and the end. It is kept from one event to the next,
+/// and compared in place, since most events change nothing of it.
+#[derive(Clone, Copy)]
 pub struct WakeFingerprint {
     parts: [Option<PartFingerprint>; 16],
+    /// How many partitions there are.
+    count: usize,
     ended: bool,
 }
 
@@ -34,8 +37,34 @@ impl WakeFingerprint {
         }
         WakeFingerprint {
             parts,
+            count: partition.parts().len(),
             ended: partition.has_ended(),
         }
+    }
+
+    /// Whether it differs from what there is now. It is then taken anew.
+    pub(crate) fn renew(&mut self, partition: &Partition) -> bool
+        ensures { self.new.ended ≡ partition.now.present.shared.ended }
+    {
+        let differs = !self.is_of(partition);
+        if differs {
+            *self = WakeFingerprint::of(partition);
+        }
+        differs
+    }
+
+    /// Whether it is what there is now.
+    fn is_of(&self, partition: &Partition) -> bool
+        ensures { result ≡ true → self.now.ended ≡ partition.now.present.shared.ended }
+    {
+        let parts = partition.parts();
+        self.ended == partition.has_ended()
+            && self.count == parts.len()
+            && self
+                .parts
+                .iter()
+                .zip(parts)
+                .all(|(seen, part)| *seen == Some(PartFingerprint::of(part)))
     }
 }
 

@@ -7,6 +7,7 @@ use Rattle.counted_player.specs.declared.ledgers.Ledgers.{Ghosts}
 use Rattle.partition.proofs.Crosses.{◌⨟◌}
 use Rattle.frame_ledger.proofs.books.Books.TheSendSync as books
 use Rattle.counted_player.proofs.seat.Seat.TheSendSync as seat
+use Rattle.counted_player.proofs.wake_fingerprint.WakeFingerprint.TheSendSync as wake_fingerprint
 use Rattle.held_player.proofs.all_shares.AllShares.TheSendSync as all_shares
 use Rattle.held_player.specs.contracts.held.Held as Held
 use Rattle.held_player.specs.contracts.held.Held.TheInside as HeldInside
@@ -17,7 +18,8 @@ ruleset parts = (crosses, sendable)
 
 module _ (L : RattleType) (l : Ghosts L.Denot) where
   core_send : IsSend (Core.the_row L l)
-  core_send = declared_send (Core.the_type L l) (counted_send L l ⨟ search parts depth 60 fits 20000 ⨟ search parts depth 60 fits 20000 ⨟ tt)
+  core_send = declared_send (Core.the_type L l) (counted_send L l ⨟ search parts depth 60 fits 20000 ⨟
+      search (wake_fingerprint.the_send, parts) depth 60 fits 20000 ⨟ search parts depth 60 fits 20000 ⨟ tt)
 
   pub held_send : IsSend (Held.the_row L l)
   held_send = view_send _ _ _ _ _ (declared_send (HeldInside.the_type L l) (

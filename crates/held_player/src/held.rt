@@ -118,11 +118,14 @@ impl<L: Ledgers> Held<L> {
             books,
             shares,
         } = opened;
+        let counted = Counted::new(partition, seats);
+        let seen = counted.wake_fingerprint();
         let held = Held {
             alloc,
             core: Core {
-                counted: Counted::new(partition, seats),
+                counted,
                 waiting: Vec::new(alloc),
+                seen,
                 changes: 0,
             },
             books,

@@ -1,6 +1,6 @@
 //! Command lists under one taking of the lock.
 use crate::answered::AnsweredList;
-use crate::changes::count_change;
+use crate::changes::note_change;
 use crate::held::Held;
 use crate::waiting::{put_each, take_first};
 use command_lists::ListForm;
@@ -51,9 +51,8 @@ impl<L: Ledgers> Held<L> {
         ensures stopped { IfErr result (StopsAmid S.Shelf shelf.old shelf.new seat.old client form requests) }
     {
         let core = &mut self.core;
-        let before = core.counted.wake_fingerprint();
         let end = core.run_list(self.alloc, seat, shelf, client, form, requests);
-        count_change(&mut core.changes, core.counted.wake_fingerprint() != before);
+        note_change(&mut core.changes, &mut core.seen, &core.counted, false);
         match end {
             Ok(outcome) => {
                 let front = take_first(&mut core.waiting, client);

@@ -12,7 +12,7 @@ ghost use Rattle.held_player.specs.Views.{AnswersCaller, IsRefusedFor, IsUnchang
 ghost use Rattle.held_player.specs.Waiting.{first_for};
 
 use crate::answered::{Answered, Reported};
-use crate::changes::count_change;
+use crate::changes::note_change;
 use crate::waiting::{drop_gone, put_all, take_first};
 use counted_player::{Counted, Ledgers, Seat, WakeFingerprint};
 use idle_clients::Notice;
@@ -26,6 +26,8 @@ use transitions::{Read, Stand, StoreReply};
 pub(crate) struct Core<L: Ledgers> {
     pub(crate) counted: Counted<L>,
     pub(crate) waiting: Vec<Notice>,
+    /// What a thread at rest is woken for, as it was after the last event.
+    pub(crate) seen: WakeFingerprint,
     /// How often something changed that a thread at rest is woken for; it begins anew after its greatest
     /// value. No contract speaks of it.
     pub(crate) changes: u64,
@@ -37,15 +39,15 @@ impl<L: Ledgers> Drop for Core<L> {
         let Core {
             counted: _,
             waiting: _,
+            seen: _,
             changes: _,
         } = self;
     }
 }
 
 impl<L: Ledgers> Core<L> {
-    /// Makes room for the notices of an event, after those that wait. The answer is what a thread at rest is
-    /// woken for, as it is before the event.
-    pub(crate) fn begin(&mut self, seat: &mut Seat<L>) -> Result<WakeFingerprint, PartitionFault>
+    /// Makes room for the notices of an event, after those that wait.
+    pub(crate) fn begin(&mut self, seat: &mut Seat<L>) -> Result<(), PartitionFault>
         ensures found { MayFind seat.old self.old.counted }
         ensures same { (self.new.counted ≡ self.old.counted) × (seat.new ≡ seat.old) }
         ensures waiting { self.new.waiting.items ≡ self.old.waiting.items }
@@ -57,7 +59,7 @@ impl<L: Ledgers> Core<L> {
         if self.waiting.reserve(clients).is_err() {
             return Err(PartitionFault::NoMemory);
         }
-        Ok(self.counted.wake_fingerprint())
+        Ok(())
     }
 
     /// A line of a client. Its waiting notice is handed out in front of the reply.
@@ -89,11 +91,11 @@ impl<L: Ledgers> Core<L> {
             refused: None,
         };
         let event = Event::Line(client, Stand::Alone, request, heard);
-        let before = self.begin(seat)?;
+        self.begin(seat)?;
         let outcome = self.counted.apply(seat, shelf, event)?;
         let front = take_first(&mut self.waiting, client);
         put_all(&mut self.waiting, outcome.notices());
-        count_change(&mut self.changes, self.counted.wake_fingerprint() != before);
+        note_change(&mut self.changes, &mut self.seen, &self.counted, false);
         Ok(Answered { front, outcome })
     }
 
@@ -120,14 +122,11 @@ impl<L: Ledgers> Core<L> {
     {
         let gone = gone_by(&event);
         let wakes = wakes_always(&event);
-        let before = self.begin(seat)?;
+        self.begin(seat)?;
         let outcome = self.counted.step(seat, event)?;
         drop_gone(&mut self.waiting, gone);
         put_all(&mut self.waiting, outcome.notices());
-        count_change(
-            &mut self.changes,
-            wakes || self.counted.wake_fingerprint() != before,
-        );
+        note_change(&mut self.changes, &mut self.seen, &self.counted, wakes);
         Ok(Reported {
             outcome,
             changes: self.changes,

@@ -12,7 +12,7 @@ put_all-requires g c =
     let p : Chronicle = c.begin.new.self.counted in
     let room : vec_len c.begin.new.self.waiting + length c.in_ok-outcome.outcome.notices ≤ vec_capacity c.begin.new.self.waiting =
     has_room g.S.Shelf.standing g.S.Shelf.failed p.present c.apply.new.self.present (with_room p).window c.apply.new.self.window c.args.shelf.now c.apply.new.shelf
-    c.begin.new.seat.number _ (Ok c.in_ok-outcome.outcome) (vec_len c.begin.new.self.waiting) (vec_capacity c.begin.new.self.waiting) c.in_ok-before.ensures.room c.in_ok-outcome.ensures.ok in
+    c.begin.new.seat.number _ (Ok c.in_ok-outcome.outcome) (vec_len c.begin.new.self.waiting) (vec_capacity c.begin.new.self.waiting) c.in_ok-begin.ensures.room c.in_ok-outcome.ensures.ok in
     let notices = ap (λ (ns : List Notice). length ns) c.notices.ensures in
     let capacity = c.take_first-front.ensures.room.0 in
     let shorter = c.take_first-front.ensures.room.1 in

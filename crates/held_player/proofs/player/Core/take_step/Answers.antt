@@ -9,7 +9,7 @@ use Rattle.held_player.proofs.player.Core.take_step.Goals as goal
 pub put_all-requires : goal.put_all-requires
 put_all-requires g c =
     let before : Chronicle = c.begin.new.self.counted in
-    let room = c.in_ok-before.ensures.room in
+    let room = c.in_ok-begin.ensures.room in
     let few : length c.in_ok-outcome.outcome.notices ≤ length before.present.clients = few_told before.present c.args.event c.in_ok-outcome.outcome c.in_ok-outcome.ensures.told in
     let notices = ap (λ (ns : List Notice). length ns) c.notices.ensures in
     let capacity = c.drop_gone.ensures.room.0 in
