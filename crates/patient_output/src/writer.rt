@@ -46,7 +46,7 @@ pub fn patient_output<R: Wait + Copy>(
 }
 
 impl<R: Wait + Copy> Write for PatientWriter<R> {
-    ghost use Rattle.std.specs.Prelude.{◌≡◌, ◌<◌, Some, length, IfErr, IfOk};
+    ghost use Rattle.std.specs.Prelude.{◌≡◌, ◌<◌, Some, length, IfErr, IfOk, IsOk};
     ghost use Rattle.std.specs.IoError.{error_kind};
     ghost use Rattle.std.specs.Io.{WritesAtMost};
     ghost use Rattle.std.specs.Io.KnownBytes.{WriteAppends};
@@ -73,7 +73,10 @@ impl<R: Wait + Copy> Write for PatientWriter<R> {
     }
 
     /// Nothing is kept but in the ring, for which the end waits.
-    fn flush(&mut self) -> io::Result<()> {
+    fn flush(&mut self) -> io::Result<()>
+        ensures succeeds { IsOk result }
+        ensures same { self.new ≡ self.old }
+    {
         Ok(())
     }
 }
