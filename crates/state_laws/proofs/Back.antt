@@ -39,7 +39,7 @@ use Rattle.kept_state.specs.Reading.{Player, after_line, read_line, read_step, r
 use Rattle.state_laws.specs.Having.{Has}
 use Rattle.state_laws.specs.Saying.{AllAsk, Asks, CanAsk, EachAsks, IsReady, LineIsRead, PlayerHas, ReadsLines, after_reading, after_step, after_steps, asking, is_refused, is_song, puts, read_or_same, songs_in, songs_of, switch_to}
 use Rattle.state_laws.specs.Limits.{IsFar}
-use Rattle.state_laws.proofs.Events.{Leaves, leaves, stays_far}
+use Rattle.state_laws.proofs.Events.{ChangesOwn, Leaves, leaves, stays_far}
 use Rattle.state_laws.proofs.Lines.{IsRead, consume_read, crossfade_read, pause_read, play_read, priority_read, put_read, random_read, repeat_read, seek_read, single_read, stop_read, switch_read, volume_read}
 
 abbrev pub is_switch : Line → Bool
@@ -63,6 +63,7 @@ pub record Does (library : Library) (seat number more : ℕ) (i : Image) (player
   pub accepted : is_refused i (asking number request) ≡ false → is_some (read_line (is_song library) player line) ≡ true
   pub far : (left : ℕ) → IsFar seat number (suc left) i
       → (limit_of seat i (asking number request) ≡ None) × IsFar seat number left (next_image seat i (asking number request))
+  pub own : ChangesOwn number i (next_image seat i (asking number request))
 
 module _ (seat number more : ℕ) (i : Image) (player : Player) (client : Client) (part : Part) where
   abbrev lib : Library
@@ -71,7 +72,7 @@ module _ (seat number more : ℕ) (i : Image) (player : Player) (client : Client
   abbrev DoesIt : Line → Request → Type 0
   DoesIt line request = Does lib seat number more i player line request
 
-  module _ (line : Line) (name : Name) (it : Command) (r : CommandResult)
+  module _ (line : Line) (name : Name) (it : Command) (r : CommandResult) (here : client_of number i.clients ≡ Some client)
       (l : Leaves seat number i client part (asking number (Run name it)) r) (is : IsRead lib.rate more part player (is_switch line) (read_line (is_song lib) player line) r)
       (far : (left : ℕ) → IsFar seat number (suc left) i → (limit_of seat i (asking number (Run name it)) ≡ None) × IsFar seat number left (next_image seat i (asking number (Run name it)))) where
     by_result : DoesIt line (Run name it)
@@ -89,6 +90,17 @@ module _ (seat number more : ℕ) (i : Image) (player : Player) (client : Client
       refused = λ e k. is.refused (sym l.refused ∙ e) k;
       accepted = λ e. is.accepted (sym l.refused ∙ e);
       far = far;
+      own = record {
+        openings = l.openings;
+        before = client;
+        after = l.own;
+        here = here;
+        there = l.there;
+        place = l.place;
+        effect = r.effect;
+        small = is.small;
+        parts = l.parts;
+      };
     }
 
   module _ (there : client_of number i.clients ≡ Some client) (listens : client.pending.waiting ≡ None) (placed : part_at client.place i.parts ≡ Some part) where
@@ -101,7 +113,7 @@ module _ (seat number more : ℕ) (i : Image) (player : Player) (client : Client
 
       by_run : (line : Line) (it : Command) (r : CommandResult) → wish_of it ≡ None → Runs it r
           → IsRead lib.rate more part player (is_switch line) (read_line (is_song lib) player line) r → DoesIt line (Run name it)
-      by_run line it r quiet runs is = by_result line name it r (leaves seat number i client part name it r there listens placed quiet runs is.scan is.written is.goes) is
+      by_run line it r quiet runs is = by_result line name it r there (leaves seat number i client part name it r there listens placed quiet runs is.scan is.written is.goes) is
           (λ left far. stays_far seat number i client part name it r there listens placed quiet runs is.scan is.written is.goes left is.small far)
 
       runs_volume : (volume : ℕ) → Runs (command.Options (options.SetVol volume)) (set_volume asked volume)

@@ -28,6 +28,7 @@ use Rattle.mpd_command.specs.declared.command.Command.TheVariants as command
 use Rattle.mpd_command.specs.declared.name.Name.{Name}
 use Rattle.mpd_command.specs.declared.options.OptionCommand.TheVariants as options
 use Rattle.mpd_command.specs.declared.outputs.OutputCommand.TheVariants as outputs
+use Rattle.mpd_command.specs.declared.partitions.PartitionCommand.TheVariants as partitions
 use Rattle.mpd_command.specs.declared.playback.PlaybackCommand.TheVariants as playback
 use Rattle.mpd_command.specs.declared.queue.QueueCommand.TheVariants as queue
 use Rattle.mpd_command.specs.declared.request.Request.TheVariants.{Run}
@@ -44,13 +45,14 @@ use Rattle.kept_state.specs.Lines.{Line as lines}
 use Rattle.kept_state.specs.Texts.{line, switch_name}
 use Rattle.state_laws.specs.Bytes.{BytesAreRead, LinesEnd, bytes_of}
 use Rattle.state_laws.specs.Saying.{Asks, switch_to}
-use Rattle.state_laws.proofs.Words.{IsWord, byte_decimal, decimal_word, millis_word, mode_word, number_decimal, number_up_to, quoted_words, switch_word, three_words, two_words, word_is}
+use Rattle.state_laws.proofs.Words.{IsWord, byte_decimal, decimal_word, millis_word, mode_word, number_decimal, number_up_to, quoted_last, quoted_words, switch_word, three_words, two_words, word_is}
 
 -- the names of the commands of a state
 abbrev names : List (List ℕ)
 names =
     codes "setvol" ∷ codes "repeat" ∷ codes "random" ∷ codes "single" ∷ codes "consume" ∷ codes "crossfade" ∷ codes "enableoutput" ∷ codes "disableoutput"
-    ∷ codes "addid" ∷ codes "prio" ∷ codes "seek" ∷ codes "play" ∷ codes "pause" ∷ codes "stop" ∷ []
+    ∷ codes "addid" ∷ codes "prio" ∷ codes "seek" ∷ codes "play" ∷ codes "pause" ∷ codes "stop" ∷ codes "newpartition"
+    ∷ codes "partition" ∷ codes "moveoutput" ∷ []
 
 all_named : list_all (λ word. is_some (name_in_set word fewest)) names ≡ true
 unfolding all_names name_of connection_rows rows_from_notcommands database_rows rows_from_listall rows_from_rescan messages_rows options_rows rows_from_replay_gain_mode outputs_rows partitions_rows playback_rows rows_from_seek playlists_rows rows_from_playlistadd queue_rows rows_from_playlist rows_from_prio status_rows stickers_rows
@@ -65,14 +67,14 @@ some_name : (o : Option Name) → is_some o ≡ true → (name : Name) × (o ≡
 some_name None e = cc
 some_name (Some name) e = (name, refl)
 
-named : (i : ℕ) → i < 14 → (name : Name) × (name_in_set (get_or names i []) fewest ≡ Some name)
+named : (i : ℕ) → i < 17 → (name : Name) × (name_in_set (get_or names i []) fewest ≡ Some name)
 named i low = some_name (name_in_set (get_or names i []) fewest) (at_all (λ word. is_some (name_in_set word fewest)) names i all_named (omega arith))
 
 -- a line whose words are those of a command is read as its request
-abbrev IsRead : List ℕ → Command → Type 0
+abbrev pub IsRead : List ℕ → Command → Type 0
 IsRead bytes it = (name : Name) × (request_of bytes fewest ≡ Run name it)
 
-by_words : (i : ℕ) (bytes : List ℕ) (words : List (List ℕ)) (it : Command) → i < 14 → words_of bytes ≡ Ok (get_or names i [] ∷ words)
+by_words : (i : ℕ) (bytes : List ℕ) (words : List (List ℕ)) (it : Command) → i < 17 → words_of bytes ≡ Ok (get_or names i [] ∷ words)
     → ((name : Name) → of_name (Some name) (get_or names i []) words fewest ≡ read_as name (get_or names i []) (command_of fewest (get_or names i []) words))
     → command_of fewest (get_or names i []) words ≡ Ok (Some it) → IsRead bytes it
 unfolding request_of
@@ -148,6 +150,18 @@ stop_found : command_of fewest (codes "stop") [] ≡ Ok (Some (command.Playback 
 unfolding connection_rows rows_from_notcommands database_rows rows_from_listall rows_from_rescan messages_rows options_rows rows_from_replay_gain_mode outputs_rows partitions_rows playback_rows rows_from_seek playlists_rows rows_from_playlistadd queue_rows rows_from_playlist rows_from_prio status_rows stickers_rows
 stop_found = refl
 
+new_found : (name : List ℕ) → command_of fewest (codes "newpartition") (name ∷ []) ≡ Ok (Some (command.Partitions (partitions.NewPartition name)))
+unfolding connection_rows rows_from_notcommands database_rows rows_from_listall rows_from_rescan messages_rows options_rows rows_from_replay_gain_mode outputs_rows partitions_rows playback_rows rows_from_seek playlists_rows rows_from_playlistadd queue_rows rows_from_playlist rows_from_prio status_rows stickers_rows
+new_found name = refl
+
+going_found : (name : List ℕ) → command_of fewest (codes "partition") (name ∷ []) ≡ Ok (Some (command.Partitions (partitions.Partition name)))
+unfolding connection_rows rows_from_notcommands database_rows rows_from_listall rows_from_rescan messages_rows options_rows rows_from_replay_gain_mode outputs_rows partitions_rows playback_rows rows_from_seek playlists_rows rows_from_playlistadd queue_rows rows_from_playlist rows_from_prio status_rows stickers_rows
+going_found name = refl
+
+moving_found : (name : List ℕ) → command_of fewest (codes "moveoutput") (name ∷ []) ≡ Ok (Some (command.Partitions (partitions.MoveOutput name)))
+unfolding connection_rows rows_from_notcommands database_rows rows_from_listall rows_from_rescan messages_rows options_rows rows_from_replay_gain_mode outputs_rows partitions_rows playback_rows rows_from_seek playlists_rows rows_from_playlistadd queue_rows rows_from_playlist rows_from_prio status_rows stickers_rows
+moving_found name = refl
+
 stop_spelled : words_of (codes "stop") ≡ Ok (codes "stop" ∷ [])
 unfolding scan
 stop_spelled = refl
@@ -213,6 +227,22 @@ line_read lines.Pause it asks =
     (two_words (codes "pause") (codes "1") (word_is (codes "pause") refl) (word_is (codes "1") refl)) (λ name. refl) pause_found)
 line_read lines.Stop it asks =
     subst (IsRead (bytes_of lines.Stop)) (sym asks) (by_words 13 (bytes_of lines.Stop) [] (command.Playback playback.Stop) (omega arith) stop_spelled (λ name. refl) stop_found)
+
+-- lines of partitions
+pub new_read : (name : List ℕ) → IsRead (codes "newpartition " ++ quoted_text name) (command.Partitions (partitions.NewPartition name))
+new_read name =
+    by_words 14 (codes "newpartition" ++ (codes " " ++ quoted_text name)) (name ∷ []) (command.Partitions (partitions.NewPartition name)) (omega arith)
+    (quoted_last (codes "newpartition") name (word_is (codes "newpartition") refl)) (λ name. refl) (new_found name)
+
+pub going_read : (name : List ℕ) → IsRead (codes "partition " ++ quoted_text name) (command.Partitions (partitions.Partition name))
+going_read name =
+    by_words 15 (codes "partition" ++ (codes " " ++ quoted_text name)) (name ∷ []) (command.Partitions (partitions.Partition name)) (omega arith)
+    (quoted_last (codes "partition") name (word_is (codes "partition") refl)) (λ name. refl) (going_found name)
+
+pub moving_read : (name : List ℕ) → IsRead (codes "moveoutput " ++ quoted_text name) (command.Partitions (partitions.MoveOutput name))
+moving_read name =
+    by_words 16 (codes "moveoutput" ++ (codes " " ++ quoted_text name)) (name ∷ []) (command.Partitions (partitions.MoveOutput name)) (omega arith)
+    (quoted_last (codes "moveoutput") name (word_is (codes "moveoutput") refl)) (λ name. refl) (moving_found name)
 
 pub bytes_are_read : BytesAreRead
 bytes_are_read line it asks = line_read line it asks

@@ -20,6 +20,7 @@ use Rattle.player_core.specs.Player.{is_within}
 use Rattle.player_state.specs.Effects.{begins_beyond, part_after, player_after}
 use Rattle.player_state.specs.Outputs.{books_after, can_count_all}
 use Rattle.player_state.specs.Libraries.{library_after}
+use Rattle.player_state.specs.declared.effect.CommandEffect.{CommandEffect}
 use Rattle.player_state.specs.declared.effect.Effect.TheVariants.{ByCommand}
 use Rattle.player_state.specs.declared.scan.ScanMove.{ScanMove}
 use Rattle.player_state.specs.declared.scan.ScanMove.TheVariants.{Stay}
@@ -30,7 +31,6 @@ use Rattle.status_commands.specs.Status.{wish_of}
 use Rattle.transitions.specs.Answers.{Answer, stays}
 use Rattle.transitions.specs.Shelves.{is_written}
 use Rattle.transitions.specs.Transitions.{CommandResult, TransitionData, departs, keeps_all_numbers, max_cut_in, parts_after, report_of, transition_by}
-use Rattle.transitions.specs.declared.asked.Asked.{Asked}
 use Rattle.transitions.specs.declared.asked.Stand.TheVariants.{Alone}
 use Rattle.transitions.specs.declared.reply.Next.{Next}
 use Rattle.transitions.specs.declared.reply.Next.TheVariants.{Goes}
@@ -41,7 +41,7 @@ use Rattle.state_laws.proofs.Limits.{IsSmall, Raises, one_more, raises, same_boo
 use Rattle.state_laws.specs.Saying.{asking, is_refused}
 
 -- each client hears of what was raised, and no client goes
-client_mapped : (number : ℕ) (f : Client → Client) → ((k : Client) → (f k).number ≡ k.number) → (ks : List Client)
+pub client_mapped : (number : ℕ) (f : Client → Client) → ((k : Client) → (f k).number ≡ k.number) → (ks : List Client)
     → client_of number (map f ks) ≡ option_map f (client_of number ks)
 client_mapped number f keeps [] = refl
 client_mapped number f keeps (k ∷ ks) =
@@ -65,22 +65,89 @@ still_listens r k free =
     let p : Pending = noted (r k) k.pending in
     elim (is_nonempty (due p)) as (λ b. (if b then fresh else p).waiting ≡ None) [ true ↦ refl | false ↦ free ]
 
-one_client : (a b : Client) → ◌≡◌ {A = Option Client} (Some a) (Some b) → a ≡ b
+pub one_client : (a b : Client) → ◌≡◌ {A = Option Client} (Some a) (Some b) → a ≡ b
 one_client a b e = cc
 
-one_part : (a b : Part) → ◌≡◌ {A = Option Part} (Some a) (Some b) → a ≡ b
+pub one_part : (a b : Part) → ◌≡◌ {A = Option Part} (Some a) (Some b) → a ≡ b
 one_part a b e = cc
 
 -- what a line leaves of a daemon: its client is there and does not wait, its partition is as the result of the
--- command says, and the library is as it was
+-- command says, all others are as they were, and so are the library and what a partition is opened with
 pub record Leaves (seat number : ℕ) (i : Image) (client : Client) (part : Part) (event : Event) (r : CommandResult) : Type 0 where
   pub library : (next_image seat i event).shared.library ≡ i.shared.library
+  pub openings : (next_image seat i event).shared.openings ≡ i.shared.openings
   pub own : Client
   pub there : client_of number (next_image seat i event).clients ≡ Some own
   pub place : own.place ≡ client.place
   pub listens : own.pending.waiting ≡ None
   pub placed : part_at client.place (next_image seat i event).parts ≡ Some (part_after i.shared.library.rate part (ByCommand r.effect))
+  pub parts : (next_image seat i event).parts ≡ changed i.shared.library.rate client.place (ByCommand r.effect) i.parts
   pub refused : is_refused i event ≡ r.answer.refused
+
+-- what a line of a state changes of the partitions: the client's own one alone, as such a line does
+pub record ChangesOwn (number : ℕ) (i j : Image) : Type 0 where
+  pub openings : j.shared.openings ≡ i.shared.openings
+  pub before : Client
+  pub after : Client
+  pub here : client_of number i.clients ≡ Some before
+  pub there : client_of number j.clients ≡ Some after
+  pub place : after.place ≡ before.place
+  pub effect : CommandEffect
+  pub small : IsSmall effect
+  pub parts : j.parts ≡ changed i.shared.library.rate before.place (ByCommand effect) i.parts
+
+-- the line of a client that does not wait, and what its command makes
+module _ (seat number : ℕ) (i : Image) (client : Client) (part : Part) (name : Name) (it : Command) (t : TransitionData)
+    (there : client_of number i.clients ≡ Some client) (listens : client.pending.waiting ≡ None) (placed : part_at client.place i.parts ≡ Some part)
+    (no_wish : wish_of it ≡ None) (runs : transition_run (overview i) (asked_by client name Alone) part i.shared.library NothingRead it ≡ t)
+    (written : t.written ≡ Nothing) where
+  abbrev said : Event
+  said = asking number (Run name it)
+
+  abbrev own_library : Library
+  own_library = i.shared.library
+
+  line_makes : transition_line (overview i) (Some part) own_library (Some client) Alone (Run name it) NothingRead ≡ t
+  line_makes =
+      let there_run : TransitionData = transition_there (overview i) (asked_by client name Alone) (Some part) own_library NothingRead it in
+      let whole : TransitionData = transition_wished (asked_by client name Alone) client there_run (wish_of it) in
+      ap (λ (w : Option Subsystems). if is_some w && not (ends_waiting Alone (Run name it)) then departs client.number else whole) listens
+      ∙ ap (transition_wished (asked_by client name Alone) client there_run) no_wish ∙ runs
+
+  unwritten : is_written t.written ≡ false
+  unwritten = ap is_written written
+
+  pub event_makes : transition i said ≡ t
+  event_makes =
+      ap (λ (o : Option Client). transition_of (overview i) (part_at (place_in o) i.parts) own_library o said) there
+      ∙ ap (λ (o : Option Part). transition_of (overview i) o own_library (Some client) said) placed
+      ∙ ap (written_transition Alone (Run name it) None) line_makes
+      ∙ ap (λ (b : Bool). if b then once_written Alone (Run name it) None t else t) unwritten
+
+  pub place_made : place_at i said ≡ client.place
+  place_made = ap place_in there
+
+  pub parts_made : (next_image seat i said).parts ≡ parts_after own_library.rate client.place t i.parts
+  unfolding next_image
+  parts_made =
+      ap (λ (t : TransitionData). parts_after own_library.rate (place_at i said) t i.parts) event_makes
+      ∙ ap (λ (place : ℕ). parts_after own_library.rate place t i.parts) place_made
+
+  pub library_made : (next_image seat i said).shared.library ≡ library_after own_library t.scan
+  unfolding next_image
+  library_made = ap (λ (t : TransitionData). library_after own_library t.scan) event_makes
+
+  pub openings_stay : (next_image seat i said).shared.openings ≡ i.shared.openings
+  unfolding next_image
+  openings_stay = refl
+
+  pub clients_made : (next_image seat i said).clients ≡ clients_after number (raised_of i said t) t.response i.clients
+  unfolding next_image
+  clients_made = ap (λ (t : TransitionData). clients_after number (raised_of i said t) t.response i.clients) event_makes
+
+  pub refused_made : is_refused i said ≡ t.response.answer.refused
+  unfolding told
+  refused_made = ap (λ (t : TransitionData). t.response.answer.refused) event_makes
 
 module _ (seat number : ℕ) (i : Image) (client : Client) (part : Part) (name : Name) (it : Command) (r : CommandResult)
     (there : client_of number i.clients ≡ Some client) (listens : client.pending.waiting ≡ None) (placed : part_at client.place i.parts ≡ Some part)
@@ -93,57 +160,37 @@ module _ (seat number : ℕ) (i : Image) (client : Client) (part : Part) (name :
   abbrev lib : Library
   lib = i.shared.library
 
-  abbrev asked : Asked
-  asked = asked_by client name Alone
-
-  -- what the line of a client that does not wait makes
-  line_makes : transition_line (overview i) (Some part) lib (Some client) Alone (Run name it) NothingRead ≡ transition_by r
-  line_makes =
-      let there_run : TransitionData = transition_there (overview i) asked (Some part) lib NothingRead it in
-      let whole : TransitionData = transition_wished asked client there_run (wish_of it) in
-      ap (λ (w : Option Subsystems). if is_some w && not (ends_waiting Alone (Run name it)) then departs client.number else whole) listens
-      ∙ ap (transition_wished asked client there_run) no_wish ∙ runs
-
-  unwritten : is_written r.written ≡ false
-  unwritten = ap is_written written
-
-  event_makes : transition i event ≡ transition_by r
-  event_makes =
-      ap (λ (o : Option Client). transition_of (overview i) (part_at (place_in o) i.parts) lib o event) there
-      ∙ ap (λ (o : Option Part). transition_of (overview i) o lib (Some client) event) placed
-      ∙ ap (written_transition Alone (Run name it) None) line_makes
-      ∙ ap (λ (b : Bool). if b then once_written Alone (Run name it) None (transition_by r) else transition_by r) unwritten
+  makes : transition i event ≡ transition_by r
+  makes = event_makes seat number i client part name it (transition_by r) there listens placed no_wish runs written
 
   place_is : place_at i event ≡ client.place
-  place_is = ap place_in there
+  place_is = place_made seat number i client part name it (transition_by r) there listens placed no_wish runs written
 
   parts_are : (next_image seat i event).parts ≡ changed lib.rate client.place (ByCommand r.effect) i.parts
-  unfolding next_image
-  parts_are =
-      ap (λ (t : TransitionData). parts_after lib.rate (place_at i event) t i.parts) event_makes
-      ∙ ap (λ (place : ℕ). changed lib.rate place (ByCommand r.effect) i.parts) place_is
+  parts_are = parts_made seat number i client part name it (transition_by r) there listens placed no_wish runs written
 
   library_is : (next_image seat i event).shared.library ≡ lib
-  unfolding next_image
-  library_is = ap (λ (t : TransitionData). library_after lib t.scan) event_makes ∙ ap (library_after lib) scan
+  library_is =
+      library_made seat number i client part name it (transition_by r) there listens placed no_wish runs written
+      ∙ ap (library_after lib) scan
 
   clients_are : (next_image seat i event).clients ≡ clients_after number (raised_of i event (transition_by r)) (stays r.answer) i.clients
-  unfolding next_image
-  clients_are = ap (λ (t : TransitionData). clients_after number (raised_of i event t) t.response i.clients) event_makes
+  clients_are = clients_made seat number i client part name it (transition_by r) there listens placed no_wish runs written
 
   refused_is : is_refused i event ≡ r.answer.refused
-  unfolding told
-  refused_is = ap (λ (t : TransitionData). t.response.answer.refused) event_makes
+  refused_is = refused_made seat number i client part name it (transition_by r) there listens placed no_wish runs written
 
   pub leaves : Leaves seat number i client part event r
   leaves =
       let raised : Client → Subsystems = raised_of i event (transition_by r) in
       record {
         library = library_is;
+        openings = openings_stay seat number i client part name it (transition_by r) there listens placed no_wish runs written;
         own = notified raised client;
         there = ap (client_of number) clients_are ∙ own_client number raised r.answer i.clients client goes there;
         place = refl;
         listens = still_listens raised client listens;
+        parts = parts_are;
         placed = ap (part_at client.place) parts_are ∙ own_changed client.place lib.rate (ByCommand r.effect) i.parts ∙ ap (option_map (λ (p : Part). part_after lib.rate p (ByCommand r.effect))) placed;
         refused = refused_is;
       }
@@ -167,7 +214,7 @@ module _ (seat number : ℕ) (i : Image) (client : Client) (part : Part) (name :
       (omega (arith, up.cuts, up.max_cut, h.cuts)) (omega (arith, up.starts, up.max_cut, h.starts)) (omega (arith, up.jobs, up.max_cut, h.jobs)) in
       let counted : nat_le 9223372036854775807 (slice_index_or i.shared.made seat 0) ≡ false = lt-leb 9223372036854775807 (slice_index_or i.shared.made seat 0) (omega (arith, h.made)) in
       let t : TransitionData = transition_by r in
-      ap (limit_by seat i event) event_makes
+      ap (limit_by seat i event) makes
       ∙ ap (λ (b : Bool). if b || not (counts_frames i event t) then Some AtLimit else (if keeps_limits i event t then None else Some CutsAtLimit)) counted
       ∙ ap (λ (b : Bool). if not b then Some AtLimit else (if keeps_limits i event t then None else Some CutsAtLimit)) (frames_count h.books)
       ∙ ap (λ (b : Bool). if b then None else Some CutsAtLimit) (numbers_keep fine)
@@ -179,7 +226,7 @@ module _ (seat number : ℕ) (i : Image) (client : Client) (part : Part) (name :
   books_are : can_count_all (next_image seat i event).shared.books ≡ can_count_all i.shared.books
   unfolding next_image
   books_are =
-      ap (λ (t : TransitionData). can_count_all (books_after i.shared.books t.effect (report_of (place_at i event) i.parts lib t))) event_makes
+      ap (λ (t : TransitionData). can_count_all (books_after i.shared.books t.effect (report_of (place_at i event) i.parts lib t))) makes
       ∙ same_books i.shared.books r.effect (report_of (place_at i event) i.parts lib (transition_by r))
 
   left_after : (left : ℕ) → HasLeft seat (suc left) i part.player → IsSmall r.effect → HasLeft seat left (next_image seat i event) (player_after lib.rate part (ByCommand r.effect))

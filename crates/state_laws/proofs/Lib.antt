@@ -15,3 +15,16 @@ mod Limits
 mod Within
 mod Telling
 mod Text
+mod Apart
+mod Numbers
+mod Spread
+mod Alike
+mod Crossings
+mod Between
+mod Farness
+mod Opening
+mod Bringing
+mod Among
+mod Restored
+mod Everyone
+mod PlayerText

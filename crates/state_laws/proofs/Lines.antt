@@ -67,7 +67,7 @@ pub record IsRead (rate more : ℕ) (part : Part) (player : Player) (is_switch :
   pub refused : r.answer.refused ≡ true → is_switch ≡ false → read ≡ None
   pub accepted : r.answer.refused ≡ false → is_some read ≡ true
 
-options_same : (part other : Part) (o : KeptOptions) → other.volume ≡ part.volume → other.player.modes ≡ part.player.modes
+pub options_same : (part other : Part) (o : KeptOptions) → other.volume ≡ part.volume → other.player.modes ≡ part.player.modes
     → other.player.crossfade ≡ part.player.crossfade → AreOptions part o → AreOptions other o
 options_same part other o volume modes fade h = record {
   volume = h.volume ∙ ap (λ (n : ℕ). Some n) (sym volume);
@@ -88,7 +88,7 @@ played_same rate e f p q (playback.Play elapsed) song how place h = (how ∙ h.0
 played_same rate e f p q (playback.Pause elapsed) song how place h = (how ∙ h.0, into_same rate e f p q elapsed song place h.1)
 
 -- the same song is current, and played so
-current_same : (rate : ℕ) (part other : Part) (song : Option (ℕ × KeptPlayback)) → queue_of other.queue ≡ queue_of part.queue
+pub current_same : (rate : ℕ) (part other : Part) (song : Option (ℕ × KeptPlayback)) → queue_of other.queue ≡ queue_of part.queue
     → other.player.current ≡ part.player.current → other.player.playback ≡ part.player.playback → other.player.place ≡ part.player.place
     → IsCurrent rate part song → IsCurrent rate other song
 current_same rate part other None queue current how place h = (current ∙ h.0, how ∙ h.1)

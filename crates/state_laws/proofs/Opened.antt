@@ -1,26 +1,30 @@
 -- A player that was just opened.
-use Rattle.std.proofs.Common.{◌≡◌, ℕ, ◌+◌, ◌==◌, Bool, true, [], ◌∷◌, length, Some, None, refl, ap, arith, if◌then◌else◌}
+use Rattle.std.proofs.Common.{◌≡◌, ℕ, ◌+◌, ◌==◌, Bool, true, List, [], ◌∷◌, length, Some, None, codes, refl, ap, arith, if◌then◌else◌}
 use Rattle.std.proofs.lemmas.Bool.{eq-eqb}
 use Rattle.idle_clients.specs.Clients.{client_of, newcomer}
 use Rattle.kept_state.specs.Lines.{state_steps}
 use Rattle.kept_state.specs.Reading.{opened}
 use Rattle.mpd_text.specs.Answers.Number.{number_of}
-use Rattle.partition.specs.Image.{first_part}
+use Rattle.parts.specs.Openings.{OpeningsData}
+use Rattle.parts.specs.Parts.{opening_part}
+use Rattle.partition.specs.Image.{first_part, openings_of}
 use Rattle.partition.specs.Step.{next_image}
-use Rattle.partition.specs.declared.state.Setup.{Setup}
+use Rattle.player_state.specs.Outputs.{OutputsData}
 use Rattle.state_laws.specs.Bytes.{OpenedComesBack, read_bytes}
 use Rattle.state_laws.specs.Having.{AreOptions, Has}
 use Rattle.state_laws.specs.Saying.{OpensEmpty, begun, first_options, songs_of}
 use Rattle.state_laws.proofs.Bytes.{bytes_are_read}
 use Rattle.state_laws.proofs.Whole.{state_comes_back}
 
-options_told : (setup : Setup) → AreOptions (first_part setup) first_options
+options_told : (openings : OpeningsData) (place : ℕ) (name : List ℕ) (outputs : OutputsData) → AreOptions (opening_part openings place name outputs) first_options
 unfolding number_of
-options_told setup = record { volume = refl; repeat = refl; random = refl; single = refl; consume = refl; crossfade = refl }
+options_told openings place name outputs = record { volume = refl; repeat = refl; random = refl; single = refl; consume = refl; crossfade = refl }
 
-has_first : (rate : ℕ) (setup : Setup) → length setup.outputs.enabled ≡ length setup.outputs.here → Has rate (first_part setup) (opened first_options)
-has_first rate setup known = record {
-  options = options_told setup;
+-- a partition that is opened
+pub has_opening : (rate : ℕ) (openings : OpeningsData) (place : ℕ) (name : List ℕ) (outputs : OutputsData) → length outputs.enabled ≡ length outputs.here
+    → Has rate (opening_part openings place name outputs) (opened first_options)
+has_opening rate openings place name outputs known = record {
+  options = options_told openings place name outputs;
   outputs = record { known = known; as_said = λ n on e here fine. cc };
   queue = refl;
   song = (refl, refl);
@@ -38,7 +42,7 @@ opens_empty seat number songs setup library h = record {
   listens = refl;
   part = first_part setup;
   placed = refl;
-  has = has_first library.rate setup h.known;
+  has = has_opening library.rate (openings_of setup) 0 (codes "default") setup.outputs h.known;
   room = (omega (arith, h.queue), omega (arith, h.ids));
 }
 

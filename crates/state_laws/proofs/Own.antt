@@ -175,7 +175,7 @@ songs_song (Some song) =
 songs_options : (o : KeptOptions) → songs_of (map alone (option_lines o)) ≡ 0
 songs_options o = refl
 
-songs_state : (kept : Kept) → songs_of (state_steps kept) ≡ length (kept.before.items ++ (entry_of kept.song ++ kept.after.items))
+pub songs_state : (kept : Kept) → songs_of (state_steps kept) ≡ length (kept.before.items ++ (entry_of kept.song ++ kept.after.items))
 songs_state kept =
     let switches : List (List Line) = map (λ output. alone (lines.Switch output)) kept.outputs.items in
     let a = songs_joined (map alone (option_lines kept.options)) (switches ++ queue_steps kept) in

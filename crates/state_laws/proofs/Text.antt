@@ -1,5 +1,5 @@
 -- The text of a state is read line by line as the lines of its steps.
-use Rattle.std.proofs.Common.{◌≡◌, ◌∙◌, ℕ, zero, suc, ◌+◌, ◌-◌, ◌<◌, ◌==◌, Bool, true, false, ◌||◌, nat_le, List, [], ◌∷◌, ◌++◌, All, length, map, refl, sym, ap, subst, arith, append_assoc, codes, decimal, Option, Some, None, if◌then◌else◌, take}
+use Rattle.std.proofs.Common.{◌≡◌, ◌∙◌, ℕ, zero, suc, ◌-◌, ◌<◌, ◌==◌, Bool, true, false, ◌||◌, nat_le, List, [], ◌∷◌, ◌++◌, All, length, map, refl, sym, ap, subst, arith, append_assoc, codes, decimal, Option, Some, None, if◌then◌else◌, take}
 use Rattle.std.specs.Prelude.{slice_index}
 use Rattle.std.specs.Cmp.{first_so, second_so}
 use Rattle.std.specs.List.{flat_map, slice_split}
@@ -36,11 +36,11 @@ use Rattle.state_laws.proofs.Telling.{steps_told}
 use Rattle.state_laws.proofs.Words.{decimal_word, millis_word, mode_word, number_up_to, switch_word}
 
 -- no byte of a line is a control
-abbrev AreFit : List Line → Type 0
+abbrev pub AreFit : List Line → Type 0
 AreFit [] = Unit {0}
 AreFit (line ∷ more) = HasNoControl (bytes_of line) × AreFit more
 
-abbrev EachFit : List (List Line) → Type 0
+abbrev pub EachFit : List (List Line) → Type 0
 EachFit [] = Unit {0}
 EachFit (step ∷ steps) = AreFit step × EachFit steps
 
@@ -68,7 +68,7 @@ cut : (x : List ℕ) (parts : List (List ℕ)) → 0 < length parts → lines_of
 cut x [] some = absurd (omega arith)
 cut x (y ∷ more) some = refl
 
-one_line : (l rest : List ℕ) → HasNoControl l → lines_in (l ++ (10 ∷ rest)) ≡ l ∷ lines_in rest
+pub one_line : (l rest : List ℕ) → HasNoControl l → lines_in (l ++ (10 ∷ rest)) ≡ l ∷ lines_in rest
 one_line l rest e =
     let p : ℕ → Bool = λ b. b == 10 in
     let some : 0 < length (slice_split p rest) = omega (arith, length-slice_split p rest) in
@@ -82,7 +82,7 @@ pub record IsPlain (line : List ℕ) : Type 0 where
   pub no_end : ends line ≡ false
   pub full : is_empty line ≡ false
 
-not_empty : (line : List ℕ) → 0 < length line → is_empty line ≡ false
+pub not_empty : (line : List ℕ) → 0 < length line → is_empty line ≡ false
 not_empty line some = ne_eqb (length line) 0 (λ e. omega (arith, e, some))
 
 switch_plain : (on : Bool) (rest : List ℕ) → IsPlain (switch_name on ++ rest)
@@ -104,7 +104,7 @@ plain lines.Play = record { no_begin = refl; no_end = refl; full = not_empty (by
 plain lines.Pause = record { no_begin = refl; no_end = refl; full = not_empty (bytes_of lines.Pause) (omega arith) }
 plain lines.Stop = record { no_begin = refl; no_end = refl; full = not_empty (bytes_of lines.Stop) (omega arith) }
 
-alone_in : (line : List ℕ) (more : List (List ℕ)) → IsPlain line → steps_in false (line ∷ more) ≡ (line ∷ []) ∷ steps_in false more
+pub alone_in : (line : List ℕ) (more : List (List ℕ)) → IsPlain line → steps_in false (line ∷ more) ≡ (line ∷ []) ∷ steps_in false more
 alone_in line more p = rw (p.no_begin, p.no_end, p.full) refl
 
 passed_in : (line : List ℕ) (more : List (List ℕ)) → IsPlain line → steps_in true (line ∷ more) ≡ steps_in true more
@@ -156,7 +156,7 @@ many_read line next others rest fit =
     ∙ ap (λ (step : List (List ℕ)). step ∷ steps_in true end) (listed_all told (lines_in rest))
     ∙ ap (λ (steps : List (List (List ℕ))). map bytes_of told ∷ steps) (passed_all told (lines_in rest))
 
-step_read : (step : List Line) (rest : List ℕ) → 0 < length step → AreFit step
+pub step_read : (step : List Line) (rest : List ℕ) → 0 < length step → AreFit step
     → steps_in false (lines_in (text_of_step step ++ rest)) ≡ map bytes_of step ∷ steps_in false (lines_in rest)
 step_read [] rest some fit = absurd (omega arith)
 step_read (line ∷ []) rest some fit =
@@ -165,7 +165,7 @@ step_read (line ∷ next ∷ others) rest some fit = many_read line next others 
 
 -- ---- all steps
 
-abbrev EachFull : List (List Line) → Type 0
+abbrev pub EachFull : List (List Line) → Type 0
 EachFull [] = Unit {0}
 EachFull (step ∷ steps) = (0 < length step) × EachFull steps
 
@@ -191,7 +191,7 @@ full_song : (song : Option KeptSong) → EachFull (song_steps song)
 full_song None = tt
 full_song (Some song) = (omega arith, tt)
 
-full_state : (kept : Kept) → EachFull (state_steps kept)
+pub full_state : (kept : Kept) → EachFull (state_steps kept)
 full_state kept =
     let queue : EachFull (entries_steps kept.after.items ++ (song_steps kept.song ++ entries_steps kept.before.items)) =
     full_append (entries_steps kept.after.items) (song_steps kept.song ++ entries_steps kept.before.items) (full_entries kept.after.items)
@@ -207,7 +207,7 @@ fit_text kept fit =
 
 -- ---- no controls
 
-append_fit : (xs ys : List ℕ) → HasNoControl xs → HasNoControl ys → HasNoControl (xs ++ ys)
+pub append_fit : (xs ys : List ℕ) → HasNoControl xs → HasNoControl ys → HasNoControl (xs ++ ys)
 append_fit [] ys f g = g
 append_fit (x ∷ xs) ys f g =
     let first : nat_le 32 x ≡ true = first_so _ _ f in
@@ -228,7 +228,7 @@ escaped_fit b e =
     λ c. elim c as (λ c. HasNoControl (if c then 92 ∷ b ∷ [] else b ∷ [])) [ true ↦ rw e refl | false ↦ rw e refl ] in
     cases ((b == 34) || (b == 92))
 
-inside_fit : (text : List ℕ) → HasNoControl text → HasNoControl (flat_map escaped text)
+pub inside_fit : (text : List ℕ) → HasNoControl text → HasNoControl (flat_map escaped text)
 inside_fit [] e = refl
 inside_fit (b ∷ bs) e = append_fit (escaped b) (flat_map escaped bs) (escaped_fit b (first_so _ _ e)) (inside_fit bs (second_so _ _ e))
 
@@ -263,7 +263,7 @@ are_fit : (step : List Line) → AllAsk step → HavePlainUris step → AreFit s
 are_fit [] ask plain = tt
 are_fit (line ∷ more) ask plain = (line_can line ask.0 plain.0, are_fit more ask.1 plain.1)
 
-each_fit : (steps : List (List Line)) → EachAsks steps → EachHasPlainUris steps → EachFit steps
+pub each_fit : (steps : List (List Line)) → EachAsks steps → EachHasPlainUris steps → EachFit steps
 each_fit [] ask plain = tt
 each_fit (step ∷ steps) ask plain = (are_fit step ask.0 plain.0, each_fit steps ask.1 plain.1)
 

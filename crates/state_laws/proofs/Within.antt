@@ -24,19 +24,19 @@ use Rattle.state_laws.proofs.Limits.{one_more}
 use Rattle.state_laws.proofs.Opened.{opens_empty, own}
 use Rattle.state_laws.proofs.Whole.{state_fits}
 
-fewer_left : (seat number more less : ℕ) (i : Image) → less ≤ more → IsFar seat number more i → IsFar seat number less i
+pub fewer_left : (seat number more less : ℕ) (i : Image) → less ≤ more → IsFar seat number more i → IsFar seat number less i
 fewer_left seat number more less i low far =
     let h : HasLeft seat more i far.1.player = far.4 in
     (far.0, far.1, far.2, far.3, record { made = omega (arith, h.made); books = h.books; cuts = omega (arith, h.cuts); starts = omega (arith, h.starts); jobs = h.jobs })
 
-joined : (entries : List LogEntry) (i j k : Image) → j ≡ replay i entries → AreTold i entries → AllWithin i entries → LeadsWithin j k → LeadsWithin i k
+pub joined : (entries : List LogEntry) (i j k : Image) → j ≡ replay i entries → AreTold i entries → AllWithin i entries → LeadsWithin j k → LeadsWithin i k
 joined [] i j k is told within more = subst (λ (x : Image). LeadsWithin x k) is more
 joined (h ∷ hs) i j k is told within more =
     let rest : LeadsWithin (next_image h.seat i h.event) k = joined hs (next_image h.seat i h.event) j k is told.1 within.1 more in
     (h ∷ rest.0, rest.1, (told.0, rest.2), (within.0, rest.3))
 
 -- lines that end far from limits
-abbrev EndsFar : ℕ → ℕ → ℕ → Image → Image → Type 0
+abbrev pub EndsFar : ℕ → ℕ → ℕ → Image → Image → Type 0
 EndsFar seat number left i j = LeadsWithin i j × IsFar seat number left j
 
 module _ (seat number : ℕ) (library : Library) (asked : Line → Request) (reads : ReadsLines asked) where
@@ -73,7 +73,7 @@ module _ (seat number : ℕ) (library : Library) (asked : Line → Request) (rea
 zeros : (seat : ℕ) → seat < 16 → slice_index_or no_events seat 0 ≡ 0
 zeros seat less = get_or-replicate 16 seat 0 0 less
 
-none_made : (seat : ℕ) → slice_index_or no_events seat 0 ≡ 0
+pub none_made : (seat : ℕ) → slice_index_or no_events seat 0 ≡ 0
 none_made seat = elim (cases_lt seat 16) [ inl less ↦ zeros seat less | inr past ↦ get_or_past no_events seat 0 past ]
 
 -- a player that was just opened

@@ -177,3 +177,8 @@ pub quoted_words : (a b c : List ℕ) → IsWord a → IsWord c → words_of (a 
 quoted_words a b c v x =
     spelled_is_read (a ++ (codes " " ++ (quoted_text b ++ (codes " " ++ c)))) (a ∷ b ∷ c ∷ []) (omega arith)
     ([], a, 32 ∷ (quoted_text b ++ (32 ∷ c)), refl, tt, inl (refl, v.0, v.1), refl, (32 ∷ [], quoted_text b, 32 ∷ c, refl, (refl, tt), inr (is_quoted b), refl, last_begins c x))
+
+-- the last word is in quotes
+pub quoted_last : (a b : List ℕ) → IsWord a → words_of (a ++ (codes " " ++ quoted_text b)) ≡ Ok (a ∷ b ∷ [])
+quoted_last a b v = spelled_is_read (a ++ (codes " " ++ quoted_text b)) (a ∷ b ∷ []) (omega arith)
+    ([], a, 32 ∷ quoted_text b, refl, tt, inl (refl, v.0, v.1), refl, (32 ∷ [], quoted_text b, [], ap (λ (t : List ℕ). 32 ∷ t) (sym (append-nil (quoted_text b))), (refl, tt), inr (is_quoted b), tt, ([], refl, tt)))

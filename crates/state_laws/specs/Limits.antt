@@ -3,6 +3,7 @@
 use Rattle.std.specs.Prelude.{ℕ, ◌≡◌, ◌≤◌, ◌<◌, ◌+◌, true, List, [], ◌∷◌, length, slice_index_or, Some}
 use Rattle.kept_state.specs.Lines.{Line, state_steps}
 use Rattle.kept_state.specs.declared.kept.Kept.{Kept}
+use Rattle.kept_state.specs.declared.partitions.KeptPartition.{KeptPartition}
 use Rattle.partition.specs.History.{AreTold, replay}
 use Rattle.partition.specs.Image.{Image}
 use Rattle.partition.specs.Lists.{AllWithin}
@@ -16,6 +17,7 @@ use Rattle.player_state.specs.declared.state.Client.{Client}
 use Rattle.player_state.specs.declared.state.Library.{Library}
 use Rattle.player_state.specs.declared.state.Part.{Part}
 use Rattle.state_laws.specs.Bytes.{read_bytes}
+use Rattle.state_laws.specs.Partitions.{ArePartitions, AreSetUp, CanBeTold, Each, lines_of_player, restored}
 use Rattle.state_laws.specs.Saying.{EachAsks, HasRoom, after_steps, begun, songs_of}
 
 -- so many more events of a seat can be counted, and as many cuts and starts of a player
@@ -51,3 +53,18 @@ OpenedStaysWithin =
     → lines_of (state_steps kept) < 9223372036854775806
     → LeadsWithin (begun seat number setup library)
     (after_steps seat number read_bytes (state_steps kept) (begun seat number setup library))
+
+-- how many lines there are, by their bytes
+abbrev pub count_lines : List (List (List ℕ)) → ℕ
+count_lines [] = 0
+count_lines (lines ∷ more) = length lines + count_lines more
+
+-- The lines of all partitions that a player is told which was just opened are events of its history, where there may be
+-- as many cuts, and moves of each output, as lines.
+abbrev pub AllStayWithin : Type 0
+AllStayWithin =
+    (seat number : ℕ) (setup : Setup) (library : Library) (partitions : List KeptPartition) → AreSetUp setup.outputs
+    → ((output : ℕ) → slice_index_or setup.outputs.moves output 0 ≡ 0) → ArePartitions partitions
+    → Each (CanBeTold setup) partitions → count_lines (lines_of_player partitions) ≤ setup.limits.max_cut
+    → count_lines (lines_of_player partitions) < 9223372036854775806
+    → LeadsWithin (begun seat number setup library) (restored seat number setup library partitions)

@@ -4,20 +4,25 @@ use Rattle.std.specs.List.{list_all}
 use Rattle.std.specs.Str.Lines.{lines as lines_in}
 use Rattle.kept_state.specs.Lines.{Line, state_steps}
 use Rattle.kept_state.specs.Lines.{Line as lines}
+use Rattle.kept_state.specs.PlayerReading.{PlayerStep}
+use Rattle.kept_state.specs.Players.{player_text}
 use Rattle.kept_state.specs.Reading.{given_back}
 use Rattle.kept_state.specs.Telling.{TellsSteps, is_of_state, steps_in}
 use Rattle.kept_state.specs.Texts.{state_text}
 use Rattle.kept_state.specs.declared.kept.Kept.{Kept}
+use Rattle.kept_state.specs.declared.partitions.KeptPartition.{KeptPartition}
 use Rattle.mpd_command.specs.Names.{fewest}
 use Rattle.mpd_command.specs.Requests.{request_of}
 use Rattle.partition.specs.Image.{Image}
 use Rattle.partition.specs.Step.{next_image}
 use Rattle.partition.specs.declared.state.Setup.{Setup}
+use Rattle.partition_commands.specs.Partitions.{is_partition_name}
 use Rattle.player_state.specs.declared.state.Library.{Library}
 use Rattle.player_state.specs.declared.state.Part.{Part}
 use Rattle.song_queue.specs.State.{queue_of}
 use Rattle.state_laws.specs.Bytes.{bytes_of, read_bytes}
 use Rattle.state_laws.specs.Own.{CanComeBack, IsBackFor, IsKeptOf}
+use Rattle.state_laws.specs.Partitions.{AreBack, AreKeptOf, ArePartitions, AreSetUp, CanBeTold, Each, HasPartitions, bytes_of_step, lines_of_player}
 use Rattle.state_laws.specs.Saying.{EachAsks, HasRoom, PlayerHas, after_steps, asking, begun, is_refused, is_song, songs_of}
 
 -- what a line of a client makes of the player, and whether it is refused
@@ -81,3 +86,41 @@ ToldPlayersComeBack =
     (seat number : ℕ) (setup : Setup) (library : Library) (part : Part) (kept : Kept) (after : Image) → CanComeBack library part
     → IsKeptOf library.rate part kept → EachHasPlainUris (state_steps kept) → HasRoom setup (length (queue_of part.queue))
     → LeadsThere seat number setup library kept after → IsBackFor library.rate number part kept after
+
+-- ---- the text of all partitions
+
+-- there is no control in the names of its outputs, nor in the URIs of its songs
+abbrev pub IsPlainPartition : KeptPartition → Type 0
+IsPlainPartition partition = Each HasNoControl partition.outputs.items × EachHasPlainUris (state_steps partition.kept)
+
+-- Each line of all partitions begins with a command of a state, so that the daemon says it.
+abbrev pub PlayerLinesAreOfState : Type 0
+PlayerLinesAreOfState = (step : PlayerStep) → Each (λ line. is_of_state line ≡ true) (bytes_of_step step)
+
+-- The text of all partitions that is read line by line is their lines.
+abbrev pub PlayerTextIsLines : Type 0
+PlayerTextIsLines =
+    (partitions : List KeptPartition) → Each (λ (p : KeptPartition). is_partition_name p.name ≡ true) partitions
+    → Each (λ (p : KeptPartition). EachAsks (state_steps p.kept)) partitions → Each IsPlainPartition partitions
+    → steps_in false (lines_in (player_text partitions)) ≡ lines_of_player partitions
+
+-- the text of all partitions is told line by line to a player that was just opened, and leads it there
+abbrev pub LeadsAllThere : ℕ → ℕ → Setup → Library → List KeptPartition → Image → Type 0
+LeadsAllThere seat number setup library partitions after =
+    (refused : ℕ)
+    × TellsSteps (PlayerHears seat number) (steps_in false (lines_in (player_text partitions))) (begun seat number setup library) refused
+    after
+
+-- Then the player has each partition with what is kept of it, and no other partition.
+abbrev pub PlayerTextComesBack : Type 0
+PlayerTextComesBack =
+    (seat number : ℕ) (setup : Setup) (library : Library) (partitions : List KeptPartition) (after : Image) → AreSetUp setup.outputs
+    → ArePartitions partitions → Each (CanBeTold setup) partitions → Each IsPlainPartition partitions
+    → LeadsAllThere seat number setup library partitions after → HasPartitions library setup.outputs partitions after
+
+-- Where another player told the state of all its partitions, each of them is then as it was, and there is no other.
+abbrev pub ToldPartitionsComeBack : Type 0
+ToldPartitionsComeBack =
+    (seat number : ℕ) (setup : Setup) (library : Library) (parts : List Part) (partitions : List KeptPartition) (after : Image)
+    → AreKeptOf setup library parts partitions → Each IsPlainPartition partitions
+    → LeadsAllThere seat number setup library partitions after → AreBack library.rate parts partitions after

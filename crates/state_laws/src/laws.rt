@@ -1,9 +1,11 @@
 //! The laws of states. A caller that calls one may use it; each does nothing.
 ghost use Rattle.state_laws.specs.Bytes.{BytesAreRead, LinesEnd, OpenedComesBack};
-ghost use Rattle.state_laws.specs.Limits.{OpenedStaysWithin};
+ghost use Rattle.state_laws.specs.Limits.{AllStayWithin, OpenedStaysWithin};
 ghost use Rattle.state_laws.specs.Own.{PlacesComeBack, PlayersComeBack};
+ghost use Rattle.state_laws.specs.Partitions.{AllLinesHappen, AllPlayersComeBack, PartitionsComeBack};
 ghost use Rattle.state_laws.specs.Saying.{LineIsRead, OpensEmpty, StateComesBack, StepsHappen};
 ghost use Rattle.state_laws.specs.Telling.{LinesAreOfState, StepsAreTold, TextComesBack, TextIsSteps, ToldPlayersComeBack};
+ghost use Rattle.state_laws.specs.Telling.{PlayerLinesAreOfState, PlayerTextComesBack, PlayerTextIsLines, ToldPartitionsComeBack};
 
 /// A line of a state is to the player of one thread what it is to a reading of kept states. So a player with an
 /// empty queue that is told all lines of a state has what is kept, of the songs that there are; what it is told are
@@ -40,4 +42,24 @@ pub fn told_texts_come_back()
     ensures text { TextIsSteps }
     ensures back { TextComesBack }
     ensures players { ToldPlayersComeBack }
+{}
+
+/// The same of a player with all its partitions. One that was just opened, and is told the lines of all partitions, has
+/// each of them with what is kept of it, of the songs that there are, and each output in its own partition; where
+/// another player told them of itself, each partition is as it was there. What it is told are events of its history;
+/// and no line passes a limit, where there may be as many cuts and moves.
+pub fn partitions_come_back()
+    ensures kept { PartitionsComeBack }
+    ensures players { AllPlayersComeBack }
+    ensures events { AllLinesHappen }
+    ensures within { AllStayWithin }
+{}
+
+/// The text of all partitions, read line by line, is the bytes of their lines, and none of them is refused for its
+/// command. So a player that was just opened, and is told the text line by line, has all partitions as above.
+pub fn told_partitions_come_back()
+    ensures known { PlayerLinesAreOfState }
+    ensures text { PlayerTextIsLines }
+    ensures back { PlayerTextComesBack }
+    ensures players { ToldPartitionsComeBack }
 {}

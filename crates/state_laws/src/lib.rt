@@ -3,4 +3,7 @@
 
 mod laws;
 
-pub use laws::{players_come_back, states_come_back, texts_come_back, told_texts_come_back};
+pub use laws::{
+    partitions_come_back, players_come_back, states_come_back, texts_come_back,
+    told_partitions_come_back, told_texts_come_back,
+};
