@@ -66,7 +66,7 @@ HELD = [
     (1, 'held_player', 'Held', {
         'core': 'the player with its notices, below', 'books': 'how many frames were decoded, written, discarded',
         'free': 'the seats that are free', 'closed': "the shares of all threads in the frame counts, once the outputs are settled", 'alloc': None}),
-    (2, 'held_player', 'Core', {'counted': 'the player, below', 'waiting': 'notices that are not delivered yet', 'changes': None}),
+    (2, 'held_player', 'Core', {'counted': 'the player, below', 'waiting': 'notices that are not delivered yet', 'seen': None, 'changes': None}),
     (3, 'counted_player', 'Counted', {'partition': 'below', 'seats': 'how many events each counted seat made'}),
     (4, 'partition', 'Partition', {
         'base': 'the state before the first event of the window', 'history': 'the window of events', 'state': 'the present state, below',
