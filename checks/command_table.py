@@ -1,9 +1,9 @@
 """Reads the table of commands, commands.txt. The comment at the top of that file says what each line means."""
-import os
 import re
 from dataclasses import dataclass, field
 
-TOP = os.path.dirname(os.path.dirname(os.path.abspath(__file__)))
+from crates import read
+
 TABLE = 'commands.txt'
 MOST_ROWS = 7
 # SOURCES: the source file of a group, if it is not named after the group; DOING: the crate that says what the group's commands do, if it is
@@ -88,11 +88,6 @@ class Group:
     def takes_set(self, at):
         """Whether the definition of a table needs to know which set of commands there is, since a row of it, or of a later table, does."""
         return any(re.search(r'\bset\b', command.row) for rows in self.rows[at:] for command in rows)
-
-
-def read(path):
-    with open(os.path.join(TOP, path), encoding='utf-8') as file:
-        return file.read()
 
 
 def add_line(command, line):

@@ -24,7 +24,8 @@ import sys
 
 sys.dont_write_bytecode = True
 
-from command_table import TABLE, TOP, Table, read, table
+from command_table import TABLE, Table, table
+from crates import TOP, read
 
 NAME, NAMES, KNOWN = ('crates/mpd_command/' + it for it in ('src/name.rt', 'specs/Names.antt', 'proofs/Known.antt'))
 BASE, BASE_ROWS = 'crates/command_laws/specs/Base.antt', 'crates/command_laws/proofs/BaseRows.antt'

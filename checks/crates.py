@@ -1,5 +1,6 @@
 #!/usr/bin/env python3
 """Reads crates.txt: prints the crates that some crates depend on, or copies these, so that a check's program can be built on them.
+It also reads other files of this repository as texts (`read`).
 
     crates.py ROOT CRATE...                             prints their lines, and those of all crates below them, in the order of crates.txt
     crates.py ROOT CRATE... --for PROGRAM WORK          copies all these into the folder WORK, and the folder PROGRAM as a crate above them
@@ -13,7 +14,14 @@ import os
 import shutil
 import sys
 
+TOP = os.path.dirname(os.path.dirname(os.path.abspath(__file__)))
 HEADING = '# ---- '
+
+
+def read(path):
+    """A text of this repository, by its path from the top folder."""
+    with open(os.path.join(TOP, path), encoding='utf-8') as file:
+        return file.read()
 
 
 def lines_of(root):

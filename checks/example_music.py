@@ -6,32 +6,22 @@
 """
 import math
 import os
-import struct
 import sys
+
+sys.dont_write_bytecode = True
+sys.path.insert(0, os.path.join(os.path.dirname(os.path.abspath(__file__)), 'serve'))
+
+from daemon import wave
 
 FOLDER = os.path.join(os.path.dirname(os.path.dirname(os.path.abspath(__file__))), 'examples', 'music')
 RATE = 44100
 NAMES = {'Title': b'INAM', 'Artist': b'IART', 'Album': b'IPRD', 'Date': b'ICRD', 'Genre': b'IGNR', 'Comment': b'ICMT'}
 
 
-def chunk(name, data):
-    return name + struct.pack('<I', len(data)) + data + bytes(len(data) % 2)
-
-
-def tags(texts):
-    return chunk(b'LIST', b'INFO' + b''.join(chunk(NAMES[name], text.encode() + b'\0') for name, text in texts))
-
-
-def wave(channels, bits, samples, texts):
+def song(channels, bits, samples, texts):
     """A file with these samples, which are between -1 and 1; the samples of a frame follow one another."""
-    width = bits // 8
-    form = struct.pack('<HHIIHH', 1, channels, RATE, RATE * channels * width, channels * width, bits)
-    if bits == 8:
-        data = bytes(round(128 + 100 * sample) for sample in samples)
-    else:
-        data = b''.join(struct.pack('<h', round(25000 * sample)) for sample in samples)
-    parts = b'WAVE' + chunk(b'fmt ', form) + tags(texts) + chunk(b'data', data)
-    return b'RIFF' + struct.pack('<I', len(parts)) + parts
+    whole = [round(128 + 100 * sample) if bits == 8 else round(25000 * sample) for sample in samples]
+    return wave(zip(*[iter(whole)] * channels), channels, bits, RATE, tags=[(NAMES[name], text) for name, text in texts])
 
 
 def tone(pitch, frames):
@@ -43,9 +33,9 @@ def files():
     """The files by name."""
     chord = [sample for pair in zip(tone(440, 400), tone(660, 400)) for sample in pair]
     return {
-        'bell.wav': wave(1, 8, tone(1760, 1700), [('Title', 'Bell'), ('Artist', 'Ann'), ('Album', 'Small sounds'), ('Date', '2026')]),
-        'chord.wav': wave(2, 16, chord, [('Title', 'Two voices'), ('Artist', 'Ann and Bob'), ('Genre', 'Exercise')]),
-        'evening/hum.wav': wave(1, 16, tone(110, 882), [('Title', 'Hum'), ('Comment', 'one hundred and ten a second')]),
+        'bell.wav': song(1, 8, tone(1760, 1700), [('Title', 'Bell'), ('Artist', 'Ann'), ('Album', 'Small sounds'), ('Date', '2026')]),
+        'chord.wav': song(2, 16, chord, [('Title', 'Two voices'), ('Artist', 'Ann and Bob'), ('Genre', 'Exercise')]),
+        'evening/hum.wav': song(1, 16, tone(110, 882), [('Title', 'Hum'), ('Comment', 'one hundred and ten a second')]),
         'notes.wav': b'These are notes, and no music.\n',
     }
 

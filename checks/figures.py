@@ -13,14 +13,12 @@ import re
 import subprocess
 import sys
 
-TOP = os.path.dirname(os.path.dirname(os.path.abspath(__file__)))
+sys.dont_write_bytecode = True
+
+from crates import TOP, read
+
 DOCUMENTS = ('docs/GATE.md', 'docs/PERFORMANCE.md')
 BLOCK = re.compile(r'^    \$ (.+)\n((?:(?:    .*)?\n)*?)(?=\S|\Z)', re.M)
-
-
-def read(path):
-    with open(os.path.join(TOP, path), encoding='utf-8') as file:
-        return file.read()
 
 
 def printed_by(command):

@@ -18,6 +18,11 @@ import sys
 import tempfile
 import time
 
+sys.dont_write_bytecode = True
+sys.path.insert(0, os.path.join(os.path.dirname(os.path.abspath(__file__)), 'serve'))
+
+from daemon import quoted
+
 TOP = os.path.dirname(os.path.dirname(os.path.abspath(__file__)))
 PROGRAM = os.path.join(TOP, 'crates', 'music_daemon', 'out', 'music_daemon')
 SONGS = [('%s/song %d.wav' % (folder, n) if folder else 'song%d.wav' % n, 100 + 900 * n)
@@ -42,10 +47,6 @@ KINDS = [(name, form.split()) for form, names in FORMS.items() for name in names
 SUBSYSTEMS = 'database update stored_playlist playlist player mixer output options partition sticker subscription message'.split()
 FILTERS = ['artist Ann', 'title x artist Bo', "\"(Artist == 'Ann')\"", "\"(!(title contains 'o'))\"", "\"((any contains 'a') AND (base 'rock'))\"",
            'file rock/', '(', '"(Artist = x)"', 'base rock', '"(nothing == \'x\')"']
-
-
-def quoted(text):
-    return '"%s"' % text.replace('\\', '\\\\').replace('"', '\\"')
 
 
 class Lines:

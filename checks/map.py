@@ -16,9 +16,8 @@ import sys
 
 sys.dont_write_bytecode = True
 
-from crates import headings_of, table_of
+from crates import TOP, headings_of, read, table_of
 
-TOP = os.path.dirname(os.path.dirname(os.path.abspath(__file__)))
 MAP = 'docs/MAP.md'
 TESTS = 'tests'   # the last heading of crates.txt, which is not a layer
 
@@ -152,11 +151,6 @@ THEOREMS = [
     ('serving', 'restore_text', '', 'serving/Restoring', 'IsTextTold', ''),
     ('command_line', 'command_line', 'asks', 'command_line/Programs', 'Asks', 'command_line: readings'),
 ]
-
-
-def read(path):
-    with open(os.path.join(TOP, path), encoding='utf-8') as file:
-        return file.read()
 
 
 def code_of(crate, part='src', ending='.rt'):

@@ -5,6 +5,22 @@ from subprocess import PIPE
 
 LIMIT = 20          # how many seconds a run may take
 MOST_FAILURES = 20  # after so many failures a session is not run any more
+SOURCE = os.path.join(os.path.dirname(os.path.abspath(__file__)), 'faulty.c')
+
+
+def build_library(folder):
+    """Builds the preload library, and says where it is."""
+    library = os.path.join(folder, 'faulty.so')
+    subprocess.run(['gcc', '-shared', '-fPIC', '-O2', '-Wall', '-Wextra', '-Werror', '-o', library, SOURCE, '-ldl'], check=True)
+    return library
+
+
+def counts_in(report):
+    """What the library counted; empty if the program did not get as far as its exit."""
+    if not os.path.exists(report):
+        return {}
+    with open(report, encoding='ascii') as file:
+        return {name: int(count) for name, count in (line.split() for line in file)}
 
 
 class Run:
@@ -59,14 +75,7 @@ class Program:
             done = subprocess.run([self.path, *words], stdin=source, stdout=sink, stderr=PIPE, env=environment, timeout=LIMIT)
         except subprocess.TimeoutExpired as stopped:
             return Run(None, stopped.stdout or b'', stopped.stderr or b'', {})
-        return Run(done.returncode, done.stdout or b'', done.stderr, self.counts() if environment else {})
-
-    def counts(self):
-        """What the library counted; empty if the program did not get as far as its exit."""
-        if not os.path.exists(self.report):
-            return {}
-        with open(self.report, encoding='ascii') as report:
-            return {name: int(count) for name, count in (line.split() for line in report)}
+        return Run(done.returncode, done.stdout or b'', done.stderr, counts_in(self.report) if environment else {})
 
 
 def show_failures(failures):

@@ -7,23 +7,16 @@ It fails if the first line of the manual or the newest entry of CHANGELOG.md has
 if the package's copyright file leaves out a library that is linked; or if README.md lacks a command of the package's README.
 packaging/deb and the launcher `music_daemon` read the version from the code.
 """
-import os
 import re
 import sys
 
 sys.dont_write_bytecode = True
 
-from crates import below, table_of
+from crates import TOP, below, read, table_of
 
-TOP = os.path.dirname(os.path.dirname(os.path.abspath(__file__)))
 CODE, MANUAL, CHANGES = 'crates/command_line/src/arguments.rt', 'packaging/music_daemon.1', 'CHANGELOG.md'
 COPYRIGHT, FIRST = 'packaging/debian/copyright', 'packaging/debian/README.Debian'
 LINE = re.compile(r'(?m)^pub const VERSION: &str = "(.*)";$')
-
-
-def read(path):
-    with open(os.path.join(TOP, path), encoding='utf-8') as file:
-        return file.read()
 
 
 def version():

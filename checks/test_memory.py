@@ -12,6 +12,10 @@ import subprocess
 import sys
 import tempfile
 
+sys.dont_write_bytecode = True
+
+from program import build_library, counts_in
+
 HERE = os.path.dirname(os.path.abspath(__file__))
 MOST = 2000  # how many allocations of a test are refused at most
 WANTS = ('AllocError', 'AllocFailed', 'NoMemory', 'OutOfMemory')
@@ -27,11 +31,6 @@ def run(binary, name, library, report, allocation):
     return subprocess.run([binary, name], capture_output=True, text=True, env=environment)
 
 
-def allocations_in(report):
-    with open(report, encoding='ascii') as lines:
-        return next(int(line.split()[1]) for line in lines if line.startswith('allocations '))
-
-
 def sort_of(ended):
     if ended.returncode == 0:
         return 'passed'
@@ -43,7 +42,7 @@ def check(crate, library, folder):
     report, failed = os.path.join(folder, 'report'), 0
     for name in names_of(binary):
         whole = run(binary, name, library, report, 0)
-        count = allocations_in(report)
+        count = counts_in(report)['allocations']
         sorts = collections.Counter(sort_of(run(binary, name, library, report, place)) for place in range(1, count + 1, -(-count // MOST) or 1))
         failed += sorts['FAILED'] + (whole.returncode != 0)
         print('%-14s %-44s %5d allocations: %s' % (crate, name, count, ', '.join('%s %d' % sort for sort in sorted(sorts.items()))))
@@ -52,8 +51,7 @@ def check(crate, library, folder):
 
 def main():
     with tempfile.TemporaryDirectory() as folder:
-        library = os.path.join(folder, 'faulty.so')
-        subprocess.run(['gcc', '-shared', '-fPIC', '-O2', '-o', library, os.path.join(HERE, 'faulty.c'), '-ldl'], check=True)
+        library = build_library(folder)
         failed = sum(check(crate, library, folder) for crate in sys.argv[1:])
     print('%d failed' % failed)
     return 1 if failed else 0

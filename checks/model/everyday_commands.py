@@ -4,7 +4,7 @@ from commands import WrongNumber, everyday
 from filters import found, is_filter
 from library import KNOWN_TAGS, RATE, TAGS, playtime, tag_named
 from library_commands import (count_lines, cut, filter_words, folder_named, listall, lsinfo, meeting,
-                              song_lines)
+                              one_tag, song_lines)
 from playback_commands import play, playid
 from queue_commands import insert, place_of, shown_places, song_named, songs_named
 from shelf import list_name
@@ -16,10 +16,7 @@ everyday('idle', read=subsystem_names(SUBSYSTEMS + ('neighbor', 'mount')))(idle)
 
 
 def known_tag(word):
-    tag = tag_named(word, KNOWN_TAGS)
-    if tag is None:
-        raise bad_argument(word)
-    return tag
+    return one_tag(word, KNOWN_TAGS)
 
 
 # Options at the end of a command.

@@ -27,8 +27,8 @@ def filter_and_window(arguments):
     return [arguments, None if part is None else window(part)]
 
 
-def one_tag(word):
-    tag = tag_named(word, TAGS)
+def one_tag(word, tags=TAGS):
+    tag = tag_named(word, tags)
     if tag is None:
         raise bad_argument(word)
     return tag

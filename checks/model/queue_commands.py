@@ -7,19 +7,20 @@ def no_such_song():
     return Ack(NOT_THERE, 'no such song')
 
 
+def existing(found):
+    """What was looked for, if it was found."""
+    if found is None:
+        raise no_such_song()
+    return found
+
+
 def songs_named(speaker, name):
     """The song of this name, or the songs of the folder of this name."""
-    songs = speaker.library.songs_of(name)
-    if songs is None:
-        raise no_such_song()
-    return songs
+    return existing(speaker.library.songs_of(name))
 
 
 def song_named(speaker, name):
-    song = speaker.library.song(name)
-    if song is None:
-        raise no_such_song()
-    return song
+    return existing(speaker.library.song(name))
 
 
 def place_of(speaker, where):
@@ -51,10 +52,7 @@ def known_place(speaker, place):
 
 def known_id(speaker, entry_id):
     """The place of the entry with this id."""
-    place = speaker.queue.place_of(entry_id)
-    if place is None:
-        raise no_such_song()
-    return place
+    return existing(speaker.queue.place_of(entry_id))
 
 
 def whole(speaker, part):

@@ -24,6 +24,7 @@ HERE = os.path.dirname(os.path.abspath(__file__))
 sys.path.insert(0, os.path.dirname(HERE))
 
 from crates import copy_below
+from program import build_library, counts_in
 
 NOBODY = 65534
 FILES, SIZE = 5000, 100000
@@ -42,8 +43,7 @@ def build(root, work):
     if not os.path.exists(program):
         sys.exit(log.stdout + log.stderr)
     subprocess.run(['gcc', '-O2', '-o', os.path.join(work, 'heads'), os.path.join(HERE, 'heads.c')], check=True)
-    subprocess.run(['gcc', '-shared', '-fPIC', '-O2', '-o', os.path.join(work, 'faulty.so'), os.path.join(root, 'checks', 'faulty.c'), '-ldl'], check=True)
-    return program
+    return program, build_library(work)
 
 
 def put(folder, name, data):
@@ -118,8 +118,8 @@ def faults(program, folder, library):
             number += 1
             environment = {'LD_PRELOAD': library, 'FAULTY_' + kind: str(number), 'FAULTY_REPORT': report}
             status, text = scanned(program, folder, environment)
-            counts = dict(line.split() for line in open(report)) if os.path.exists(report) else {}
-            if counts and int(counts[counted]) < number:
+            counts = counts_in(report)
+            if counts and counts[counted] < number:
                 break
             runs += 1
             if kind == 'ALLOCATION':
@@ -169,7 +169,7 @@ def benchmark(program, heads, folder):
 def main(root):
     with tempfile.TemporaryDirectory() as work:
         os.chmod(work, 0o755)
-        program = build(root, work)
+        program, library = build(root, work)
         folders = [os.path.join(work, name) for name in ('names', 'closed', 'faults', 'calls', 'many')]
         for folder in folders:
             os.mkdir(folder)
@@ -177,7 +177,7 @@ def main(root):
             os.chmod(path, 0o755)
         wrong = odd_names(program, folders[0])
         wrong += permissions(program, folders[1])
-        wrong += faults(program, folders[2], os.path.join(work, 'faulty.so'))
+        wrong += faults(program, folders[2], library)
         wrong += calls(program, folders[3])
         benchmark(program, os.path.join(work, 'heads'), folders[4])
     return 1 if wrong else 0

@@ -316,38 +316,54 @@ class Screen:
         self.tmux('kill-server')
 
 
+def play_by_keys(steps, screen, name, pause):
+    """Plays the queue by keys; `pause` is the key that pauses."""
+    steps.step(name, 'connects and shows the queue', screen.shows('Air', 'Bee'), screen.text)
+    screen.press('Enter')
+    steps.step(name, 'plays', steps.becomes('state', 'play'), screen.text)
+    screen.press(pause)
+    steps.step(name, 'pauses', steps.becomes('state', 'pause'), screen.text)
+    screen.press(pause, '>')
+    steps.step(name, 'the next song', steps.becomes('song', '1'), screen.text)
+    before = steps.status('volume')
+    screen.press('-')
+    steps.step(name, 'the volume', steps.status('volume') != before, screen.text)
+
+
+def add_by_keys(steps, screen, name, browse, back):
+    """Adds a folder; `browse` is the key that shows the library, and `back` the one that shows the queue."""
+    screen.press(browse)
+    steps.step(name, 'browses', screen.shows('First', 'Second'), screen.text)
+    screen.press('Down', 'Space')
+    steps.step(name, 'adds a folder', steps.becomes('playlistlength', '4'), screen.text)
+    steps.client.must('add Second/2.wav')
+    screen.press(back)
+    steps.step(name, "hears of another client's change", screen.shows('Sea'), screen.text)
+
+
+def save_by_keys(steps, screen, name, playlist):
+    """Types the name under which the queue is to be saved, and stops."""
+    screen.press(*playlist, 'Enter')
+    time.sleep(0.5)
+    steps.step(name, 'saves the queue', 'playlist: ' + playlist in steps.client.must('listplaylists'), screen.text)
+    screen.press('s')
+    steps.step(name, 'stops', steps.becomes('state', 'stop'), screen.text)
+
+
 def run_ncmpc(steps, port, folder):
     steps.client.must('clear')
     steps.client.must('add First')
     screen = Screen('ncmpc', ['env', 'TERM=screen', 'HOME=' + folder, 'LANG=C.UTF-8', 'ncmpc', '-h', '127.0.0.1', '-p', str(port)], folder)
     try:
-        steps.step('ncmpc', 'connects and shows the queue', screen.shows('Air', 'Bee'), screen.text)
-        screen.press('Enter')
-        steps.step('ncmpc', 'plays', steps.becomes('state', 'play'), screen.text)
-        screen.press('P')
-        steps.step('ncmpc', 'pauses', steps.becomes('state', 'pause'), screen.text)
-        screen.press('P', '>')
-        steps.step('ncmpc', 'the next song', steps.becomes('song', '1'), screen.text)
-        before = steps.status('volume')
-        screen.press('-')
-        steps.step('ncmpc', 'the volume', steps.status('volume') != before, screen.text)
+        play_by_keys(steps, screen, 'ncmpc', 'P')
         before = float(steps.status('elapsed') or 0)
         # each key seeks by a second
         screen.press('f', 'f', 'f', 'f')
         time.sleep(1)
         steps.step('ncmpc', 'seeks', float(steps.status('elapsed') or 0) >= before + 4, screen.text, lacks='time')
-        screen.press('3')
-        steps.step('ncmpc', 'browses', screen.shows('First', 'Second'), screen.text)
-        screen.press('Down', 'Space')
-        steps.step('ncmpc', 'adds a folder', steps.becomes('playlistlength', '4'), screen.text)
-        steps.client.must('add Second/2.wav')
-        screen.press('2')
-        steps.step('ncmpc', "shows another client's change", screen.shows('Sea'), screen.text)
-        screen.press('S', 'n', 'i', 'g', 'h', 't', 'Enter')
-        time.sleep(0.5)
-        steps.step('ncmpc', 'saves the queue', 'playlist: night' in steps.client.must('listplaylists'), screen.text)
-        screen.press('s')
-        steps.step('ncmpc', 'stops', steps.becomes('state', 'stop'), screen.text)
+        add_by_keys(steps, screen, 'ncmpc', '3', '2')
+        screen.press('S')
+        save_by_keys(steps, screen, 'ncmpc', 'night')
     finally:
         screen.end()
 
@@ -385,26 +401,11 @@ def run_ncmpcpp(steps, port, folder):
     words = ['env', 'TERM=screen', 'HOME=' + folder, 'LANG=C.UTF-8', 'ncmpcpp', '-q', '-h', '127.0.0.1', '-p', str(port), '-c', os.path.join(config, 'config')]
     screen = Screen('ncmpcpp', words, folder)
     try:
-        steps.step('ncmpcpp', 'connects and shows the queue', screen.shows('Air', 'Bee'), screen.text)
-        screen.press('Enter')
-        steps.step('ncmpcpp', 'plays', steps.becomes('state', 'play'), screen.text)
-        screen.press('p')
-        steps.step('ncmpcpp', 'pauses', steps.becomes('state', 'pause'), screen.text)
-        screen.press('p', '>')
-        steps.step('ncmpcpp', 'the next song', steps.becomes('song', '1'), screen.text)
-        before = steps.status('volume')
-        screen.press('-')
-        steps.step('ncmpcpp', 'the volume', steps.status('volume') != before, screen.text)
+        play_by_keys(steps, screen, 'ncmpcpp', 'p')
         screen.press('f', 'f', 'f', 'f', 'f')
         time.sleep(1)
         steps.step('ncmpcpp', 'seeks', float(steps.status('elapsed') or 0) >= 6, screen.text)
-        screen.press('2')
-        steps.step('ncmpcpp', 'browses', screen.shows('First', 'Second'), screen.text)
-        screen.press('Down', 'Space')
-        steps.step('ncmpcpp', 'adds a folder', steps.becomes('playlistlength', '4'), screen.text)
-        steps.client.must('add Second/2.wav')
-        screen.press('1')
-        steps.step('ncmpcpp', "shows another client's change", screen.shows('Sea'), screen.text)
+        add_by_keys(steps, screen, 'ncmpcpp', '2', '1')
         screen.press('4')
         steps.step('ncmpcpp', 'the media library', screen.shows('Ann', 'Bob'), screen.text)
         screen.press('3')
@@ -412,11 +413,7 @@ def run_ncmpcpp(steps, port, folder):
             screen.press('Down')
         steps.step('ncmpcpp', 'the search screen', screen.shows('Search'), screen.text)
         screen.press('1', 'S')
-        screen.press('d', 'a', 'w', 'n', 'Enter')
-        time.sleep(0.5)
-        steps.step('ncmpcpp', 'saves the queue', 'playlist: dawn' in steps.client.must('listplaylists'), screen.text)
-        screen.press('s')
-        steps.step('ncmpcpp', 'stops', steps.becomes('state', 'stop'), screen.text)
+        save_by_keys(steps, screen, 'ncmpcpp', 'dawn')
     finally:
         screen.end()
 

@@ -108,14 +108,30 @@ class Client:
         return lines[:-1]
 
     def value(self, text, key):
-        """The value of a key in the answer to a request, or None."""
-        for line in self.must(text):
-            if line.startswith(key + ': '):
-                return line[len(key) + 2:]
-        return None
+        """The first value of a key in the answer to a request, or None."""
+        return next(iter(values(self.must(text), key)), None)
+
+    def pings(self, count):
+        """Sends so many pings at once, and reads their answers."""
+        self.socket.sendall(b'ping\n' * count)
+        held = b''
+        while len(held) < 3 * count:
+            held += self.socket.recv(4096)
+        if held != b'OK\n' * count:
+            raise AssertionError(held)
 
     def close(self):
         self.socket.close()
+
+
+def values(lines, key):
+    """The values of a key in an answer."""
+    return [line[len(key) + 2:] for line in lines if line.startswith(key + ': ')]
+
+
+def quoted(text):
+    """A text as a word of a line."""
+    return '"%s"' % text.replace('\\', '\\\\').replace('"', '\\"')
 
 
 def path_of_link(link):

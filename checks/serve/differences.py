@@ -31,8 +31,8 @@ from concurrent.futures import ThreadPoolExecutor
 
 sys.dont_write_bytecode = True
 
-from daemon import HERE, ROOT, Daemon, Mpd, Pacer, Table, program_of
-from sides import RATE, Side, put_library, values
+from daemon import HERE, ROOT, Daemon, Mpd, Pacer, Table, program_of, values
+from sides import RATE, Side, put_library
 
 PAGE = os.path.join(ROOT, 'docs', 'DIFFERENCES.md')
 SEEN = re.compile(r'(?<=<!-- seen -->\n).*(?=<!-- end -->)', re.S)

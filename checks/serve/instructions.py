@@ -77,12 +77,7 @@ def of_flight(program, pings, idle, read=counted):
             one.send('idle')
         client = daemon.client()
         for _ in range(pings // IN_FLIGHT):
-            client.socket.sendall(b'ping\n' * IN_FLIGHT)
-            held = b''
-            while len(held) < 3 * IN_FLIGHT:
-                held += client.socket.recv(4096)
-            if held != b'OK\n' * IN_FLIGHT:
-                raise AssertionError(held)
+            client.pings(IN_FLIGHT)
         client.close()
         for one in waiting:
             one.close()

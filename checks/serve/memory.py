@@ -24,8 +24,10 @@ import tempfile
 import time
 
 sys.dont_write_bytecode = True
+sys.path.append(os.path.dirname(os.path.dirname(os.path.abspath(__file__))))
 
-from daemon import ANSWER, END, HERE, START, Client, Daemon, program_of, wave
+from daemon import END, START, Client, Daemon, program_of, wave
+from program import build_library, counts_in
 
 FRAMES = {'a.wav': 1000, 'b.wav': 1500}
 REFUSAL = re.compile(r'ACK \[52@(\d+)\] \{\w*\} (out of memory|history full)$')
@@ -228,7 +230,7 @@ def run(program, library, music, number):
                 status, errors, told = daemon.process.wait(END), daemon.unusual(), daemon.output()
                 if (status, errors) != (1, 'music_daemon: out of memory') or told not in ('', IDLE):
                     raise Wrong('the start ended with status %d, %r, %r' % (status, told, errors))
-                return START_ENDED, '', count_in(report)
+                return START_ENDED, '', counts_in(report)['allocations']
             household.edit()
             household.wait()
             household.play(path)
@@ -237,15 +239,10 @@ def run(program, library, music, number):
             if household.refused + household.closed + (end != RIGHT) > 1:
                 raise Wrong('%d answers and %d clients were refused' % (household.refused, household.closed))
             sort = REFUSED if household.refused else CLOSED if household.closed else end
-            return sort, '', count_in(report)
+            return sort, '', counts_in(report)['allocations']
         except (Wrong, OSError, KeyError, subprocess.TimeoutExpired) as fault:
             daemon.kill()
             return FAILED, 'allocation %d refused: %s' % (number, str(fault) or repr(fault)), number
-
-
-def count_in(report):
-    with open(report, encoding='ascii') as file:
-        return next(int(line.split()[1]) for line in file if line.startswith('allocations '))
 
 
 def main():
@@ -256,9 +253,7 @@ def main():
     given = parser.parse_args()
     program, sorts, failures, tried = program_of(given.program), dict.fromkeys(SORTS, 0), [], 0
     with tempfile.TemporaryDirectory() as folder, concurrent.futures.ThreadPoolExecutor(given.jobs) as pool:
-        library, music = os.path.join(folder, 'faulty.so'), os.path.join(folder, 'music')
-        source = os.path.join(os.path.dirname(HERE), 'faulty.c')
-        subprocess.run(['gcc', '-shared', '-fPIC', '-O2', '-o', library, source, '-ldl'], check=True)
+        library, music = build_library(folder), os.path.join(folder, 'music')
         os.mkdir(music)
         for name, frames in FRAMES.items():
             with open(os.path.join(music, name), 'wb') as file:

@@ -14,14 +14,15 @@ import os
 import random
 import shutil
 import sqlite3
-import subprocess
 import sys
 import tempfile
 import time
 
 sys.dont_write_bytecode = True
+sys.path.append(os.path.dirname(os.path.dirname(os.path.abspath(__file__))))
 
-from daemon import HERE, ROOT, Daemon, Table, program_of, put_songs
+from daemon import ROOT, Daemon, Table, program_of, put_songs
+from program import build_library
 
 ROW = os.path.join(ROOT, 'crates', 'worked_rows', 'data', 'stickers-of-stored-playlists.row')
 MANY = 5_000      # how many stickers the file has whose conversion is killed at random moments
@@ -245,9 +246,8 @@ def main():
     program = program_of(given.program)
     table = Table('A playlist store of profile 1 that is converted', 70, 40)
     with tempfile.TemporaryDirectory() as folder:
-        music, library = os.path.join(folder, 'music'), os.path.join(folder, 'faulty.so')
+        music, library = os.path.join(folder, 'music'), build_library(folder)
         put_songs(music, 12, 100)
-        subprocess.run(['gcc', '-shared', '-fPIC', '-O2', '-o', library, os.path.join(os.path.dirname(HERE), 'faulty.c'), '-ldl'], check=True)
         songs = ['album %02d/%04d.wav' % (number // 10, number) for number in range(12)]
         for how, is_closed in (('closed', True), ('left open', False)):
             trial = Trial(program, folder, music, *small(songs), is_closed)

@@ -107,12 +107,7 @@ def ping_time(client, seconds):
     """Microseconds for each ping if 64 are sent together."""
     count, start = 0, time.monotonic()
     while time.monotonic() - start < seconds:
-        client.socket.sendall(b'ping\n' * PINGS)
-        held = b''
-        while len(held) < 3 * PINGS:
-            held += client.socket.recv(4096)
-        if held != b'OK\n' * PINGS:
-            raise AssertionError(held)
+        client.pings(PINGS)
         count += PINGS
     return 1e6 * (time.monotonic() - start) / count
 

@@ -4,7 +4,7 @@ import re
 import struct
 import time
 
-from daemon import ANSWER, Client, wave
+from daemon import ANSWER, Client, quoted, values, wave
 
 RATE = 8000
 INFO = {'Title': b'INAM', 'Artist': b'IART', 'Album': b'IPRD', 'Date': b'ICRD', 'Genre': b'IGNR', 'Comment': b'ICMT'}
@@ -200,12 +200,3 @@ class Side:
         line = re.sub(r'^((?:next)?songid|Id): (\d+)$', lambda found: '%s: $%d' % (found.group(1), int(found.group(2)) - self.first_id), line)
         since = self.first_version if self.partition == 'default' else 1
         return re.sub(r'^playlist: (\d+)$', lambda found: 'playlist: %%%d' % (int(found.group(1)) - since), line)
-
-
-def values(lines, key):
-    """The values of a key in an answer."""
-    return [line[len(key) + 2:] for line in lines if line.startswith(key + ': ')]
-
-
-def quoted(text):
-    return '"%s"' % text.replace('\\', '\\\\').replace('"', '\\"')

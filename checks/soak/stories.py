@@ -4,7 +4,7 @@ import random
 import shutil
 
 from answers import Fault
-from daemon import put_songs
+from daemon import put_songs, values
 from loop import CLOSE, CONNECT, Waits
 
 SONGS = 100         # how many songs the folder has
@@ -41,10 +41,6 @@ def answers_of(lines):
     for line in lines:
         found[-1:] = [found[-1], []] if line == 'list_OK' else [found[-1] + [line]]
     return found[:-1]
-
-
-def values(lines, key):
-    return [line[len(key) + 2:] for line in lines if line.startswith(key + ': ')]
 
 
 def must(is_right, what, told):

@@ -1,32 +1,15 @@
 //! An output that stands in a write delays no caller and no other output, and what it is not yet rid of is
 //! left at the end.
 use crate::door::behind_a_door;
-use crate::tunes::{Tone, Tune, listed, tune_of};
+use crate::rooms::Host;
+use crate::tunes::{Tone, saw_alone, saw_and_steps};
 use crate::wire::add_right;
 use crate::wired::told_with_lines;
 use std::alloc::{AllocError, Global};
-use std::sync::Wait;
 use std::test::Fail;
-use std::thread::Threads;
-use std::time::Clock;
 use wanted::wants;
 
-/// One song of so many frames.
-fn saw(alloc: Global, frames: i32) -> Result<Vec<Tune>, AllocError> {
-    let song = tune_of(
-        alloc,
-        "a.wav",
-        u64::from(frames.unsigned_abs()),
-        frames,
-        Tone::Saw,
-    )?;
-    listed(alloc, song, None)
-}
-
-fn write_told<R: Threads + Wait + Clock + Copy + Drop + Send + Sync + 'static>(
-    rt: R,
-    alloc: Global,
-) -> Result<String, AllocError> {
+fn write_told<R: Host>(rt: R, alloc: Global) -> Result<String, AllocError> {
     let script = "add a.wav
 play
 ~ an output stands in its write
@@ -39,7 +22,7 @@ ping
     let (day, mut rooms) = behind_a_door(
         rt,
         alloc,
-        saw(alloc, 8_000),
+        saw_alone(alloc, 8_000),
         &[true, false],
         20_000,
         script,
@@ -63,10 +46,7 @@ decoded 8000, written 8000, discarded 0, left 0, torn 0
 right frames in the hall 8000, in the attic 8000
 ";
 
-fn pause_told<R: Threads + Wait + Clock + Copy + Drop + Send + Sync + 'static>(
-    rt: R,
-    alloc: Global,
-) -> Result<String, AllocError> {
+fn pause_told<R: Host>(rt: R, alloc: Global) -> Result<String, AllocError> {
     let script = "add a.wav
 play
 ~ an output stands in its write
@@ -77,7 +57,7 @@ pause 1
     let (day, _rooms) = behind_a_door(
         rt,
         alloc,
-        saw(alloc, 20_000),
+        saw_alone(alloc, 20_000),
         &[true, false],
         20_000,
         script,
@@ -100,10 +80,7 @@ decoded 10240, written 10240, discarded 0, left 0, torn 0
 ";
 
 /// What its first output wrote, and whether frames of its second are left.
-fn late_told<R: Threads + Wait + Clock + Copy + Drop + Send + Sync + 'static>(
-    rt: R,
-    alloc: Global,
-) -> Result<String, AllocError> {
+fn late_told<R: Host>(rt: R, alloc: Global) -> Result<String, AllocError> {
     let script = "add a.wav
 play
 ~ hall 3000
@@ -111,7 +88,7 @@ play
     let (mut day, _rooms) = behind_a_door(
         rt,
         alloc,
-        saw(alloc, 3_000),
+        saw_alone(alloc, 3_000),
         &[false, true],
         2_000,
         script,
@@ -130,17 +107,7 @@ written 3000 torn 0 balanced true
 left true balanced true
 ";
 
-/// A song and the next one that is played after a stop.
-fn saw_and_steps(alloc: Global) -> Result<Vec<Tune>, AllocError> {
-    let first = tune_of(alloc, "a.wav", 20_000, 20_000, Tone::Saw)?;
-    let second = tune_of(alloc, "b.wav", 3_000, 3_000, Tone::Steps)?;
-    listed(alloc, first, Some(second))
-}
-
-fn stop_told<R: Threads + Wait + Clock + Copy + Drop + Send + Sync + 'static>(
-    rt: R,
-    alloc: Global,
-) -> Result<String, AllocError> {
+fn stop_told<R: Host>(rt: R, alloc: Global) -> Result<String, AllocError> {
     let script = "add a.wav
 add b.wav
 play
@@ -153,7 +120,7 @@ play 1
     let (mut day, mut rooms) = behind_a_door(
         rt,
         alloc,
-        saw_and_steps(alloc),
+        saw_and_steps(alloc, 20_000, 3_000),
         &[true, false],
         20_000,
         script,

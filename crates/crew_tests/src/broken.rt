@@ -1,14 +1,12 @@
 //! Songs whose files are not there, or are shorter than the library says.
+use crate::rooms::Host;
 use crate::tunes::{Tone, Tune, listed, lost_tune, tune_of};
 use crate::wired::{told_with_lines, wired_day};
 use std::alloc::{AllocError, Global};
-use std::sync::Wait;
 use std::test::Fail;
-use std::thread::Threads;
-use std::time::Clock;
 use wanted::wants;
 
-fn told<R: Threads + Wait + Clock + Copy + Send + Sync + 'static>(
+fn told<R: Host>(
     rt: R,
     alloc: Global,
     first: Tune,
@@ -21,10 +19,7 @@ fn told<R: Threads + Wait + Clock + Copy + Send + Sync + 'static>(
     told_with_lines(day, &mut wires, tone)
 }
 
-fn after_a_lost_song<R: Threads + Wait + Clock + Copy + Send + Sync + 'static>(
-    rt: R,
-    alloc: Global,
-) -> Result<String, AllocError> {
+fn after_a_lost_song<R: Host>(rt: R, alloc: Global) -> Result<String, AllocError> {
     let lost = lost_tune(alloc, "a.wav", 12_000);
     let next = tune_of(alloc, "b.wav", 3_000, 3_000, Tone::Steps)?;
     let script = "add a.wav
@@ -50,10 +45,7 @@ decoded 3000, written 3000, discarded 0, left 0, torn 0
 right frames in the hall 3000, in the attic 3000
 ";
 
-fn into_a_short_partner<R: Threads + Wait + Clock + Copy + Send + Sync + 'static>(
-    rt: R,
-    alloc: Global,
-) -> Result<String, AllocError> {
+fn into_a_short_partner<R: Host>(rt: R, alloc: Global) -> Result<String, AllocError> {
     let first = tune_of(alloc, "a.wav", 12_000, 12_000, Tone::Saw)?;
     let short = tune_of(alloc, "b.wav", 10_000, 100, Tone::Steps)?;
     let script = "crossfade 1

@@ -1,16 +1,14 @@
 //! An output whose writer stands before a door.
-use crate::rooms::{Blind, Day, Stage, Watch, one_day, shared};
+use crate::rooms::{Day, Host, Watch, day_through, is_raised, shared};
 use crate::tunes::Tune;
 use crate::wire::{Wire, Wires, wires_of};
 use counted_devices::Counting;
-use crew_steps::Open;
 use std::alloc::{AllocError, Global};
+use std::io;
 use std::io::Write;
+use std::sync::Arc;
 use std::sync::atomic::{AtomicU32, Ordering};
-use std::sync::{Arc, Wait};
-use std::thread::Threads;
-use std::time::{Clock, Duration};
-use std::{io, thread};
+use std::time::Clock;
 
 /// A door that a writer stands before until the test opens it.
 #[derive(Drop)]
@@ -18,17 +16,6 @@ struct Door {
     stands: AtomicU32,
     open: AtomicU32,
     gave_up: AtomicU32,
-}
-
-/// Waits so many milliseconds at most until a flag is up. Whether it is.
-fn is_raised<R: Clock>(rt: &R, flag: &AtomicU32, most: u32) -> bool {
-    for _ in 0..most {
-        if flag.load(Ordering::SeqCst) == 1 {
-            return true;
-        }
-        thread::sleep(rt, Duration::from_millis(1));
-    }
-    false
 }
 
 /// A wire that may be behind a door: then its writes go on once the door is open, or after so many
@@ -113,7 +100,7 @@ fn writers_of<R: Clock + Copy + Drop>(
 }
 
 /// Songs are played into an output for each word of `shut`, which says whether it is behind a door, as a script says.
-pub(crate) fn behind_a_door<R: Threads + Wait + Clock + Copy + Drop + Send + Sync + 'static>(
+pub(crate) fn behind_a_door<R: Host>(
     rt: R,
     alloc: Global,
     tunes: Result<Vec<Tune>, AllocError>,
@@ -121,14 +108,6 @@ pub(crate) fn behind_a_door<R: Threads + Wait + Clock + Copy + Drop + Send + Syn
     patience: u32,
     script: &str,
 ) -> Result<(Day, Rooms), AllocError> {
-    let tunes = tunes?;
-    let (writers, mut rooms) = writers_of(rt, alloc, shut, patience)?;
-    let stage = Stage {
-        tunes,
-        writers,
-        gate: shared(alloc, Open)?,
-        scanner: Blind,
-    };
-    let day = one_day(rt, alloc, stage, script, &mut rooms);
-    Ok((day, rooms))
+    let ends = writers_of(rt, alloc, shut, patience);
+    day_through(rt, alloc, tunes, ends, script)
 }

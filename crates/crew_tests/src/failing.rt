@@ -1,27 +1,20 @@
 //! A writer that fails: its output is switched off, its frames are discarded, and the other output goes on.
-use crate::tunes::{Tone, listed, tune_of};
+use crate::rooms::Host;
+use crate::tunes::{Tone, saw_alone};
 use crate::wire::add_right;
 use crate::wired::wired_day;
 use std::alloc::{AllocError, Global};
-use std::sync::Wait;
 use std::test::Fail;
-use std::thread::Threads;
-use std::time::Clock;
 use wanted::wants;
 
-fn told<R: Threads + Wait + Clock + Copy + Send + Sync + 'static>(
-    rt: R,
-    alloc: Global,
-    room: usize,
-) -> Result<String, AllocError> {
-    let song = tune_of(alloc, "a.wav", 12_000, 12_000, Tone::Saw)?;
+fn told<R: Host>(rt: R, alloc: Global, room: usize) -> Result<String, AllocError> {
     let script = "add a.wav
 play
 outputs ~ outputenabled: 0
 enableoutput 0
 outputs
 ~ attic 12000";
-    let (mut day, mut wires) = wired_day(rt, alloc, listed(alloc, song, None), room, script)?;
+    let (mut day, mut wires) = wired_day(rt, alloc, saw_alone(alloc, 12_000), room, script)?;
     day.balance(0);
     day.balance(1);
     add_right(&mut wires, &[Tone::Saw, Tone::Saw], &mut day.heard);

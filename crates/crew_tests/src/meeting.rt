@@ -1,15 +1,13 @@
 //! Two outputs run at once: each one's first asking waits for the other's.
-use crate::rooms::{Blind, Stage, one_day, shared};
-use crate::tunes::{Tone, listed, tune_of};
+use crate::rooms::{Blind, Host, Stage, one_day, shared};
+use crate::tunes::{Tone, saw_alone};
 use crate::wire::{add_right, wires_of};
 use crew_steps::Gate;
 use std::alloc::{AllocError, Global};
+use std::sync::Arc;
 use std::sync::atomic::{AtomicU32, Ordering};
-use std::sync::{Arc, Wait};
 use std::test::Fail;
 use std::thread;
-use std::thread::Threads;
-use std::time::Clock;
 use wanted::wants;
 
 /// Lets an output go on once the other has asked too. An output gives up after a million looks.
@@ -39,16 +37,8 @@ impl Gate for Meeting {
     }
 }
 
-fn told<R: Threads + Wait + Clock + Copy + Send + Sync + 'static>(
-    rt: R,
-    alloc: Global,
-) -> Result<String, AllocError> {
+fn told<R: Host>(rt: R, alloc: Global) -> Result<String, AllocError> {
     let (writers, mut wires) = wires_of(alloc, &[20_000, 20_000])?;
-    let tunes = listed(
-        alloc,
-        tune_of(alloc, "a.wav", 3_000, 3_000, Tone::Saw)?,
-        None,
-    )?;
     let meeting = Meeting {
         hall: AtomicU32::new(0),
         attic: AtomicU32::new(0),
@@ -56,7 +46,7 @@ fn told<R: Threads + Wait + Clock + Copy + Send + Sync + 'static>(
     };
     let gate = shared(alloc, meeting)?;
     let stage = Stage {
-        tunes,
+        tunes: saw_alone(alloc, 3_000)?,
         writers,
         gate: Arc::try_clone(&gate)?,
         scanner: Blind,

@@ -1,28 +1,15 @@
 //! Partitions play apart, each to its own outputs, and an output that is moved writes nothing more of the
 //! partition that it left.
 use crate::door::behind_a_door;
-use crate::tunes::{Tone, Tune, listed, scarce_tune, tune_of};
+use crate::rooms::Host;
+use crate::tunes::{Tone, Tune, listed, saw_and_steps, scarce_tune, tune_of};
 use crate::wire::add_right;
 use crate::wired::told_apart;
 use std::alloc::{AllocError, Global};
-use std::sync::Wait;
 use std::test::Fail;
-use std::thread::Threads;
-use std::time::Clock;
 use wanted::wants;
 
-/// Two songs, of which the first has so many frames of the saw, and the second so many of the steps.
-fn saw_and_steps(alloc: Global, saw: i32, steps: i32) -> Result<Vec<Tune>, AllocError> {
-    let (long, short) = (saw.unsigned_abs(), steps.unsigned_abs());
-    let first = tune_of(alloc, "a.wav", u64::from(long), saw, Tone::Saw)?;
-    let second = tune_of(alloc, "b.wav", u64::from(short), steps, Tone::Steps)?;
-    listed(alloc, first, Some(second))
-}
-
-fn apart<R: Threads + Wait + Clock + Copy + Drop + Send + Sync + 'static>(
-    rt: R,
-    alloc: Global,
-) -> Result<String, AllocError> {
+fn apart<R: Host>(rt: R, alloc: Global) -> Result<String, AllocError> {
     let script = "newpartition k
 partition k
 moveoutput attic
@@ -65,10 +52,7 @@ decoded 5000, written 5000, discarded 0, left 0, torn 0
 right frames in the hall 6000, in the attic 5000
 ";
 
-fn beside_one_without_memory<R: Threads + Wait + Clock + Copy + Drop + Send + Sync + 'static>(
-    rt: R,
-    alloc: Global,
-) -> Result<String, AllocError> {
+fn beside_one_without_memory<R: Host>(rt: R, alloc: Global) -> Result<String, AllocError> {
     let script = "newpartition k
 partition k
 moveoutput attic
@@ -102,10 +86,7 @@ decoded 0, written 0, discarded 0, left 0, torn 0
 right frames in the hall 6000, in the attic 0
 ";
 
-fn moved<R: Threads + Wait + Clock + Copy + Drop + Send + Sync + 'static>(
-    rt: R,
-    alloc: Global,
-) -> Result<String, AllocError> {
+fn moved<R: Host>(rt: R, alloc: Global) -> Result<String, AllocError> {
     let script = "add a.wav
 play
 ~ an output stands in its write
@@ -195,10 +176,7 @@ play 1
 ~ hall 20000
 ~ den 20000";
 
-fn in_turn<R: Threads + Wait + Clock + Copy + Drop + Send + Sync + 'static>(
-    rt: R,
-    alloc: Global,
-) -> Result<String, AllocError> {
+fn in_turn<R: Host>(rt: R, alloc: Global) -> Result<String, AllocError> {
     let (day, mut rooms) = behind_a_door(
         rt,
         alloc,

@@ -8,13 +8,13 @@ use crate::tunes::{Files, Tune, library};
 use counted_devices::Sink;
 use counted_player::{Decoded, Discarded, Ledgers, Seat, Written};
 use crew::{Crew, OutputRuns, Scanner, close, let_go, start_decoder, start_outputs, start_scanner};
-use crew_steps::{Gate, output_setups};
+use crew_steps::{Gate, Open, output_setups};
 use frame_ledger::{OutputShares, SettleFault, Settled};
 use held_player::{Blanks, CrewShares, Settlement};
 use house::House;
 use house_rooms::{blanks, comes, says};
 use mpd_text::SharedText;
-use partition::{Limits, Partition, PartitionFault, Setup};
+use partition::{Partition, PartitionFault};
 use player_state::Outputs;
 use song_db::SharedDb;
 use std::alloc::{AllocError, Global};
@@ -36,6 +36,11 @@ pub(crate) struct Stage<O: Drop, G: Drop, N: Drop> {
     pub(crate) gate: Arc<G, Global>,
     pub(crate) scanner: N,
 }
+
+/// What the threads of a house run on.
+pub(crate) trait Host: Threads + Wait + Clock + Copy + Drop + Send + Sync + 'static {}
+
+impl<R: Threads + Wait + Clock + Copy + Drop + Send + Sync + 'static> Host for R {}
 
 /// A value that threads share.
 pub(crate) fn shared<T: Drop>(alloc: Global, value: T) -> Result<Arc<T, Global>, AllocError> {
@@ -59,6 +64,17 @@ impl Scanner for Blind {
 pub(crate) trait Watch<R> {
     /// Does the step of this name, which may be to wait for something. Whether it was done.
     fn does(&mut self, rt: &R, step: &str) -> bool;
+}
+
+/// Waits so many milliseconds at most until a flag is up. Whether it is.
+pub(crate) fn is_raised<R: Clock>(rt: &R, flag: &AtomicU32, most: u32) -> bool {
+    for _ in 0..most {
+        if flag.load(Ordering::SeqCst) == 1 {
+            return true;
+        }
+        thread::sleep(rt, Duration::from_millis(1));
+    }
+    false
 }
 
 /// What came of a day: what was heard and seen, how many files were opened, and how the outputs were settled. What
@@ -149,19 +165,7 @@ fn outputs(alloc: Global, count: usize) -> Result<Outputs, AllocError> {
 fn player(alloc: Global, tunes: &[Tune], count: usize) -> Result<Partition, AllocError>
     ensures { IfOk result (λ player. IsFresh player.present) }
 {
-    let limits = Limits {
-        max_queue: 16384,
-        max_version: 2147483647,
-        max_id: 2147483647,
-        max_cut: 9223372036854775807,
-        history: 64,
-    };
-    let setup = Setup {
-        limits,
-        random_start: 0,
-        outputs: outputs(alloc, count)?,
-    };
-    Partition::open(alloc, setup, library(alloc, tunes)?)
+    test_players::player(alloc, 64, outputs(alloc, count)?, library(alloc, tunes)?)
 }
 
 /// Says a line again and again until its answer has a text, ten seconds at most. Whether it came.
@@ -234,7 +238,7 @@ fn outputs_of<
     L: Ledgers + Send + Sync + 'static,
     O: Sink + Drop + Send + 'static,
     G: Gate + Drop + Send + Sync + 'static,
-    R: Threads + Wait + Clock + Copy + Send + 'static,
+    R: Host,
 >(
     rt: R,
     alloc: Global,
@@ -256,10 +260,7 @@ fn outputs_of<
 }
 
 /// The decoder's thread beside these outputs.
-fn decoder_of<
-    L: Ledgers + Send + Sync + 'static,
-    R: Threads + Wait + Clock + Copy + Send + 'static,
->(
+fn decoder_of<L: Ledgers + Send + Sync + 'static, R: Host>(
     rt: R,
     alloc: Global,
     house: &Arc<House<L>, Global>,
@@ -275,11 +276,7 @@ fn decoder_of<
 }
 
 /// The crew with the thread of a scanner.
-fn with_scanner<
-    L: Ledgers + Send + Sync + 'static,
-    N: Scanner + Drop + Send + 'static,
-    R: Threads + Wait + Clock + Copy + Send + 'static,
->(
+fn with_scanner<L: Ledgers + Send + Sync + 'static, N: Scanner + Drop + Send + 'static, R: Host>(
     rt: R,
     alloc: Global,
     house: &Arc<House<L>, Global>,
@@ -302,7 +299,7 @@ fn crew_of<
     O: Sink + Drop + Send + 'static,
     G: Gate + Drop + Send + Sync + 'static,
     N: Scanner + Drop + Send + 'static,
-    R: Threads + Wait + Clock + Copy + Send + 'static,
+    R: Host,
 >(
     rt: R,
     alloc: Global,
@@ -328,7 +325,7 @@ fn crew_of<
 }
 
 /// Goes through a script beside these threads, and closes the house. Whether all went well but what was heard.
-fn day_with<L: Ledgers, V: Watch<R>, R: Threads + Wait + Clock>(
+fn day_with<L: Ledgers, V: Watch<R>, R: Host>(
     rt: &R,
     alloc: Global,
     house: &House<L>,
@@ -364,7 +361,7 @@ fn day_in<
     G: Gate + Drop + Send + Sync + 'static,
     N: Scanner + Drop + Send + 'static,
     V: Watch<R>,
-    R: Threads + Wait + Clock + Copy + Send + Sync + 'static,
+    R: Host,
 >(
     rt: R,
     alloc: Global,
@@ -399,7 +396,7 @@ fn day_of_a_seat<
     G: Gate + Drop + Send + Sync + 'static,
     N: Scanner + Drop + Send + 'static,
     V: Watch<R>,
-    R: Threads + Wait + Clock + Copy + Send + Sync + 'static,
+    R: Host,
 >(
     rt: R,
     alloc: Global,
@@ -427,7 +424,7 @@ fn run_day<
     G: Gate + Drop + Send + Sync + 'static,
     N: Scanner + Drop + Send + 'static,
     V: Watch<R>,
-    R: Threads + Wait + Clock + Copy + Send + Sync + 'static,
+    R: Host,
 >(
     rt: R,
     alloc: Global,
@@ -466,7 +463,7 @@ pub(crate) fn one_day<
     G: Gate + Drop + Send + Sync + 'static,
     N: Scanner + Drop + Send + 'static,
     V: Watch<R>,
-    R: Threads + Wait + Clock + Copy + Send + Sync + 'static,
+    R: Host,
 >(rt: R, alloc: Global, stage: Stage<O, G, N>, script: &str, watch: &mut V) -> Day {
     let mut day = Day {
         heard: Told::new(alloc),
@@ -484,4 +481,25 @@ pub(crate) fn one_day<
         day.heard.fail();
     }
     day
+}
+
+/// Goes through a script in a house that plays these songs into the first of two ends, which nothing holds up and
+/// where nothing is scanned. The test has the other.
+pub(crate) fn day_through<O: Sink + Drop + Send + 'static, V: Watch<R> + Drop, R: Host>(
+    rt: R,
+    alloc: Global,
+    tunes: Result<Vec<Tune>, AllocError>,
+    ends: Result<(Vec<O>, V), AllocError>,
+    script: &str,
+) -> Result<(Day, V), AllocError> {
+    let tunes = tunes?;
+    let (writers, mut watch) = ends?;
+    let stage = Stage {
+        tunes,
+        writers,
+        gate: shared(alloc, Open)?,
+        scanner: Blind,
+    };
+    let day = one_day(rt, alloc, stage, script, &mut watch);
+    Ok((day, watch))
 }

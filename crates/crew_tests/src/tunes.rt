@@ -2,11 +2,11 @@
 use counted_devices::{FailAt, FailurePoint};
 use crew_steps::{SongFault, SongSource};
 use mpd_text::Song;
-use player_state::{Library, Scan};
-use song_db::{Db, Rate, SharedDb};
+use player_state::Library;
 use std::alloc::{AllocError, Global};
 use std::sync::Arc;
 use std::sync::atomic::{AtomicU32, Ordering};
+use test_songs::song;
 
 /// The left and the right sample of a frame, by its place.
 #[derive(Clone, Copy)]
@@ -136,6 +136,24 @@ pub(crate) fn listed(
     Ok(tunes)
 }
 
+/// One song, whose file has so many frames of the saw.
+pub(crate) fn saw_alone(alloc: Global, frames: i32) -> Result<Vec<Tune>, AllocError> {
+    let long = u64::from(frames.unsigned_abs());
+    listed(
+        alloc,
+        tune_of(alloc, "a.wav", long, frames, Tone::Saw)?,
+        None,
+    )
+}
+
+/// Two songs, of which the first has so many frames of the saw, and the second so many of the steps.
+pub(crate) fn saw_and_steps(alloc: Global, saw: i32, steps: i32) -> Result<Vec<Tune>, AllocError> {
+    let (long, short) = (saw.unsigned_abs(), steps.unsigned_abs());
+    let first = tune_of(alloc, "a.wav", u64::from(long), saw, Tone::Saw)?;
+    let second = tune_of(alloc, "b.wav", u64::from(short), steps, Tone::Steps)?;
+    listed(alloc, first, Some(second))
+}
+
 /// Adds a number of two bytes, the low one first.
 fn push_two(bytes: &mut Vec<u8>, number: i32) -> Result<(), AllocError> {
     bytes.extend_from_slice(&[(number & 255) as u8, ((number >> 8) & 255) as u8])
@@ -186,39 +204,16 @@ impl SongSource<FailAt> for Files {
     }
 }
 
-fn song(alloc: Global, uri: &str, frames: u64) -> Result<Song, AllocError> {
-    let uri = String::from_str(alloc, uri)?;
-    Song::new(uri, Vec::new(alloc), frames).ok_or(AllocError)
-}
-
-/// These songs, and one more where one is given.
-pub(crate) fn songs(
-    alloc: Global,
-    tunes: &[Tune],
-    more: Option<&str>,
-) -> Result<SharedDb, AllocError> {
+/// These songs as a library has them.
+fn songs(alloc: Global, tunes: &[Tune]) -> Result<Vec<Song>, AllocError> {
     let mut songs = Vec::new(alloc);
     for tune in tunes {
-        songs
-            .push(song(alloc, tune.uri, tune.frames)?)
-            .ok()
-            .ok_or(AllocError)?;
+        songs.push(song(alloc, tune.uri, &[], tune.frames)?)?;
     }
-    if let Some(uri) = more {
-        songs.push(song(alloc, uri, 8_000)?).ok().ok_or(AllocError)?;
-    }
-    match Db::of_songs(alloc, songs) {
-        Ok(songs) => SharedDb::new(alloc, songs),
-        Err(_) => Err(AllocError),
-    }
+    Ok(songs)
 }
 
 /// A library of these songs, at 8,000 frames a second.
 pub(crate) fn library(alloc: Global, tunes: &[Tune]) -> Result<Library, AllocError> {
-    Ok(Library {
-        songs: songs(alloc, tunes, None)?,
-        rate: Rate::lowest(),
-        scan: Scan::never(),
-        updated: 0,
-    })
+    test_players::library(alloc, songs(alloc, tunes)?)
 }

@@ -1,18 +1,18 @@
 //! A scan that is made while a song is played.
-use crate::rooms::{Stage, Watch, one_day, shared};
-use crate::tunes::{Tone, listed, songs, tune_of};
+use crate::rooms::{Host, Stage, Watch, is_raised, one_day, shared};
+use crate::tunes::{Tone, saw_alone};
 use crate::wire::{Wires, wires_of};
 use crate::wired::told_with_lines;
 use crew::Scanner;
 use crew_steps::Open;
 use song_db::SharedDb;
 use std::alloc::{AllocError, Global};
+use std::sync::Arc;
 use std::sync::atomic::{AtomicU32, Ordering};
-use std::sync::{Arc, Wait};
 use std::test::Fail;
 use std::thread;
-use std::thread::Threads;
 use std::time::{Clock, Duration};
+use test_songs::{library, song};
 use wanted::wants;
 
 const SCRIPT: &str = "add a.wav
@@ -39,19 +39,16 @@ struct Slow<R: Clock + Drop> {
 impl<R: Clock + Drop> Scanner for Slow<R> {
     fn scan(&mut self, alloc: Global) -> Option<SharedDb> {
         self.begun.store(1, Ordering::SeqCst);
-        let _ended = is_raised(&self.rt, &self.may_end);
-        songs(alloc, &[], Some("new.wav")).ok()
+        let _ended = is_raised(&self.rt, &self.may_end, 10_000);
+        found(alloc).ok()
     }
 }
 
-fn is_raised<R: Clock>(rt: &R, flag: &AtomicU32) -> bool {
-    for _ in 0..10_000u32 {
-        if flag.load(Ordering::SeqCst) == 1 {
-            return true;
-        }
-        thread::sleep(rt, Duration::from_millis(1));
-    }
-    false
+/// A library of one song.
+fn found(alloc: Global) -> Result<SharedDb, AllocError> {
+    let mut songs = Vec::new(alloc);
+    songs.push(song(alloc, "new.wav", &[], 8_000)?)?;
+    SharedDb::new(alloc, library(alloc, songs)?)
 }
 
 /// Finds nothing, a tenth of a second after it has begun.
@@ -81,7 +78,7 @@ struct Scans {
 impl<R: Clock> Watch<R> for Scans {
     fn does(&mut self, rt: &R, step: &str) -> bool {
         match step {
-            "the scan has begun" => is_raised(rt, &self.begun),
+            "the scan has begun" => is_raised(rt, &self.begun, 10_000),
             "the scan may end" => {
                 self.may_end.store(1, Ordering::SeqCst);
                 true
@@ -91,10 +88,7 @@ impl<R: Clock> Watch<R> for Scans {
     }
 }
 
-fn told<R: Threads + Wait + Clock + Copy + Drop + Send + Sync + 'static>(
-    rt: R,
-    alloc: Global,
-) -> Result<String, AllocError> {
+fn told<R: Host>(rt: R, alloc: Global) -> Result<String, AllocError> {
     let (writers, wires) = wires_of(alloc, &[100_000, 100_000])?;
     let begun = shared(alloc, AtomicU32::new(0))?;
     let may_end = shared(alloc, AtomicU32::new(0))?;
@@ -103,16 +97,10 @@ fn told<R: Threads + Wait + Clock + Copy + Drop + Send + Sync + 'static>(
         begun: Arc::try_clone(&begun)?,
         may_end: Arc::try_clone(&may_end)?,
     };
-    let tunes = listed(
-        alloc,
-        tune_of(alloc, "a.wav", 12_000, 12_000, Tone::Saw)?,
-        None,
-    )?;
-    let gate = shared(alloc, Open)?;
     let stage = Stage {
-        tunes,
+        tunes: saw_alone(alloc, 12_000)?,
         writers,
-        gate,
+        gate: shared(alloc, Open)?,
         scanner: Slow { rt, begun, may_end },
     };
     let day = one_day(rt, alloc, stage, SCRIPT, &mut scans);
@@ -120,10 +108,7 @@ fn told<R: Threads + Wait + Clock + Copy + Drop + Send + Sync + 'static>(
 }
 
 /// Whether a scan that had begun has ended where the house is closed.
-fn late_told<R: Threads + Wait + Clock + Copy + Drop + Send + Sync + 'static>(
-    rt: R,
-    alloc: Global,
-) -> Result<String, AllocError> {
+fn late_told<R: Host>(rt: R, alloc: Global) -> Result<String, AllocError> {
     let (writers, wires) = wires_of(alloc, &[100, 100])?;
     let begun = shared(alloc, AtomicU32::new(0))?;
     let has_ended = shared(alloc, AtomicU32::new(0))?;
@@ -132,9 +117,8 @@ fn late_told<R: Threads + Wait + Clock + Copy + Drop + Send + Sync + 'static>(
         begun: Arc::try_clone(&begun)?,
         may_end: Arc::try_clone(&has_ended)?,
     };
-    let tune = tune_of(alloc, "a.wav", 1_000, 1_000, Tone::Saw)?;
     let stage = Stage {
-        tunes: listed(alloc, tune, None)?,
+        tunes: saw_alone(alloc, 1_000)?,
         writers,
         gate: shared(alloc, Open)?,
         scanner: Late {

@@ -1,31 +1,19 @@
 //! Days of songs that are played into two wires.
-use crate::rooms::{Blind, Day, Stage, one_day, shared};
+use crate::rooms::{Day, Host, day_through};
 use crate::tunes::{Tone, Tune};
 use crate::wire::{Wires, add_right, wires_of};
-use crew_steps::Open;
 use std::alloc::{AllocError, Global};
-use std::sync::Wait;
-use std::thread::Threads;
-use std::time::Clock;
 
 /// Songs are played into two wires, of which that of the hall has room for so many bytes, as a script says.
-pub(crate) fn wired_day<R: Threads + Wait + Clock + Copy + Send + Sync + 'static>(
+pub(crate) fn wired_day<R: Host>(
     rt: R,
     alloc: Global,
     tunes: Result<Vec<Tune>, AllocError>,
     room: usize,
     script: &str,
 ) -> Result<(Day, Wires), AllocError> {
-    let tunes = tunes?;
-    let (writers, mut wires) = wires_of(alloc, &[room, 100_000])?;
-    let stage = Stage {
-        tunes,
-        writers,
-        gate: shared(alloc, Open)?,
-        scanner: Blind,
-    };
-    let day = one_day(rt, alloc, stage, script, &mut wires);
-    Ok((day, wires))
+    let ends = wires_of(alloc, &[room, 100_000]);
+    day_through(rt, alloc, tunes, ends, script)
 }
 
 /// What came of a day, and how many frames that came to each output are those of a formula.

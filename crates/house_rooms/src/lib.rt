@@ -6,7 +6,6 @@ ghost use Rattle.frame_ledger.specs.Shares.{HasAllParts};
 ghost use Rattle.std.specs.Prelude.{◌≡◌, ◌+◌, ◌<◌, IfOk, OnOk};
 ghost use Rattle.held_player.specs.Blanks.{AreFor, HasPartsOfFrames, HasSeatsOfOnePart};
 ghost use Rattle.counted_player.specs.Seats.{place};
-ghost use Rattle.counted_player.specs.Counts.{IsFresh};
 
 use command_lists::ListForm;
 use counted_player::{Ledgers, Seat};
@@ -15,13 +14,14 @@ use held_player::{AnsweredList, Blanks, CrewShares, News};
 use house::House;
 use mpd_command::{CommandSet, Request};
 use mpd_text::{SharedText, Song};
-use partition::{Limits, Partition, PartitionFault, Setup};
-use player_state::{Library, Outputs, Scan};
+use partition::PartitionFault;
+use player_state::Outputs;
 use shelf::MemShelf;
-use song_db::{Db, Rate, SharedDb};
 use std::alloc::{AllocError, Global};
 use std::sync::Wait;
 use std::sync::ledger::Blank;
+use test_players::{library, list_answer, player, requests};
+use test_songs::song;
 
 /// Seven new ledgers.
 pub fn blanks() -> Blanks
@@ -41,23 +41,12 @@ pub fn blanks() -> Blanks
     }
 }
 
-fn song(alloc: Global, uri: &str) -> Result<Song, AllocError> {
-    let uri = String::from_str(alloc, uri)?;
-    match Song::new(uri, Vec::new(alloc), 8000) {
-        Some(song) => Ok(song),
-        None => Err(AllocError),
-    }
-}
-
 /// Two songs of a second.
-fn songs(alloc: Global) -> Result<Db, AllocError> {
+fn songs(alloc: Global) -> Result<Vec<Song>, AllocError> {
     let mut songs = Vec::new(alloc);
-    songs.push(song(alloc, "a.wav")?)?;
-    songs.push(song(alloc, "b.wav")?)?;
-    match Db::of_songs(alloc, songs) {
-        Ok(songs) => Ok(songs),
-        Err(_) => Err(AllocError),
-    }
+    songs.push(song(alloc, "a.wav", &[], 8_000)?)?;
+    songs.push(song(alloc, "b.wav", &[], 8_000)?)?;
+    Ok(songs)
 }
 
 /// Two outputs, of which the second is off.
@@ -68,31 +57,6 @@ fn outputs(alloc: Global) -> Result<Outputs, AllocError> {
     let attic = SharedText::of(String::from_str(alloc, "attic")?)?;
     outputs.add(attic, false)?;
     Ok(outputs)
-}
-
-/// A player over two songs, with a window of at most so many events.
-fn player(alloc: Global, history: u32) -> Result<Partition, AllocError>
-    ensures { IfOk result (λ player. IsFresh player.present) }
-{
-    let library = Library {
-        songs: SharedDb::new(alloc, songs(alloc)?)?,
-        rate: Rate::lowest(),
-        scan: Scan::never(),
-        updated: 0,
-    };
-    let limits = Limits {
-        max_queue: 16384,
-        max_version: 2147483647,
-        max_id: 2147483647,
-        max_cut: 9223372036854775807,
-        history: history.max(1),
-    };
-    let setup = Setup {
-        limits,
-        random_start: 0,
-        outputs: outputs(alloc)?,
-    };
-    Partition::open(alloc, setup, library)
 }
 
 /// A client comes.
@@ -156,25 +120,16 @@ fn lists<L: Ledgers>(
     line: &str,
 ) -> Result<String, PartitionFault> {
     let mut shelf = MemShelf::new(alloc);
-    let requests = one_request(alloc, line)?;
+    let requests = requests(alloc, line)?;
     match house.list(rt, seat, &mut shelf, client, ListForm::Plain, requests) {
         Ok(answered) => heard_of_list(alloc, &answered),
         Err(_) => Err(PartitionFault::NoMemory),
     }
 }
 
-/// What a list of one line asks for.
-fn one_request(alloc: Global, line: &str) -> Result<Vec<Request>, AllocError> {
-    let mut requests = Vec::with_capacity(alloc, 1)?;
-    requests.push_reserved(Request::of_line(alloc, line, CommandSet::base())?);
-    Ok(requests)
-}
-
 fn heard_of_list(alloc: Global, answered: &AnsweredList) -> Result<String, PartitionFault> {
-    let mut bytes = Vec::new(alloc);
-    answered.answers().push_text(&mut bytes)?;
-    let text = str::from_utf8(&bytes).unwrap_or("no text\n");
-    Ok(heard(alloc, answered.front().is_some(), text)?)
+    let text = list_answer(alloc, answered.answers())?;
+    Ok(heard(alloc, answered.front().is_some(), text.as_str())?)
 }
 
 /// What a client hears of a line, alone or as a list of one line.
@@ -203,6 +158,7 @@ pub fn opened<L: Ledgers>(
     requires blanks { AreFor L.names blanks }
     ensures { IfOk result (λ r. HasAllParts r.1.decoded.parts r.1.outputs) }
 {
-    let player = player(alloc, history)?;
+    let library = library(alloc, songs(alloc)?)?;
+    let player = player(alloc, history, outputs(alloc)?, library)?;
     Ok(House::open(alloc, blanks, player)?)
 }

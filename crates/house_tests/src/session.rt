@@ -7,22 +7,12 @@ use counted_player::{Ledgers, Seat};
 use held_player::{News, Reported};
 use house::House;
 use house_rooms::{comes, hears, says};
-use mpd_text::number;
 use partition::PartitionFault;
+use queue_tests::steps::{first_word, number_of};
 use std::alloc::Global;
 use std::sync::Wait;
 use std::time::{Clock, Duration};
 use wanted::Told;
-
-/// The number of a word; 0 where there is none.
-fn number_of(word: &str) -> u32 {
-    number(word).unwrap_or(0)
-}
-
-/// The first word of a line, and what follows.
-fn first_word(line: &str) -> (&str, &str) {
-    line.split_once(' ').unwrap_or((line, ""))
-}
 
 /// The news of a step, if it is one: a client comes or goes, a scanner asks for a scan or has found nothing, or
 /// the decoder wants a job.

@@ -1,9 +1,9 @@
 //! Filters: worked texts and pairs, faults, and the greatest depth and texts.
-use crate::songs::{Tags, song};
 use filters::{Case, Filter, FilterFault, Pair, Test, Vocabulary, one_answer};
 use mpd_text::{TagName, Text};
 use std::alloc::{AllocError, Global};
 use std::test::Fail;
+use test_songs::{Tags, repeated_song};
 use wanted::{Told, wants};
 
 /// A song: its URI, its tags, and how often the URI and each text are repeated.
@@ -32,7 +32,7 @@ const LONG_SONG: &[Given] = &[(
 /// Adds the URI of a song that meets a filter, and a space. What is repeated is added once.
 fn tell_song(told: &mut Told, alloc: Global, given: &Given, filter: &Filter, case: Case) {
     let (uri, tags, times) = *given;
-    let Ok(song) = song(alloc, uri, tags, times, 8_000) else {
+    let Ok(song) = repeated_song(alloc, uri, tags, times, 8_000) else {
         return told.fail();
     };
     match filter.matches(&song, case) {

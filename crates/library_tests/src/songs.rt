@@ -1,42 +1,14 @@
 //! Songs, the lines that they keep, and the library: worked ones, and the greatest one.
-use mpd_text::{Song, Tag, TagName};
+use mpd_text::{Song, TagName};
 use song_db::{Db, SharedSong};
 use std::alloc::{AllocError, Global};
 use std::test::Fail;
+use test_songs::{Tags, repeated_song};
 use wanted::{Told, wants, wants_made};
-
-/// Names of tags and texts.
-pub type Tags = &'static [(TagName, &'static str)];
-
-fn add_tag(
-    tags: &mut Vec<Tag>,
-    alloc: Global,
-    name: TagName,
-    text: &str,
-    times: usize,
-) -> Result<(), AllocError> {
-    let tag = Tag::new(name, text.repeat(alloc, times)?);
-    tags.push(tag).map_err(AllocError::from)
-}
-
-/// A song, whose URI and texts are these so many times. The URI holds no newline.
-pub fn song(
-    alloc: Global,
-    uri: &str,
-    given: Tags,
-    times: usize,
-    frames: u64,
-) -> Result<Song, AllocError> {
-    let mut tags = Vec::new(alloc);
-    for (name, text) in given {
-        add_tag(&mut tags, alloc, *name, text, times)?;
-    }
-    Song::new(uri.repeat(alloc, times)?, tags, frames).ok_or(AllocError)
-}
 
 /// The lines that a clone shows whose first handle is gone.
 fn kept(alloc: Global, uri: &str, given: Tags, times: usize) -> Result<String, AllocError> {
-    let song = song(alloc, uri, given, times, 16_000)?;
+    let song = repeated_song(alloc, uri, given, times, 16_000)?;
     let clone = SharedSong::new(alloc, song)?.clone()?;
     String::from_str(alloc, clone.lines())
 }
@@ -80,7 +52,7 @@ fn songs(alloc: Global, given: &[(u64, &str)], times: usize) -> Result<Vec<Song>
     let mut songs = Vec::new(alloc);
     for (frames, uri) in given {
         songs
-            .push(song(alloc, uri, &[], times, *frames)?)
+            .push(repeated_song(alloc, uri, &[], times, *frames)?)
             .map_err(AllocError::from)?;
     }
     Ok(songs)

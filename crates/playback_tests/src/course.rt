@@ -2,13 +2,12 @@
 //!
 //! A step is a line, of a word and numbers, and tells what starts. These functions are the only ones that
 //! hold a round.
-use crate::tables::{consume_of, single_of, songs};
+use crate::tables::{Led, consume_of, single_of, songs, told_of_two};
 use play_order::{Consume, Ending, Modes, Round, Single};
 use queue_tests::steps::{first_word, number_of, two_numbers};
 use song_queue::{Entry, Queue};
 use std::alloc::{AllocError, Global};
 use std::collections::HashSet;
-use std::mem;
 use wanted::Told;
 
 #[derive(Drop)]
@@ -30,15 +29,6 @@ fn opened(alloc: Global) -> Course {
             consume: Consume::Off,
         },
     }
-}
-
-/// The image of a round, and a copy of its queue.
-fn image(course: &Course) -> Result<Course, AllocError> {
-    Ok(Course {
-        round: course.round.image()?,
-        queue: course.queue.try_clone()?,
-        modes: course.modes,
-    })
 }
 
 /// What is answered to what only changes something. That there was no memory for it is kept.
@@ -301,40 +291,32 @@ fn show(told: &mut Told, course: &mut Course, alloc: Global, word: &str, given: 
     }
 }
 
-/// Adds a step and what it tells, on a line each, where that is more than `ok`.
-fn step(told: &mut Told, course: &mut Course, alloc: Global, line: &str) {
-    let (word, given) = first_word(line);
-    let answer = change(told, course, alloc, word, given);
-    if answer == "ok" {
-        return;
+impl Led for Course {
+    /// The image of a round, and a copy of its queue.
+    fn image(&self) -> Result<Course, AllocError> {
+        Ok(Course {
+            round: self.round.image()?,
+            queue: self.queue.try_clone()?,
+            modes: self.modes,
+        })
     }
-    told.add(format_args!("{line}\n{answer}"));
-    if answer.is_empty() {
-        show(told, course, alloc, word, given);
-    }
-    told.add("\n");
-}
 
-/// The same of a step that may be `keep`, that takes an image, or `back`, at which a course and its image change
-/// places.
-fn step_of_two(told: &mut Told, course: &mut Course, kept: &mut Course, alloc: Global, line: &str) {
-    match line {
-        "keep" => match image(course) {
-            Ok(image) => *kept = image,
-            Err(_) => told.fail(),
-        },
-        "back" => mem::swap(course, kept),
-        _ => step(told, course, alloc, line),
+    /// Adds a step and what it tells, on a line each, where that is more than `ok`.
+    fn step(&mut self, told: &mut Told, alloc: Global, line: &str) {
+        let (word, given) = first_word(line);
+        let answer = change(told, self, alloc, word, given);
+        if answer == "ok" {
+            return;
+        }
+        told.add(format_args!("{line}\n{answer}"));
+        if answer.is_empty() {
+            show(told, self, alloc, word, given);
+        }
+        told.add("\n");
     }
 }
 
 /// What the steps tell, with each step that tells more than `ok` and a line for what it tells.
 pub fn told(alloc: Global, steps: &str) -> Result<String, AllocError> {
-    let mut told = Told::new(alloc);
-    let mut course = opened(alloc);
-    let mut kept = opened(alloc);
-    for line in steps.lines() {
-        step_of_two(&mut told, &mut course, &mut kept, alloc, line);
-    }
-    told.into_text()
+    told_of_two(alloc, opened(alloc), opened(alloc), steps)
 }

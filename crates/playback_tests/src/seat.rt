@@ -2,12 +2,11 @@
 //!
 //! A step is a line, of a word and numbers, and tells what is answered. These functions are the only ones
 //! that hold a player.
-use crate::tables::{consume_of, single_of, songs};
+use crate::tables::{Led, consume_of, single_of, songs, told_of_two};
 use player_core::{Job, Playback, Player, PlayerFault};
 use queue_tests::steps::{first_word, number_of, two_numbers};
 use song_queue::Queue;
 use std::alloc::{AllocError, Global};
-use std::mem;
 use wanted::Told;
 
 /// Frames a second.
@@ -17,14 +16,6 @@ const RATE: u32 = 8000;
 struct Seat {
     player: Player,
     queue: Queue,
-}
-
-/// The image of a player, and a copy of its queue.
-fn image(seat: &Seat) -> Result<Seat, AllocError> {
-    Ok(Seat {
-        player: seat.player.image()?,
-        queue: seat.queue.try_clone()?,
-    })
 }
 
 /// Puts the song of a letter at the end. That there was no memory for it is kept.
@@ -186,49 +177,42 @@ fn show(told: &mut Told, seat: &Seat) {
     ));
 }
 
-/// Adds what a step tells, on a line, where that is more than `ok`.
-fn step(told: &mut Told, seat: &mut Seat, alloc: Global, line: &str) {
-    let (word_of, given) = first_word(line);
-    let (first, second) = two_numbers(given);
-    match word_of {
-        "show" => show(told, seat),
-        "want" => want(told, seat, first == 0, second == 1),
-        "have" => have(told, seat, first, second),
-        _ => {
-            let answer = answer(told, seat, alloc, word_of, given);
-            if answer == "ok" {
-                return;
-            }
-            told.add(answer);
-        }
+impl Led for Seat {
+    /// The image of a player, and a copy of its queue.
+    fn image(&self) -> Result<Seat, AllocError> {
+        Ok(Seat {
+            player: self.player.image()?,
+            queue: self.queue.try_clone()?,
+        })
     }
-    told.add("\n");
-}
 
-/// The same of a step that may be `keep`, that takes an image, or `back`, at which a seat and its image change
-/// places.
-fn step_of_two(told: &mut Told, seat: &mut Seat, kept: &mut Seat, alloc: Global, line: &str) {
-    match line {
-        "keep" => match image(seat) {
-            Ok(image) => *kept = image,
-            Err(_) => told.fail(),
-        },
-        "back" => mem::swap(seat, kept),
-        _ => step(told, seat, alloc, line),
+    /// Adds what a step tells, on a line, where that is more than `ok`.
+    fn step(&mut self, told: &mut Told, alloc: Global, line: &str) {
+        let (word_of, given) = first_word(line);
+        let (first, second) = two_numbers(given);
+        match word_of {
+            "show" => show(told, self),
+            "want" => want(told, self, first == 0, second == 1),
+            "have" => have(told, self, first, second),
+            _ => {
+                let answer = answer(told, self, alloc, word_of, given);
+                if answer == "ok" {
+                    return;
+                }
+                told.add(answer);
+            }
+        }
+        told.add("\n");
     }
 }
 
 /// What the steps tell, with a line for each that tells more than `ok`. The player's numbers go up to a
 /// greatest one.
 pub fn told(alloc: Global, max_cut: u32, steps: &str) -> Result<String, AllocError> {
-    let mut seat = Seat {
+    let seat = Seat {
         player: Player::new(alloc, 0, u64::from(max_cut)),
         queue: Queue::new(alloc, 16384, 2147483647, 2147483647),
     };
-    let mut kept = image(&seat)?;
-    let mut told = Told::new(alloc);
-    for line in steps.lines() {
-        step_of_two(&mut told, &mut seat, &mut kept, alloc, line);
-    }
-    told.into_text()
+    let kept = seat.image()?;
+    told_of_two(alloc, seat, kept, steps)
 }

@@ -6,6 +6,9 @@ use mpd_text::{Sequence, Song};
 use play_order::{Consume, Single};
 use song_db::SharedSong;
 use std::alloc::{AllocError, Global};
+use std::mem;
+use test_songs::song;
+use wanted::Told;
 
 /// The song of a letter, without tags: `a`, `b` and `c` are of one, two and three seconds, others of four
 /// frames.
@@ -16,10 +19,8 @@ fn lettered(alloc: Global, letter: &str) -> Result<Song, AllocError> {
         "c" => 24000,
         _ => 4,
     };
-    match Song::new(format!(in alloc; "{letter}.wav")?, Vec::new(alloc), frames) {
-        Some(song) => Ok(song),
-        None => Err(AllocError),
-    }
+    let uri = format!(in alloc; "{letter}.wav")?;
+    song(alloc, uri.as_str(), &[], frames)
 }
 
 /// So many times the song of a letter.
@@ -51,4 +52,40 @@ pub fn consume_of(number: u32) -> Consume {
         1 => Consume::On,
         _ => Consume::Oneshot,
     }
+}
+
+/// What steps lead.
+pub trait Led: Sized + Drop {
+    /// Its image, and copies of all that it does not hold alone.
+    fn image(&self) -> Result<Self, AllocError>;
+
+    /// Takes a step, and adds what it tells.
+    fn step(&mut self, told: &mut Told, alloc: Global, line: &str);
+}
+
+/// Takes a step, which may be `keep`, that takes an image, or `back`, at which one and its image change places.
+fn step_of_two<L: Led>(told: &mut Told, led: &mut L, kept: &mut L, alloc: Global, line: &str) {
+    match line {
+        "keep" => match led.image() {
+            Ok(image) => *kept = image,
+            Err(_) => told.fail(),
+        },
+        "back" => mem::swap(led, kept),
+        _ => led.step(told, alloc, line),
+    }
+}
+
+/// What the steps tell that lead one of two, which are alike.
+pub fn told_of_two<L: Led>(
+    alloc: Global,
+    led: L,
+    kept: L,
+    steps: &str,
+) -> Result<String, AllocError> {
+    let (mut led, mut kept) = (led, kept);
+    let mut told = Told::new(alloc);
+    for line in steps.lines() {
+        step_of_two(&mut told, &mut led, &mut kept, alloc, line);
+    }
+    told.into_text()
 }

@@ -6,13 +6,15 @@ use command_lists::ListForm;
 use idle_clients::Notice;
 use mpd_command::{CommandSet, Request};
 use mpd_text::{Answer, SharedText, Song};
-use partition::{Limits, ListOutcome, Partition, Setup};
+use partition::{ListOutcome, Partition};
 use player_events::{Event, Outcome};
-use player_state::{Library, Outputs, Report, Scan};
-use queue_tests::steps::{entry, first_word, number_of, song, two_numbers};
+use player_state::{Outputs, Report};
+use queue_tests::steps::{entry, first_word, number_of, two_numbers};
 use shelf::MemShelf;
-use song_db::{Db, Rate, SharedDb};
+use song_db::SharedDb;
 use std::alloc::{AllocError, Global};
+use test_players::{library, list_answer, player, requests};
+use test_songs::song;
 use transitions::{Next, Stand};
 use wanted::Told;
 
@@ -20,21 +22,9 @@ use wanted::Told;
 fn songs(alloc: Global, uris: &str) -> Result<Vec<Song>, AllocError> {
     let mut songs = Vec::new(alloc);
     for uri in uris.lines() {
-        songs.push(song(alloc, uri)?)?;
+        songs.push(song(alloc, uri, &[], 8_000)?)?;
     }
     Ok(songs)
-}
-
-fn library(alloc: Global, uris: &str) -> Result<Library, AllocError> {
-    let Ok(songs) = Db::of_songs(alloc, songs(alloc, uris)?) else {
-        return Err(AllocError);
-    };
-    Ok(Library {
-        songs: SharedDb::new(alloc, songs)?,
-        rate: Rate::lowest(),
-        scan: Scan::never(),
-        updated: 0,
-    })
 }
 
 /// Eight outputs, of which the last is off.
@@ -67,7 +57,8 @@ struct Lent {
 
 /// A player over a song for each line, whose window has at most so many events, with an empty shelf.
 fn opened(alloc: Global, history: u32, uris: &str) -> Result<Lent, AllocError> {
-    let player = player_over(alloc, history, library(alloc, uris)?)?;
+    let library = library(alloc, songs(alloc, uris)?)?;
+    let player = player(alloc, history, outputs(alloc)?, library)?;
     let shelf = MemShelf::new(alloc);
     let most = history as usize;
     Ok(Lent {
@@ -75,22 +66,6 @@ fn opened(alloc: Global, history: u32, uris: &str) -> Result<Lent, AllocError> {
         shelf,
         most,
     })
-}
-
-fn player_over(alloc: Global, history: u32, library: Library) -> Result<Partition, AllocError> {
-    let limits = Limits {
-        max_queue: 16384,
-        max_version: 2147483647,
-        max_id: 2147483647,
-        max_cut: 9223372036854775807,
-        history: history.max(1),
-    };
-    let setup = Setup {
-        limits,
-        random_start: 0,
-        outputs: outputs(alloc)?,
-    };
-    Partition::open(alloc, setup, library)
 }
 
 fn after(next: Next) -> &'static str {
@@ -287,24 +262,6 @@ fn says_in_list(lent: &mut Lent, alloc: Global, form: ListForm, rest: &str, told
     says(lent, alloc, 1, stand, request(alloc, line), told)
 }
 
-/// The requests of the lines of a list, with a semicolon between each two.
-fn requests(alloc: Global, lines: &str) -> Result<Vec<Request>, AllocError> {
-    let mut requests = Vec::new(alloc);
-    if lines == "" {
-        return Ok(requests);
-    }
-    for line in lines.split(';') {
-        requests.push(Request::of_line(alloc, line, CommandSet::base())?)?;
-    }
-    Ok(requests)
-}
-
-fn list_answer(alloc: Global, outcome: &ListOutcome) -> Result<String, AllocError> {
-    let mut answer = Vec::new(alloc);
-    outcome.push_text(&mut answer)?;
-    String::from_str(alloc, str::from_utf8(&answer).unwrap_or("no text\n"))
-}
-
 /// Adds what clients hear of a list: its whole answer, `closed` where the client is, and each notice after
 /// its client.
 fn add_list(told: &mut Told, alloc: Global, outcome: &ListOutcome) {
@@ -333,14 +290,8 @@ fn found(alloc: Global, word: &str) -> Result<Option<SharedDb>, AllocError> {
     if word == "fails" {
         return Ok(None);
     }
-    let mut songs = Vec::new(alloc);
-    if let Some(song) = Song::new(String::from_str(alloc, word)?, Vec::new(alloc), 8000) {
-        songs.push(song)?;
-    }
-    match Db::of_songs(alloc, songs) {
-        Ok(songs) => Ok(Some(SharedDb::new(alloc, songs)?)),
-        Err(_) => Err(AllocError),
-    }
+    let songs = test_songs::library(alloc, songs(alloc, word)?)?;
+    Ok(Some(SharedDb::new(alloc, songs)?))
 }
 
 /// What a scanner asks or brings, at seat 5.

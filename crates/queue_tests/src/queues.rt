@@ -2,18 +2,19 @@
 //!
 //! A step is a line, of a word and numbers, and adds what is answered and what is left. So few functions hold
 //! a queue.
-use crate::steps::{entry, first_word, number_of, song};
+use crate::steps::{entry, first_word, number_of};
 use song_db::SharedSong;
 use song_queue::{Queue, QueueFault};
 use std::alloc::{AllocError, Global};
 use std::ops::Range;
 use std::test::Fail;
+use test_songs::song;
 use wanted::{Told, wants};
 
 fn songs(alloc: Global, count: usize) -> Result<Vec<SharedSong>, AllocError> {
     let mut songs = Vec::new(alloc);
     for _ in 0..count {
-        songs.push(SharedSong::new(alloc, song(alloc, "a.wav")?)?)?;
+        songs.push(SharedSong::new(alloc, song(alloc, "a.wav", &[], 8_000)?)?)?;
     }
     Ok(songs)
 }

@@ -1,10 +1,10 @@
-//! What tests read of their steps, and what they need for them.
+//! What tests read of their steps.
 //!
 //! A test gives one text, of which each line is a step, and wants one text. So it knows nothing of what it
-//! calls, and is cheap to prove. What a test needs and cannot make counts as want of memory.
-use mpd_text::{Song, number};
+//! calls, and is cheap to prove.
+use mpd_text::number;
 use song_queue::Queue;
-use std::alloc::{AllocError, Global};
+use std::alloc::AllocError;
 
 /// The number of a word; 0 where there is none.
 pub fn number_of(word: &str) -> u32 {
@@ -26,15 +26,6 @@ pub fn first_word(line: &str) -> (&str, &str) {
 pub fn two_numbers(text: &str) -> (u32, u32) {
     let (first, second) = first_word(text);
     (number_of(first), number_of(second))
-}
-
-/// The song of this URI, of one second and without tags.
-pub fn song(alloc: Global, uri: &str) -> Result<Song, AllocError> {
-    let uri = String::from_str(alloc, uri)?;
-    match Song::new(uri, Vec::new(alloc), 8000) {
-        Some(song) => Ok(song),
-        None => Err(AllocError),
-    }
 }
 
 /// Adds a text and a newline.

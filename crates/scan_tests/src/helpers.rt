@@ -2,19 +2,13 @@
 //!
 //! What a test needs and cannot make counts as want of memory.
 use library_scan::{ScanFault, Scanned};
-use mpd_text::{Song, Tag, TagName};
+use mpd_text::{Song, TagName};
 use std::alloc::{AllocError, Global};
 use wanted::Told;
 
 /// A song of this URI, so many frames, and one tag, its artist.
 pub fn song(alloc: Global, uri: &str, frames: u64, artist: &str) -> Result<Song, AllocError> {
-    let artist = String::from_str(alloc, artist)?;
-    let mut tags = Vec::new(alloc);
-    tags.push(Tag::new(TagName::Artist, artist))?;
-    match Song::new(String::from_str(alloc, uri)?, tags, frames) {
-        Some(song) => Ok(song),
-        None => Err(AllocError),
-    }
+    test_songs::song(alloc, uri, &[(TagName::Artist, artist)], frames)
 }
 
 /// Adds the songs of a scan with their frames and how many tags they have, then the files that are none with

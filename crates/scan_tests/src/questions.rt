@@ -8,6 +8,7 @@ use song_db::{Db, Rate, SharedSong};
 use song_search::{counted, find, is_folder, list_folder, under};
 use std::alloc::{AllocError, Global};
 use std::test::Fail;
+use test_songs::library;
 use wanted::{Told, wants};
 
 /// Songs in folders: their URIs, frames and artists. The folder `a` comes before `a-b`, though `a-b/y.wav`
@@ -24,13 +25,6 @@ const SONGS: [(&str, u64, &str); 10] = [
     ("ab.wav", 8, "One"),
     ("\u{e9}/\u{e9}.wav", 16, "\u{c9}mile"),
 ];
-
-fn library(alloc: Global, songs: Vec<Song>) -> Result<Db, AllocError> {
-    match Db::of_songs(alloc, songs) {
-        Ok(db) => Ok(db),
-        Err(_) => Err(AllocError),
-    }
-}
 
 fn small(alloc: Global) -> Result<Db, AllocError> {
     let mut songs = Vec::new(alloc);

@@ -1,5 +1,4 @@
 //! What commands ask for, as texts: a filter, an order, a window, a place and groups.
-use crate::made_songs::song;
 use command_arguments::{Misread, Place, Wanted};
 use filters::{Case, Filter, Test};
 use mpd_text::TagName;
@@ -9,6 +8,7 @@ use selections::{
 };
 use std::alloc::{AllocError, Global};
 use std::test::Fail;
+use test_songs::song;
 use wanted::{Told, wants};
 
 /// The lines again, which have words of a command with `|` between them, ` => `, and what is wanted of it, with

@@ -1,10 +1,10 @@
 //! Songs in another order, and in groups.
-use crate::made_songs::{Tags, song};
 use mpd_text::{Answer, Song, TagName};
 use song_db::{Db, Rate, SharedSong};
 use song_groups::{count_groups, distinct, order, push_counts, push_tuples, tuples};
 use std::alloc::{AllocError, Global};
 use std::test::Fail;
+use test_songs::{Tags, song};
 use wanted::{Told, wants, wants_made};
 
 /// The URI of a song, its frames and its tags.
@@ -29,7 +29,7 @@ fn library(alloc: Global, given: &[Given]) -> Result<Db, AllocError> {
             .push(song(alloc, uri, tags, *frames)?)
             .map_err(AllocError::from)?;
     }
-    Db::of_songs(alloc, songs).ok().ok_or(AllocError)
+    test_songs::library(alloc, songs)
 }
 
 /// All songs, in byte order of URI.
@@ -282,7 +282,7 @@ fn many(alloc: Global) -> Result<Db, AllocError> {
     for number in 0..300 {
         add_numbered(&mut songs, alloc, number)?;
     }
-    Db::of_songs(alloc, songs).ok().ok_or(AllocError)
+    test_songs::library(alloc, songs)
 }
 
 const MANY_ASKED: Asked = (

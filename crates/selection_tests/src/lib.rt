@@ -7,8 +7,6 @@ mod commands;
 #[cfg(test)]
 mod grouped_songs;
 #[cfg(test)]
-mod made_songs;
-#[cfg(test)]
 mod partitions;
 #[cfg(test)]
 mod tags;

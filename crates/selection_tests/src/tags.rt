@@ -1,6 +1,5 @@
 //! The tags that clients know: their names, the texts that a song has of them, sets of them, and the lines that
 //! a set shows of a song.
-use crate::made_songs::{Tags, song};
 use known_tags::{
     KNOWN_TAGS, KnownTag, TagSet, all_tags_show_the_whole_song, each_name_is_read_back,
     push_shared_with, push_song_with, push_tagtypes,
@@ -9,6 +8,7 @@ use mpd_text::{Answer, Song, TAG_NAMES, TagName};
 use song_db::{Rate, SharedSong, push_song, texts_and_length_are_the_song};
 use std::alloc::{AllocError, Global};
 use std::test::Fail;
+use test_songs::{Tags, song};
 use wanted::{Told, wants};
 
 /// The 31 names, in letters of which every second one is large.

@@ -1,60 +1,22 @@
 //! A player that is lent a shelf.
 use command_lists::ListForm;
 use mpd_command::{CommandSet, Request};
-use mpd_text::Song;
-use partition::{Limits, ListOutcome, Partition, Setup};
+use partition::Partition;
 use player_events::Event;
-use player_state::{Library, Outputs, Scan};
+use player_state::Outputs;
 use shelf::Shelf;
-use song_db::{Db, Rate, SharedDb};
 use std::alloc::{AllocError, Global};
+use test_players::{library, list_answer, player, requests};
+use test_songs::song;
 use transitions::Stand;
 use wanted::Told;
 
-/// A song without tags.
-fn song(alloc: Global, uri: &str, frames: u64) -> Result<Song, AllocError> {
-    let uri = String::from_str(alloc, uri)?;
-    match Song::new(uri, Vec::new(alloc), frames) {
-        Some(song) => Ok(song),
-        None => Err(AllocError),
-    }
-}
-
-/// A song of one second, and one of four frames.
-fn songs(alloc: Global) -> Result<Vec<Song>, AllocError> {
-    let mut songs = Vec::new(alloc);
-    songs.push(song(alloc, "a.wav", 8000)?)?;
-    songs.push(song(alloc, "s.wav", 4)?)?;
-    Ok(songs)
-}
-
-fn library(alloc: Global) -> Result<Library, AllocError> {
-    let Ok(songs) = Db::of_songs(alloc, songs(alloc)?) else {
-        return Err(AllocError);
-    };
-    Ok(Library {
-        songs: SharedDb::new(alloc, songs)?,
-        rate: Rate::lowest(),
-        scan: Scan::never(),
-        updated: 0,
-    })
-}
-
-/// A player without outputs, whose window has at most two events.
+/// A player over a song of one second and one of four frames, without outputs, whose window has at most two events.
 fn opened(alloc: Global) -> Result<Partition, AllocError> {
-    let limits = Limits {
-        max_queue: 16384,
-        max_version: 2147483647,
-        max_id: 2147483647,
-        max_cut: 9223372036854775807,
-        history: 2,
-    };
-    let setup = Setup {
-        limits,
-        random_start: 0,
-        outputs: Outputs::none(alloc),
-    };
-    Partition::open(alloc, setup, library(alloc)?)
+    let mut songs = Vec::new(alloc);
+    songs.push(song(alloc, "a.wav", &[], 8_000)?)?;
+    songs.push(song(alloc, "s.wav", &[], 4)?)?;
+    player(alloc, 2, Outputs::none(alloc), library(alloc, songs)?)
 }
 
 /// Applies an event, and adds what the client hears of it.
@@ -79,24 +41,6 @@ fn says<S: Shelf>(
     }
 }
 
-/// The requests of the commands between semicolons.
-fn requests(alloc: Global, commands: &str) -> Result<Vec<Request>, AllocError> {
-    let mut requests = Vec::new(alloc);
-    for command in commands.split(';') {
-        requests.push(Request::of_line(alloc, command, CommandSet::base())?)?;
-    }
-    Ok(requests)
-}
-
-/// Adds what the client hears of a list before its end.
-fn add_answer(told: &mut Told, alloc: Global, outcome: &ListOutcome) {
-    let mut bytes = Vec::new(alloc);
-    if outcome.push_text(&mut bytes).is_err() {
-        told.fail();
-    }
-    told.add(str::from_utf8(&bytes).unwrap_or("no text\n"));
-}
-
 /// Runs a list of the commands between semicolons, and adds what the client hears before its end.
 fn lists<S: Shelf>(
     told: &mut Told,
@@ -109,7 +53,7 @@ fn lists<S: Shelf>(
         return told.fail();
     };
     match player.run_list(3, shelf, 1, ListForm::ListOk, requests) {
-        Ok(outcome) => add_answer(told, alloc, &outcome),
+        Ok(outcome) => told.add_made(list_answer(alloc, &outcome)),
         Err(_) => told.add("not run\n"),
     }
 }
