@@ -1,4 +1,5 @@
 """The kinds of hostile inputs for a running daemon: bytes from a client, files of the playlist store, and saved states."""
+import errno
 import os
 import socket
 import sqlite3
@@ -112,9 +113,10 @@ class Bytes(Kind):
                 while piece and len(held) < ENOUGH:
                     piece = received(client, daemon, limit)
                     held += piece
-            except (ConnectionResetError, BrokenPipeError):
+            except OSError as fault:
                 # The daemon closed the connection before everything was sent, for instance because a line is too long.
-                pass
+                if fault.errno not in (errno.ECONNRESET, errno.EPIPE, errno.ENOTCONN):
+                    raise
         lines = held.decode('utf-8', 'backslashreplace').split('\n')[:-1]
         for line in lines:
             check_answer_line(line)
