@@ -17,6 +17,7 @@ sys.dont_write_bytecode = True
 from daemon import Daemon, Table, program_of, put_songs
 
 GOOD = 'music = "%(music)s"\nlisten = "127.0.0.1:%(taken)d"\n'
+OUTPUT = '[[output]]\nname = "%s"\npath = "/nosuch"\n'
 # what is wrong, the settings (None: there is no file), and the line that is printed
 CASES = [
     ('no settings file', None, 'cannot read %(settings)s'),
@@ -28,6 +29,8 @@ CASES = [
     ('no music', 'listen = ""', 'bad setting music'),
     ('history of 0', GOOD + 'history = 0', 'bad setting history'),
     ('an output without its path', GOOD + '[[output]]\nname = "a"', 'bad setting output'),
+    ('two outputs of one name', GOOD + OUTPUT % 'a' + OUTPUT % 'b' + OUTPUT % 'a', 'bad setting output'),
+    ('a line break in the name of an output', GOOD + OUTPUT % r'a\nb', 'bad setting output'),
     ('a line break in a key', GOOD + '"a\\nb" = 1', r'bad setting a\nb'),
     ('bad settings, reported before a bad shelf', GOOD + 'shelf = "/nosuch/shelf"\nring = 1', 'bad setting ring'),
     ('a shelf in a folder that does not exist', GOOD + 'shelf = "/nosuch/shelf"', 'cannot open shelf'),

@@ -164,6 +164,27 @@ name = \"a\"
 
 [[output]]
 name = \"a\"
+path = \"/p\"
+[[output]]
+name = \"A\"
+path = \"/p\"
+=> /m 127.0.0.1:0 - - 44100 0 4096 8192 false a=/p:true A=/p:true
+
+[[output]]
+name = \"a\"
+path = \"/a\"
+[[output]]
+name = \"a\"
+path = \"/b\"
+=> BadSetting(output)
+
+[[output]]
+name = \"a\\nb\"
+path = \"/a\"
+=> BadSetting(output)
+
+[[output]]
+name = \"a\"
 path = \"/a\"
 port = 1
 => BadSetting(output)
@@ -205,10 +226,13 @@ listen = \"\"
 music = \"\"
 =>   - - 44100 0 4096 8192 false";
 
-const OUTPUT: &str = "[[output]]\nname = \"a\"\npath = \"/a\"\n";
-
-fn told_of_outputs(alloc: Global, count: usize) -> Result<String, AllocError> {
-    told(alloc, NEEDED, OUTPUT.repeat(alloc, count)?.as_str())
+/// What comes of outputs with these names.
+fn told_of_outputs(alloc: Global, names: &str) -> Result<String, AllocError> {
+    let mut lines = Told::new(alloc);
+    for name in names.split(' ') {
+        lines.add(format_args!("[[output]]\nname = \"{name}\"\npath = \"/{name}\"\n"));
+    }
+    told(alloc, NEEDED, lines.into_text()?.as_str())
 }
 
 /// What is added to the keys that must be there, whole texts, and the most outputs.
@@ -217,10 +241,17 @@ fn texts_as_settings(rt: HostRuntime) -> Result<(), Fail> {
     each_comes_to(rt.alloc(), NEEDED, ADDED)?;
     each_comes_to(rt.alloc(), "", WHOLE)?;
     wants(
-        told_of_outputs(rt.alloc(), 8),
-        "/m 127.0.0.1:0 - - 44100 0 4096 8192 false a=/a:true a=/a:true a=/a:true a=/a:true a=/a:true a=/a:true a=/a:true a=/a:true",
+        told_of_outputs(rt.alloc(), "a b c d e f g h"),
+        "/m 127.0.0.1:0 - - 44100 0 4096 8192 false a=/a:true b=/b:true c=/c:true d=/d:true e=/e:true f=/f:true g=/g:true h=/h:true",
     )?;
-    wants(told_of_outputs(rt.alloc(), 9), "BadSetting(output)")
+    wants(
+        told_of_outputs(rt.alloc(), "a b c d e f g a"),
+        "BadSetting(output)",
+    )?;
+    wants(
+        told_of_outputs(rt.alloc(), "a b c d e f g h i"),
+        "BadSetting(output)",
+    )
 }
 
 /// What stands for control characters, and that all else stays.

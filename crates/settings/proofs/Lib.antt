@@ -3,3 +3,4 @@ pub mod First
 pub mod Causes
 pub mod Texts
 pub mod OneLines
+pub mod Names

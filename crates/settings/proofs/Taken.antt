@@ -1,5 +1,5 @@
 -- What is read of values that their keys take.
-use Rattle.std.proofs.Common.{◌≡◌, ◌+◌, ◌<◌, ◌≤◌, ◌∙◌, ℕ, List, [], ◌∷◌, ◌++◌, nat_le, leb-true, length, get_or, drop, take, pos, negsuc, Bool, cond, true, false, refl, sym, ap, arith, Vec, Global, Result, Ok, Err, Option, Some, None, Ordering, Less, Equal, Greater, nat_cmp, subst}
+use Rattle.std.proofs.Common.{◌≡◌, ◌+◌, ◌<◌, ◌≤◌, ◌∙◌, ℕ, List, [], ◌∷◌, ◌++◌, nat_le, leb-true, length, get_or, drop, take, pos, negsuc, Bool, ◌&&◌, cond, true, false, refl, sym, ap, arith, Vec, Global, Result, Ok, Err, Option, Some, None, Ordering, Less, Equal, Greater, nat_cmp, subst}
 use Rattle.std.specs.Prelude.{IfOk, unwrap_or, vec_len}
 use Rattle.std.proofs.lemmas.List.{take_more}
 use Rattle.std.proofs.lemmas.Bool.{false≢true, and_parts}
@@ -9,15 +9,24 @@ use Rattle.std.specs.Ordering.{match_ordering}
 use Rattle.toml.specs.Data.{Data, string, integer, float, boolean, datetime, array, table, Items, no_items, item, push_item, Members, no_members, member, as_array, as_bool, as_str, as_table, get_member}
 use Rattle.toml.specs.View.{items_view, view}
 use Rattle.toml.specs.declared.value.Value.{Value}
-use Rattle.settings.specs.Keys.{Key, absent, are_none, are_outputs, bad, each_output, is_flag, is_good, is_natural, is_number, is_output, is_text, item_count, natural, output_keys}
+use Rattle.settings.specs.Keys.{Key, absent, all_differ, are_none, are_outputs, bad, each_output, is_flag, is_good, is_line, is_natural, is_number, is_output, is_text, item_count, names_of, natural, output_keys}
 use Rattle.settings.specs.Values.{AreOutputs, IsOutput, SaysOutput}
 use Rattle.settings.specs.declared.values.OutputSettings.{OutputSettings}
 use Rattle.toml.proofs.Views.{items_view-drop, items_view-push}
 
-none≢some : {X : Type 0} {x : X} → None ≡ Some x → ⊥
+pub none≢some : {X : Type 0} {x : X} → None ≡ Some x → ⊥
 none≢some e = cc
 
 -- ---- a value of each kind
+
+pub line_is_text : (d : Data) → is_line d ≡ true → is_text d ≡ true
+line_is_text (string s) good = refl
+line_is_text (integer z) good = absurd (false≢true good)
+line_is_text (float x) good = absurd (false≢true good)
+line_is_text (boolean b) good = absurd (false≢true good)
+line_is_text (datetime dt) good = absurd (false≢true good)
+line_is_text (array ds) good = absurd (false≢true good)
+line_is_text (table ms) good = absurd (false≢true good)
 
 pub text_is_there : (d : Data) → is_text d ≡ true → as_str d ≡ None → ⊥
 text_is_there (string s) good e = cc
@@ -169,13 +178,15 @@ outputs_left vs i d within each =
     let here : each_output (item (view (get_or vs i d)) (items_view (drop (i + 1) vs))) ≡ true = rw (items_view-drop vs i d within) at each in
     and_parts (is_output (view (get_or vs i d))) (each_output (items_view (drop (i + 1) vs))) here
 
-pub outputs_are_good : (d : Data) (vs : List Value) → are_outputs d ≡ true → as_array d ≡ Some (items_view vs) → (length vs ≤ 8) × (each_output (items_view vs) ≡ true)
+pub outputs_are_good : (d : Data) (vs : List Value) → are_outputs d ≡ true → as_array d ≡ Some (items_view vs)
+    → (length vs ≤ 8) × (each_output (items_view vs) ≡ true) × (all_differ (names_of (items_view vs)) ≡ true)
 outputs_are_good (array ds) vs e is =
     let same : ds ≡ items_view vs = cc in
-    let both = and_parts (nat_le (item_count ds) 8) (each_output ds) e in
-    let few : item_count ds ≤ 8 = leb-true _ _ both.0 in
+    let both = and_parts (nat_le (item_count ds) 8 && each_output ds) (all_differ (names_of ds)) e in
+    let first = and_parts (nat_le (item_count ds) 8) (each_output ds) both.0 in
+    let few : item_count ds ≤ 8 = leb-true _ _ first.0 in
     let count : item_count ds ≡ length vs = ap item_count same ∙ item_count_of_view vs in
-    (omega arith, subst (λ xs. each_output xs ≡ true) same both.1)
+    (omega arith, subst (λ xs. each_output xs ≡ true) same first.1, subst (λ xs. all_differ (names_of xs) ≡ true) same both.1)
 outputs_are_good (string s) vs e is = absurd (false≢true e)
 outputs_are_good (integer z) vs e is = absurd (false≢true e)
 outputs_are_good (float x) vs e is = absurd (false≢true e)

@@ -1,7 +1,7 @@
 -- Texts of settings, computed.
 use Rattle.std.proofs.Common.{refl, codes, inl, inr}
 use Rattle.toml.proofs.OnLiterals.{toml_on_literals}
-use Rattle.settings.specs.Readings.{Readings, Refuses}
+use Rattle.settings.specs.Readings.{Readings, Refuses, IsTakenText, with_three, with_two}
 use Rattle.settings.proofs.Causes.{first_alone, first_of_two}
 
 not_toml : Refuses (codes "music") (codes "")
@@ -32,6 +32,26 @@ output_fault : Refuses (codes "music = \"/m\"\nlisten = \"127.0.0.1:0\"\n[[outpu
 unfolding toml_on_literals
 output_fault = inl (first_alone (codes "output"))
 
+two_names : IsTakenText (with_two (codes "a") (codes "b"))
+unfolding toml_on_literals
+two_names = record { good = refl; whole = refl }
+
+two_cases : IsTakenText (with_two (codes "a") (codes "A"))
+unfolding toml_on_literals
+two_cases = record { good = refl; whole = refl }
+
+one_name : Refuses (with_two (codes "a") (codes "a")) (codes "output")
+unfolding toml_on_literals
+one_name = inl (first_alone (codes "output"))
+
+name_again : Refuses (with_three (codes "a") (codes "b") (codes "a")) (codes "output")
+unfolding toml_on_literals
+name_again = inl (first_alone (codes "output"))
+
+line_feed : Refuses (with_two (codes "a\\nb") (codes "c")) (codes "output")
+unfolding toml_on_literals
+line_feed = inl (first_alone (codes "output"))
+
 pub all : Readings
 unfolding toml_on_literals
 all = record {
@@ -53,6 +73,11 @@ all = record {
   no_key = no_key;
   two = two;
   output_fault = output_fault;
+  two_names = two_names;
+  two_cases = two_cases;
+  one_name = one_name;
+  name_again = name_again;
+  line_feed = line_feed;
   below_history = refl;
   least_history = refl;
   most_history = refl;

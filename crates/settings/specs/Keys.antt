@@ -1,14 +1,20 @@
 -- The keys of the settings, which are a text of TOML (TOML 1.1, Table and Array of Tables; the keys are this
 -- profile's).
-use Rattle.std.specs.Prelude.{ℕ, List, [], ◌∷◌, codes, pos, Bool, true, false, ◌&&◌, ◌+◌, nat_le, Option, Some, None, if◌then◌else◌}
+use Rattle.std.specs.Prelude.{ℕ, List, [], ◌∷◌, codes, pos, Bool, true, false, not, ◌&&◌, ◌+◌, ◌==◌, nat_le, Option, Some, None, option_and_then, unwrap_or, if◌then◌else◌}
+use Rattle.std.specs.List.{list_any}
 use Rattle.std.specs.Str.{bytes_eq}
-use Rattle.toml.specs.Data.{Data, string, integer, boolean, array, table, Items, no_items, item, Members, no_members, member, get_member}
+use Rattle.toml.specs.Data.{Data, string, integer, boolean, array, table, Items, no_items, item, Members, no_members, member, as_str, get, get_member}
 
 -- ---- what a value may be
 
 abbrev pub is_text : Data → Bool
 is_text (string s) = true
 is_text _ = false
+
+-- a text without a line feed
+abbrev pub is_line : Data → Bool
+is_line (string s) = not (list_any (λ byte. byte == 10) s)
+is_line _ = false
 
 abbrev pub is_flag : Data → Bool
 is_flag (boolean b) = true
@@ -74,7 +80,7 @@ are_none (name ∷ names) = false
 
 abbrev pub output_keys : List Key
 output_keys =
-    key (codes "name") is_text refused
+    key (codes "name") is_line refused
     ∷ key (codes "path") is_text refused
     ∷ key (codes "enabled") is_flag (stands_for (boolean true))
     ∷ key (codes "patience") (is_number 1 86400) nothing
@@ -92,9 +98,22 @@ abbrev pub each_output : Items → Bool
 each_output no_items = true
 each_output (item d rest) = is_output d && each_output rest
 
--- an array of at most 8 tables, each an output
+-- the name of an output, empty where it has none
+abbrev pub name_of : Data → List ℕ
+name_of d = unwrap_or (option_and_then as_str (get (codes "name") d)) []
+
+abbrev pub names_of : Items → List (List ℕ)
+names_of no_items = []
+names_of (item d rest) = name_of d ∷ names_of rest
+
+-- no two of the names are the same, byte by byte
+abbrev pub all_differ : List (List ℕ) → Bool
+all_differ [] = true
+all_differ (name ∷ names) = not (list_any (bytes_eq name) names) && all_differ names
+
+-- an array of at most 8 tables, each an output, and each of another name
 abbrev pub are_outputs : Data → Bool
-are_outputs (array ds) = nat_le (item_count ds) 8 && each_output ds
+are_outputs (array ds) = nat_le (item_count ds) 8 && each_output ds && all_differ (names_of ds)
 are_outputs _ = false
 
 abbrev pub settings_keys : List Key

@@ -1,9 +1,9 @@
 -- What some texts are (TOML 1.1; the keys are this profile's), and where the ranges end.
-use Rattle.std.specs.Prelude.{◌≡◌, ℕ, List, codes, pos, negsuc, Bool, true, false, Some, None}
+use Rattle.std.specs.Prelude.{◌≡◌, ℕ, List, ◌++◌, codes, pos, negsuc, Bool, true, false, Some, None}
 use Rattle.toml.specs.Data.{Data, Members, array, boolean, integer, member, no_items, no_members, string}
 use Rattle.toml.specs.Parse.{parse_document}
 use Rattle.settings.specs.Keys.{is_good, output_keys, settings_keys}
-use Rattle.settings.specs.Refusals.{IsRefusedFor, IsTaken}
+use Rattle.settings.specs.Refusals.{IsRefusedFor, IsTaken, IsTakenDocument}
 use Rattle.settings.specs.Values.{value}
 
 -- the two keys that must be there
@@ -19,6 +19,20 @@ IsThere name d = value settings_keys name least_table ≡ Some d
 
 abbrev pub Refuses : List ℕ → List ℕ → Type 0
 Refuses text name = IsRefusedFor (parse_document text) name
+
+abbrev pub IsTakenText : List ℕ → Type 0
+IsTakenText text = IsTakenDocument (parse_document text)
+
+-- the lines of an output whose name is written so between its quotes
+abbrev pub output_lines : List ℕ → List ℕ
+output_lines name = codes "[[output]]\nname = \"" ++ name ++ codes "\"\npath = \"/p\"\n"
+
+-- the two keys that must be there, and outputs with these names
+abbrev pub with_two : List ℕ → List ℕ → List ℕ
+with_two one other = least_text ++ output_lines one ++ output_lines other
+
+abbrev pub with_three : List ℕ → List ℕ → List ℕ → List ℕ
+with_three one other last = with_two one other ++ output_lines last
 
 -- a key takes this number, or does not
 abbrev pub takes : List ℕ → ℕ → Bool
@@ -51,6 +65,14 @@ pub record Readings : Type 0 where
   pub two : Refuses (codes "zone = 1\nport = 1\n") (codes "port")
   -- an output without its path
   pub output_fault : Refuses (codes "music = \"/m\"\nlisten = \"127.0.0.1:0\"\n[[output]]\nname = \"a\"\n") (codes "output")
+  -- two outputs with names of their own, which are compared byte by byte
+  pub two_names : IsTakenText (with_two (codes "a") (codes "b"))
+  pub two_cases : IsTakenText (with_two (codes "a") (codes "A"))
+  -- two outputs of one name, side by side or not
+  pub one_name : Refuses (with_two (codes "a") (codes "a")) (codes "output")
+  pub name_again : Refuses (with_three (codes "a") (codes "b") (codes "a")) (codes "output")
+  -- a name with a line feed
+  pub line_feed : Refuses (with_two (codes "a\\nb") (codes "c")) (codes "output")
   -- the ends of the ranges
   pub below_history : takes (codes "history") 0 ≡ false
   pub least_history : takes (codes "history") 1 ≡ true

@@ -1,5 +1,5 @@
 -- Which settings a table is (this profile's).
-use Rattle.std.specs.Prelude.{◌≡◌, ◌≤◌, ⊤, ℕ, List, [], ◌∷◌, codes, pos, Option, Some, None, option_map, String, string_bytes, true, vec_len, Bool, if◌then◌else◌}
+use Rattle.std.specs.Prelude.{◌≡◌, ◌≢◌, ◌≤◌, ⊤, ℕ, List, [], ◌∷◌, AllPairs, codes, pos, Option, Some, None, option_map, String, string_bytes, true, vec_len, Bool, if◌then◌else◌}
 use Rattle.std.specs.Global.{Global}
 use Rattle.std.specs.Option.{ForSome}
 use Rattle.std.specs.Str.{bytes_eq}
@@ -86,3 +86,7 @@ pub record AreWithin (settings : Settings) : Type 0 where
   pub history : (1 ≤ settings.history) × (settings.history ≤ 65536)
   pub ring : (1024 ≤ settings.ring) × (settings.ring ≤ 65536)
   pub outputs : vec_len settings.outputs ≤ 8
+
+-- no two outputs have the same name
+abbrev pub HaveOwnNames : List OutputSettings → Type 0
+HaveOwnNames outputs = AllPairs (λ one other. string_bytes one.name ≢ string_bytes other.name) outputs

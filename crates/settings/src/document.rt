@@ -2,7 +2,7 @@
 ghost use Rattle.std.specs.Prelude.{◌≡◌, Some, IfErr, IfOk, codes};
 ghost use Rattle.settings.specs.Refusals.{IsRefusedBy, IsRefusedFor, IsTaken};
 ghost use Rattle.settings.specs.Keys.{is_number};
-ghost use Rattle.settings.specs.Values.{AreWithin, IsNumberAt, PassesAt, Says};
+ghost use Rattle.settings.specs.Values.{AreWithin, HaveOwnNames, IsNumberAt, PassesAt, Says};
 ghost use Rattle.toml.specs.Data.{Members};
 ghost use Rattle.toml.specs.Parse.{parse_document};
 ghost use Rattle.toml.specs.View.{table_view};
@@ -21,6 +21,7 @@ pub fn settings(alloc: Global, text: &str) -> Result<Settings, SettingsFault>
     ensures taken { IfOk result (λ settings. (entries : Members) × (parse_document text.now ≡ Some entries)
         × IsTaken entries × Says entries settings) }
     ensures within { IfOk result AreWithin }
+    ensures own_names { IfOk result (λ settings. HaveOwnNames settings.outputs.items) }
     // It is refused for the one key that the definition names.
     ensures refused { IfErr result (IsRefusedBy (parse_document text.now)) }
 {
@@ -34,6 +35,7 @@ pub fn settings(alloc: Global, text: &str) -> Result<Settings, SettingsFault>
 fn settings_of(alloc: Global, table: &Table) -> Result<Settings, SettingsFault>
     ensures taken { IfOk result (λ settings. IsTaken (table_view table.now) × Says (table_view table.now) settings) }
     ensures within { IfOk result AreWithin }
+    ensures own_names { IfOk result (λ settings. HaveOwnNames settings.outputs.items) }
     ensures refused { IfErr result (IsRefusedBy (Some (table_view table.now))) }
 {
     if let Some(name) = first_fault(table) {
@@ -58,6 +60,7 @@ fn read(alloc: Global, table: &Table) -> Result<Settings, AllocError>
     requires { IsTaken (table_view table.now) }
     ensures says { IfOk result (Says (table_view table.now)) }
     ensures within { IfOk result AreWithin }
+    ensures own_names { IfOk result (λ settings. HaveOwnNames settings.outputs.items) }
 {
     Ok(Settings {
         music: text_at(alloc, table, "music")?,

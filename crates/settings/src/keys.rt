@@ -1,9 +1,11 @@
 //! Which keys a table may have, and which values may be there.
 ghost use Rattle.std.specs.Prelude.{◌≡◌, ◌≤◌, is_some, option_map};
+ghost use Rattle.std.specs.List.{list_any};
+ghost use Rattle.std.specs.Str.{bytes_eq};
 ghost use Rattle.settings.specs.Keys as keys;
 ghost use Rattle.settings.specs.Keys.{bad, output_keys, settings_keys};
 ghost use Rattle.toml.specs.Data.{get_member};
-ghost use Rattle.toml.specs.View.{array_view, table_view, view};
+ghost use Rattle.toml.specs.View.{array_view, items_view, table_view, view};
 
 use toml::value::Array;
 use toml::{Table, Value};
@@ -62,10 +64,21 @@ fn is_good_output(name: &str, value: &Value) -> bool
     ensures { result ≡ keys.is_good output_keys name.now (view value.now) }
 {
     match name {
-        "name" | "path" => value.is_str(),
+        "name" => is_line(value),
+        "path" => value.is_str(),
         "enabled" => value.is_bool(),
         "patience" => is_number(value, LEAST_PATIENCE, MOST_PATIENCE),
         _ => false,
+    }
+}
+
+/// Whether the value is a text without a line feed.
+fn is_line(value: &Value) -> bool
+    ensures { result ≡ keys.is_line (view value.now) }
+{
+    match value.as_str() {
+        Some(text) => !text.as_bytes().contains(&b'\n'),
+        None => false,
     }
 }
 
@@ -88,13 +101,13 @@ fn is_number(value: &Value, least: u32, most: u32) -> bool
     }
 }
 
-/// Whether the value is an array of at most 8 outputs.
+/// Whether the value is an array of at most 8 outputs, each of another name.
 #[tactic(auto, using(crate::proofs::Taken::item_count_of_view))]
 fn are_outputs(value: &Value) -> bool
     ensures { result ≡ keys.are_outputs (view value.now) }
 {
     match value.as_array() {
-        Some(items) => items.len() <= 8 && each_output(items),
+        Some(items) => items.len() <= 8 && each_output(items) && have_own_names(items),
         None => false,
     }
 }
@@ -108,6 +121,38 @@ fn each_output(items: &Array) -> bool
         }
     }
     true
+}
+
+/// Whether no two of the outputs have the same name.
+#[tactic(auto, using(crate::proofs::Names::any_of_names))]
+fn have_own_names(outputs: &[Value]) -> bool
+    ensures { result ≡ keys.all_differ (keys.names_of (items_view outputs.now)) }
+{
+    let mut rest = outputs;
+    'outputs: while let Some((output, others)) = rest.split_first() {
+        if has_named(others, name_of(output)) {
+            return false;
+        }
+        rest = others;
+    }
+    true
+}
+
+/// Whether one of the outputs has this name.
+fn has_named(outputs: &[Value], name: &str) -> bool
+    ensures { result ≡ list_any (λ output. bytes_eq name.now (keys.name_of (view output))) outputs.now }
+{
+    outputs.iter().any(|output| name == name_of(output))
+}
+
+/// The name of an output; empty where it has none.
+fn name_of(output: &Value) -> &str
+    ensures { result.now ≡ keys.name_of (view output.now) }
+{
+    match output.get("name") {
+        Some(name) => name.as_str().unwrap_or(""),
+        None => "",
+    }
 }
 
 /// Whether the value is a table with the keys of an output, and no other.

@@ -1,7 +1,7 @@
 //! What is read of a table that is taken.
 ghost use Rattle.std.specs.Prelude.{◌≡◌, ◌≤◌, Some, string_bytes, true, IfOk, IfSome, IsSome, vec_len};
 ghost use Rattle.settings.specs.Keys.{are_outputs, each_output, is_flag, is_natural, is_number, is_output, is_text, stands_for};
-ghost use Rattle.settings.specs.Values.{AreOutputs, AreOutputsAt, IsNumberAt, IsOutput, IsNumberOrNoneAt, IsTextAt, IsTextOrNoneAt, PassesAt, found_at};
+ghost use Rattle.settings.specs.Values.{AreOutputs, AreOutputsAt, HaveOwnNames, IsNumberAt, IsOutput, IsNumberOrNoneAt, IsTextAt, IsTextOrNoneAt, PassesAt, found_at};
 ghost use Rattle.toml.specs.Data.{boolean, get_member};
 ghost use Rattle.toml.specs.View.{array_view, table_view, view};
 
@@ -102,6 +102,7 @@ pub(crate) fn outputs_at(
     requires { PassesAt are_outputs name.now (table_view table.now) }
     ensures says { IfOk result (λ outputs. AreOutputsAt name.now (table_view table.now) outputs.items) }
     ensures most { IfOk result (λ outputs. vec_len outputs ≤ 8) }
+    ensures own_names { IfOk result (λ outputs. HaveOwnNames outputs.items) }
 {
     let Some(value) = value_at(table, name) else {
         return Ok(Vec::new(alloc));

@@ -26,14 +26,14 @@ pub struct Settings {
     pub kill: bool,
     /// Whether the commands and forms of the everyday profile are there; by default they are not.
     pub everyday: bool,
-    /// The outputs, at most 8, in the order of the text.
+    /// The outputs, at most 8, each with a name of its own, in the order of the text.
     pub outputs: Vec<OutputSettings>,
 }
 
 /// An output.
 #[derive(Drop)]
 pub struct OutputSettings {
-    /// Its name.
+    /// Its name, without a line feed.
     pub name: String,
     /// The file that it writes.
     pub path: String,

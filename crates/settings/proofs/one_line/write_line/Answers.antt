@@ -1,4 +1,4 @@
-use Rattle.std.proofs.Common.{[], flat_map, encode_utf8_all, sym, ap, ◌∙◌, map-id, rules}
+use Rattle.std.proofs.Common.{flat_map, encode_utf8_all, sym, ap, ◌∙◌, map-id, rules}
 use Rattle.std.proofs.Output.{has_written_append, has_written_of_eq}
 use Rattle.std.proofs.lemmas.Iterator.{YieldsList-from_chars}
 use Rattle.std.proofs.lemmas.Iterator.Consumers.{YieldsList-end}

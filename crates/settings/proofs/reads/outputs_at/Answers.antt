@@ -1,6 +1,7 @@
 use Rattle.std.proofs.Common.{◌≡◌, ◌≤◌, Some, None, sym, arith, refl, vec_len}
 use Rattle.toml.specs.Data.{as_array, get_member, no_items}
 use Rattle.toml.specs.View.{array_view, table_view, view}
+use Rattle.settings.proofs.Names.{own_names_if_ok}
 use Rattle.settings.proofs.Taken.{array_is_there, few_if_ok, outputs_are_good}
 use Rattle.settings.proofs.reads.outputs_at.Goals as goal
 
@@ -28,3 +29,10 @@ returns-clause-most c =
     let few = (outputs_are_good (view c.in-Some.value.now) c.in-Some-as_array.items.now.items (c.requires _ (sym is)) (sym items)).0 in
     let at_most : vec_len c.in-Some-as_array.items.now ≤ 8 = omega (arith, c.in-Some-as_array.items.now.ok.0) in
     few_if_ok c.outputs_of.result _ 8 c.outputs_of.ensures.as_many at_most
+
+pub returns-clause-own_names : goal.returns-clause-own_names
+returns-clause-own_names c =
+    let is : Some (view c.in-Some.value.now) ≡ get_member c.args.name.now (table_view c.args.table.now) = c.in-Some.ensures in
+    let items : Some (array_view c.in-Some-as_array.items.now) ≡ as_array (view c.in-Some.value.now) = c.in-Some-as_array.ensures in
+    let differ = (outputs_are_good (view c.in-Some.value.now) c.in-Some-as_array.items.now.items (c.requires _ (sym is)) (sym items)).2 in
+    own_names_if_ok c.outputs_of.result (array_view c.in-Some-as_array.items.now) c.outputs_of.ensures.says differ
