@@ -12,7 +12,7 @@ use crew_steps::{Gate, Open, output_setups};
 use frame_ledger::{OutputShares, SettleFault, Settled};
 use held_player::{Blanks, CrewShares, Settlement};
 use house::House;
-use house_rooms::{blanks, comes, says};
+use house_rooms::{comes, says};
 use mpd_text::SharedText;
 use partition::{Partition, PartitionFault};
 use player_state::Outputs;
@@ -473,7 +473,15 @@ pub(crate) fn one_day<
     // Ghost members cannot be picked at a call with a `&str`.
     let went_well = match String::from_str(alloc, script) {
         Ok(script) => {
-            run_day::<Brand, O, G, N, V, R>(rt, alloc, blanks(), stage, &script, watch, &mut day)
+            run_day::<Brand, O, G, N, V, R>(
+                rt,
+                alloc,
+                Blanks::new(),
+                stage,
+                &script,
+                watch,
+                &mut day,
+            )
         }
         Err(_) => false,
     };

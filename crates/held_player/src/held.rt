@@ -26,6 +26,28 @@ pub struct Blanks {
     pub frames: FrameBlanks,
 }
 
+impl Blanks {
+    ghost use Rattle.held_player.specs.Blanks.{HasPartsOfFrames, HasSeatsOfOnePart};
+
+    /// Seven new ledgers; those of written and discarded frames have a part for each output, and one more.
+    pub fn new() -> Blanks
+        ensures seats { HasSeatsOfOnePart result }
+        ensures frames { HasPartsOfFrames result }
+    {
+        Blanks {
+            first: Blank::new(1),
+            second: Blank::new(1),
+            third: Blank::new(1),
+            fourth: Blank::new(1),
+            frames: FrameBlanks {
+                decoded: Blank::new(1),
+                written: Blank::new(9),
+                discarded: Blank::new(9),
+            },
+        }
+    }
+}
+
 /// The whole shares of the books of frames, which the house's own threads have.
 #[derive(Drop)]
 pub struct CrewShares<L: Ledgers> {

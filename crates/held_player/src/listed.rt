@@ -1,6 +1,5 @@
 //! A command list under the lock, with room for the notices that it gives.
 ghost use Rattle.std.specs.Prelude.{◌≡◌, [], IfErr, IfOk, map, slice_index_or};
-ghost use Rattle.mpd_command.specs.Requests.{name_in};
 ghost use Rattle.counted_player.specs.Counts.{MayFind, done_in};
 ghost use Rattle.counted_player.specs.Seats.{after_events};
 ghost use Rattle.held_player.specs.Lists.{StopsAmid, TellsAll, notices_in, unbegun as unbegun_lem};
@@ -11,7 +10,7 @@ use crate::player::Core;
 use command_lists::ListForm;
 use counted_player::{Ledgers, Seat};
 use mpd_command::Request;
-use partition::{ListFault, ListOutcome, PartitionFault};
+use partition::{ListFault, ListOutcome, PartitionFault, first_name};
 use shelf::Shelf;
 use std::alloc::Global;
 
@@ -56,15 +55,5 @@ fn unbegun(alloc: Global, requests: &[Request]) -> ListFault
         outcomes: Vec::new(alloc),
         command: first_name(requests),
         cause: PartitionFault::NoMemory,
-    }
-}
-
-/// The name of the command that the first request asks for.
-fn first_name(requests: &[Request]) -> &'static str
-    ensures { result.now ≡ slice_index_or (map name_in requests.now) 0 [] }
-{
-    match requests {
-        [first, ..] => first.name(),
-        [] => "",
     }
 }

@@ -4,12 +4,11 @@
 
 ghost use Rattle.frame_ledger.specs.Shares.{HasAllParts};
 ghost use Rattle.std.specs.Prelude.{◌≡◌, ◌+◌, ◌<◌, IfOk, OnOk};
-ghost use Rattle.held_player.specs.Blanks.{AreFor, HasPartsOfFrames, HasSeatsOfOnePart};
+ghost use Rattle.held_player.specs.Blanks.{AreFor};
 ghost use Rattle.counted_player.specs.Seats.{place};
 
 use command_lists::ListForm;
 use counted_player::{Ledgers, Seat};
-use frame_ledger::Blanks as FrameBlanks;
 use held_player::{AnsweredList, Blanks, CrewShares, News};
 use house::House;
 use mpd_command::{CommandSet, Request};
@@ -19,27 +18,8 @@ use player_state::Outputs;
 use shelf::MemShelf;
 use std::alloc::{AllocError, Global};
 use std::sync::Wait;
-use std::sync::ledger::Blank;
 use test_players::{library, list_answer, player, requests};
 use test_songs::song;
-
-/// Seven new ledgers.
-pub fn blanks() -> Blanks
-    ensures first { HasSeatsOfOnePart result }
-    ensures frames { HasPartsOfFrames result }
-{
-    Blanks {
-        first: Blank::new(1),
-        second: Blank::new(1),
-        third: Blank::new(1),
-        fourth: Blank::new(1),
-        frames: FrameBlanks {
-            decoded: Blank::new(1),
-            written: Blank::new(9),
-            discarded: Blank::new(9),
-        },
-    }
-}
 
 /// Two songs of a second.
 fn songs(alloc: Global) -> Result<Vec<Song>, AllocError> {

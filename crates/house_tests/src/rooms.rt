@@ -8,7 +8,7 @@ use crate::{callers, days, frames, notices, own_songs, rests};
 use counted_player::{Ledgers, Seat};
 use held_player::{Blanks, CrewShares};
 use house::House;
-use house_rooms::{blanks, opened};
+use house_rooms::opened;
 use partition::PartitionFault;
 use std::alloc::{AllocError, Global};
 use std::marker::Brand;
@@ -122,7 +122,7 @@ pub(crate) fn told<R: Threads + Wait + Clock + Sync>(
     which: Day,
 ) -> Result<String, AllocError> {
     let mut told = Told::new(alloc);
-    evening::<Brand, R>(rt, alloc, blanks(), history, which, &mut told);
+    evening::<Brand, R>(rt, alloc, Blanks::new(), history, which, &mut told);
     told.into_text()
 }
 

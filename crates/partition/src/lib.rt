@@ -12,5 +12,5 @@ mod state;
 
 pub use laws::{entries_are_whole, folds_are_unseen, reads_pending, replays_worlds};
 pub use lists::{ListFault, ListOutcome};
-pub use partition::{Partition, PartitionFault};
+pub use partition::{Partition, PartitionFault, first_name};
 pub use state::{Limits, MAX_CLIENTS, MAX_OWN, Setup};

@@ -529,8 +529,8 @@ fn last_bytes(history: &[Logged]) -> u64
     }
 }
 
-/// The name of the command that the first request asks for.
-fn first_name(requests: &[Request]) -> &'static str
+/// The name of the command that the first request asks for; empty where there is none.
+pub fn first_name(requests: &[Request]) -> &'static str
     ensures { result.now ≡ slice_index_or (map name_in requests.now) 0 [] }
 {
     match requests {

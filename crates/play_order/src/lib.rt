@@ -17,3 +17,4 @@ pub use laws::{
 };
 pub use modes::{Consume, Modes, Rank, Single};
 pub use round::Round;
+pub use scan::entry_with;

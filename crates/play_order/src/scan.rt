@@ -188,8 +188,8 @@ fn get_left(queue: &Queue, from: usize, end: usize, place: usize) -> Option<&Ent
     queue.get(place + taken)
 }
 
-/// The entry with an id.
-pub(crate) fn entry_with(queue: &Queue, id: u32) -> Option<&Entry>
+/// The entry of the queue with an id, if there is one.
+pub fn entry_with(queue: &Queue, id: u32) -> Option<&Entry>
     ensures { option_copied result ≡ entry_of (queue_of queue.now) id }
 {
     match queue.position_of(id) {

@@ -16,7 +16,7 @@ mod starts;
 mod transport;
 
 use crate::state::{Fade, Job, Playback};
-use play_order::{Consume, Modes, Round, Single};
+use play_order::{Consume, Modes, Round, Single, entry_with};
 use song_queue::{Entry, Queue};
 use std::alloc::{AllocError, Global};
 use std::marker::Model;
@@ -204,7 +204,7 @@ impl Player {
         ensures { option_copied result ≡ steps.current_entry self.now (queue_of queue.now) }
     {
         match self.current {
-            Some(id) => entries::entry_with(queue, id),
+            Some(id) => entry_with(queue, id),
             None => None,
         }
     }

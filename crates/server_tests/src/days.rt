@@ -7,7 +7,7 @@ use counted_devices::Counting;
 use counted_player::{Ledgers, Seat};
 use held_player::{Blanks, News};
 use house::House;
-use house_rooms::{blanks, opened};
+use house_rooms::opened;
 use mpd_answers::Asker;
 use mpd_command::CommandSet;
 use mpd_session::{End, Session, SessionFault};
@@ -249,7 +249,7 @@ pub(crate) fn told_where<R: Wait>(
     steps: &[Step<'_>],
     may_kill: bool,
 ) -> Result<String, AllocError> {
-    day::<Brand>(rt, alloc, blanks(), steps, may_kill)
+    day::<Brand>(rt, alloc, Blanks::new(), steps, may_kill)
 }
 
 /// What the session of one client wrote that comes and says some pieces, and whose session then has so many turns

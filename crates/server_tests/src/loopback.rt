@@ -6,7 +6,7 @@ use crate::scanner::start_scanner;
 use counted_player::{Ledgers, Seat};
 use held_player::Blanks;
 use house::House;
-use house_rooms::{blanks, opened};
+use house_rooms::opened;
 use mio::net::TcpListener as Door;
 use mpd_command::CommandSet;
 use mpd_server::{ServeFault, Server, bind, start_waker};
@@ -138,7 +138,7 @@ fn serves_at_brand<R: Threads + Wait + Net + Clock + Copy + Send + 'static>(
     alloc: Global,
     door: Door,
 ) -> Result<(), ServeFault> {
-    serves::<Brand, R>(rt, alloc, blanks(), door)
+    serves::<Brand, R>(rt, alloc, Blanks::new(), door)
 }
 
 /// A client on its socket. A fault of it is kept, and after one it says and hears nothing more: who lets it act

@@ -1,6 +1,6 @@
 //! A daemon over the files of the system, with a shelf of any kind.
 ghost use Rattle.settings.specs.Values.{AreWithin};
-ghost use Rattle.held_player.specs.Blanks.{AreFor, HasPartsOfFrames, HasSeatsOfOnePart};
+ghost use Rattle.held_player.specs.Blanks.{AreFor};
 ghost use Rattle.opened_player.specs.Opened.{commands_for};
 ghost use Rattle.serving.specs.Starting.{is_state_shelf as is_state_shelf_lem, texts_of};
 ghost use Rattle.std.specs.Prelude.{◌≡◌, IfOk, OnOk, false};
@@ -16,7 +16,6 @@ use crate::run::{Manner, run};
 use crate::state_file::read_state;
 use counted_player::Ledgers;
 use crew::second_now;
-use frame_ledger::Blanks as FrameBlanks;
 use held_player::Blanks;
 use journal::start_text;
 use mpd_server::Server;
@@ -27,7 +26,6 @@ use std::alloc::{AllocError, Global};
 use std::marker::Brand;
 use std::net::Net;
 use std::sync::Wait;
-use std::sync::ledger::Blank;
 use std::thread::Threads;
 use std::time::Clock;
 
@@ -72,7 +70,14 @@ pub fn serve<S: Shelf, R: Threads + Wait + Clock + Net + Copy + Send + Sync + 's
     }
     let found = found_for(&host, settings, launch)?;
     match launch.purpose {
-        Purpose::Serve => serve_with::<Brand, S, R>(rt, host, blanks(), settings, found, shelf),
+        Purpose::Serve => serve_with::<Brand, S, R>(
+            rt,
+            host,
+            Blanks::new(),
+            settings,
+            found,
+            shelf,
+        ),
         Purpose::Check => check(&host, settings, &found),
     }
 }
@@ -117,24 +122,6 @@ fn check(host: &HostRuntime, settings: &Settings, found: &Found) -> Result<(), D
         read_state(host, path.as_str())?;
     }
     print_found(host, settings, found.told.as_str())
-}
-
-/// Seven new ledgers; those of written and discarded frames have a part for each output, and one more.
-fn blanks() -> Blanks
-    ensures seats { HasSeatsOfOnePart result }
-    ensures frames { HasPartsOfFrames result }
-{
-    Blanks {
-        first: Blank::new(1),
-        second: Blank::new(1),
-        third: Blank::new(1),
-        fourth: Blank::new(1),
-        frames: FrameBlanks {
-            decoded: Blank::new(1),
-            written: Blank::new(9),
-            discarded: Blank::new(9),
-        },
-    }
 }
 
 /// Opens the house and the server, and runs the daemon with the files of the system.

@@ -9,8 +9,9 @@ ghost use Rattle.player_core.specs.Decoding.{IsJobFor, with_job_for};
 
 use crate::fault::PlayerFault;
 use crate::player::Player;
-use crate::player::entries::{entry_with, has_lost_partner, is_heard};
+use crate::player::entries::{has_lost_partner, is_heard};
 use crate::state::{FadePart, Job, Live, Playback};
+use play_order::entry_with;
 use song_queue::{Entry, Queue};
 use std::alloc::{AllocError, Global};
 

@@ -2,22 +2,11 @@
 ghost use Rattle.std.specs.Prelude.{◌≡◌, ◌≤◌, length};
 ghost use Rattle.std.specs.Option.{option_copied};
 ghost use Rattle.song_queue.specs.State.{queue_of};
-ghost use Rattle.play_order.specs.Order.{entry_of};
 ghost use Rattle.player_core.specs.Decoding as decoding;
 ghost use Rattle.player_core.specs.Steps as steps;
 
 use crate::state::FadePart;
 use song_queue::{Entry, Queue};
-
-/// The entry with an id.
-pub(super) fn entry_with(queue: &Queue, id: u32) -> Option<&Entry>
-    ensures { option_copied result ≡ entry_of (queue_of queue.now) id }
-{
-    match queue.position_of(id) {
-        Some(place) => queue.get(place),
-        None => None,
-    }
-}
 
 /// Whether this is the entry with the id.
 pub(super) fn is_entry_with(entry: Option<&Entry>, id: u32) -> bool

@@ -10,9 +10,8 @@ ghost use Rattle.player_core.specs.Steps as steps;
 
 use crate::fault::PlayerFault;
 use crate::player::Player;
-use crate::player::entries::entry_with;
 use crate::state::Playback;
-use play_order::Modes;
+use play_order::{Modes, entry_with};
 use song_queue::{Entry, Queue};
 use std::alloc::AllocError;
 
