@@ -13,6 +13,10 @@ from program import LIMIT, show_failures
 WAVE = bytes.fromhex('52494646 00000000 57415645 666d7420 10000000 0100 0100 401f0000 c05d0000 0300 1800'
                      '4c495354 10000000 494e464f 494e414d 03000000 486900 00 64617461 64000000 000100 ffffff 7f')
 SONG = b'file: %s\nTitle: Hi\nTime: 0\nduration: 0.000\n'
+# a file with a list INFO and an ID3v2 tag, and what is shown of it in the base profile and in the everyday profile
+TAGGED = os.path.join(os.path.dirname(os.path.abspath(__file__)), 'fuzz', 'corpus', 'id3', 'beside_info.wav')
+SIX = b'file: x.wav\nTitle: Listed\nArtist: Ann\nTime: 0\nduration: 0.005\n'
+TEN = b'file: x.wav\nTitle: One\nArtist: Ann\nTrack: 3\nTime: 0\nduration: 0.005\n'
 
 EXAMPLE = b'''file: bell.wav
 Title: Bell
@@ -73,6 +77,13 @@ class Checks:
                     self.failures.append('examples/music/%s is not what checks/example_music.py writes' % name)
         self.wants('examples/music', ('scan', example_music.FOLDER), 0, EXAMPLE, b'notes.wav: NotRiff\n')
 
+    def everyday(self, folder):
+        with open(TAGGED, 'rb') as file:
+            put(folder, {'x.wav': file.read()})
+        self.wants('tags in the base profile', ('scan', '--rate', '8000', folder), 0, SIX, b'')
+        self.wants('tags in the everyday profile', ('scan', '--everyday', '--rate', '8000', folder), 0, TEN, b'')
+        self.wants('the same behind the folder', ('scan', folder, '--rate=8000', '--everyday'), 0, TEN, b'')
+
     def full_device(self, folder):
         for stream in ('stdout', 'stderr'):
             with open('/dev/full', 'wb') as full:
@@ -82,16 +93,16 @@ class Checks:
             if run.returncode != 1 or run.stderr != told:
                 self.failures.append('a full %s: status %d, %r' % (stream, run.returncode, run.stderr))
 
-    def memory(self, folder):
+    def memory(self, *words):
         """Refuses each allocation in turn: the scan must print everything, or exit with status 1 and print only one line."""
-        whole = self.program.run(b'', ('scan', '--rate', '8000', folder))
+        whole = self.program.run(b'', ('scan', '--rate', '8000', *words))
         number = 0
         while len(self.failures) < 20:
             number += 1
             environment = dict(os.environ, LD_PRELOAD=self.program.library, FAULTY_REPORT=self.program.report, FAULTY_ALLOCATION=str(number))
             if os.path.exists(self.program.report):
                 os.remove(self.program.report)
-            run = self.program.run_on_file(b'', ('scan', '--rate', '8000', folder), environment)
+            run = self.program.run_on_file(b'', ('scan', '--rate', '8000', *words), environment)
             if run.counts and run.counts['allocations'] < number:
                 break
             if (run.status, run.output, run.errors) not in ((0, whole.output, whole.errors), (1, b'', b'music_daemon: out of memory\n')):
@@ -131,10 +142,12 @@ def check(program):
     print('Scans')
     checks = Checks(program)
     with tempfile.TemporaryDirectory() as top:
-        few, many = os.path.join(top, 'few'), os.path.join(top, 'many')
+        few, many, tagged = os.path.join(top, 'few'), os.path.join(top, 'many'), os.path.join(top, 'tagged')
         checks.songs_and_refusals(few)
+        checks.everyday(tagged)
         checks.full_device(few)
         checks.memory(few)
+        checks.memory('--everyday', tagged)
         checks.too_many(many)
         checks.terminal(many)
     checks.example()

@@ -22,7 +22,8 @@ WANTED = [
     (('scan',), REFUSED), (('scan', 'a', 'b'), REFUSED), (('scan', '--rate', '7999', '.'), REFUSED), (('scan', '--rate', '192001', '.'), REFUSED),
     (('scan', '--rate', 'x', '.'), REFUSED), (('scan', '--rate', '-8000', '.'), REFUSED), (('scan', '--rate', '8000'), REFUSED),
     (('scan', '.', '--rate'), REFUSED), (('scan', '--rate', '8000', '--rate', '9000', '.'), REFUSED),
-    (('--rate', '8000', 'scan', '.'), REFUSED), (('script', '--version'), REFUSED), (('--', 'script'), REFUSED),
+    (('scan', '--everyday'), REFUSED), (('scan', '--everyday', '--everyday', '.'), REFUSED), (('scan', '--everyday=1', '.'), REFUSED),
+    (('--rate', '8000', 'scan', '.'), REFUSED), (('--everyday', 'scan', '.'), REFUSED), (('script', '--version'), REFUSED), (('--', 'script'), REFUSED),
 ]
 
 VERSION = b'music_daemon %s\n' % release.version().encode()

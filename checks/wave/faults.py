@@ -15,13 +15,19 @@ FILE = bytes.fromhex(
     '00005361792068690000494352440500000032303236000049474e5205000000546573740000494e414d050000005a6f'
     'c3ab000049505244040000004f646400495346540e0000004c61766635392e32372e31303000646174610c0000000000'
     '010000ffff0000fffeff')
+# behind it an ID3v2.4 tag: Album in UTF-16, AlbumArtist in ISO-8859-1, Track in UTF-8, and two frames that are not read
+TAG = bytes.fromhex(
+    '69643320530000004944330400000000004954454e430000000400000345766554414c4200000009000001fffe4e0065'
+    '007700545045320000000500000042f46d6554504f53000000010000035452434b00000004000003332f3400')
 WHOLE = '''2 channels, 24 bits, 2 frames
 Title: Zo\u00eb
 Artist: An artist
-Album: Odd
+Album: New
 Date: 2026
 Genre: Test
 Comment: Say hi
+AlbumArtist: B\u00f4me
+Track: 3/4
 [[256, -256], [0, -2]]
 '''
 
@@ -62,7 +68,7 @@ def each_in_turn(program, folder, library, kind, counted, fault):
 def main(program, library):
     with tempfile.TemporaryDirectory() as folder:
         with open(os.path.join(folder, 'in.wav'), 'wb') as file:
-            file.write(FILE)
+            file.write(FILE + TAG)
         wrong = each_in_turn(program, folder, library, 'allocation', 'allocations', 'NoMemory')
         wrong += each_in_turn(program, folder, library, 'read', 'reads', 'ReadFault')
         for piece in (1, 3, 7):

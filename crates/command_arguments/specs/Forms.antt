@@ -5,7 +5,7 @@ use Rattle.std.specs.Str.{bytes_eq, str_eq_ignore_ascii_case}
 use Rattle.mpd_text.specs.Answers.Millis.{millis_of}
 use Rattle.mpd_text.specs.Answers.Number.{number_of}
 use Rattle.mpd_text.specs.Answers.Range.{range_of}
-use Rattle.mpd_text.specs.Songs.Tags.{tag_names, tag_text}
+use Rattle.mpd_text.specs.Songs.Tags.{base_tag_names, tag_text}
 use Rattle.mpd_text.specs.declared.answers.ranges.Range.{Range}
 use Rattle.mpd_text.specs.declared.answers.ranges.Range.TheVariants.{Lone, Between, From}
 use Rattle.mpd_text.specs.declared.songs.song.TagName.{TagName}
@@ -97,9 +97,9 @@ seeking_of word =
     else (if first_is 45 word then option_map Back (millis_of (drop 1 word))
     else option_map To (millis_of word))
 
--- a tag, in any ASCII case
+-- a tag of the base profile, in any ASCII case
 unfoldable pub tag_of : List ℕ → Option TagName
-tag_of word = find (λ name. str_eq_ignore_ascii_case (tag_text name) word) tag_names
+tag_of word = find (λ name. str_eq_ignore_ascii_case (tag_text name) word) base_tag_names
 
 -- a range that has both ends
 abbrev pub with_ends : Option Range → Option Window

@@ -12,7 +12,7 @@ use crate::fade::FadeSeconds;
 use crate::volume::Volume;
 use idle_notes::Subsystem;
 use known_tags::KnownTag;
-use mpd_text::{Millis, Range, TAG_NAMES, TagName, Text, number};
+use mpd_text::{BASE_TAG_NAMES, Millis, Range, TagName, Text, number};
 use std::alloc::{AllocError, Global};
 
 /// What one word can be read as.
@@ -201,12 +201,12 @@ impl Form for TagName {
     }
 }
 
-/// The tag of a word, in any ASCII case.
+/// The tag of the base profile that a word names, in any ASCII case.
 #[tactic(auto, unfolding(crate::specs::Forms::tag_of))]
 fn tag(word: &str) -> Option<TagName>
     ensures { result ≡ tag_of word.now }
 {
-    TAG_NAMES
+    BASE_TAG_NAMES
         .iter()
         .copied()
         .find(|name| same_word(name.text(), word))

@@ -5,7 +5,7 @@ use Rattle.mpd_text.specs.Answers.Answer.{pair_line}
 use Rattle.mpd_text.specs.Songs.Song.{SongData}
 use Rattle.mpd_text.specs.Songs.Tags.{tag_names, tag_text}
 use Rattle.mpd_text.specs.declared.songs.song.TagName.{TagName}
-use Rattle.mpd_text.specs.declared.songs.song.TagName.TheVariants as six
+use Rattle.mpd_text.specs.declared.songs.song.TagName.TheVariants as songs
 use Rattle.known_tags.specs.KnownTags.{base_of, read_of, text_of}
 use Rattle.known_tags.specs.Lines.{song_lines_with}
 use Rattle.known_tags.specs.declared.known_tag.KnownTag.{KnownTag}
@@ -52,14 +52,18 @@ base_status_has_no_time every asked part library read false base =
     (it.0, it.2.time, it.2, ap transition_by it.1)
 base_status_has_no_time every asked part library read true base = absurd (cc)
 
--- one of the six is read and shown as itself
+-- one of the ten is read and shown as itself
 as-named : (tag : KnownTag) (name : TagName) → base_of tag ≡ Some name → (read_of tag ≡ Some name) × (text_of tag ≡ tag_text name)
-as-named known.Artist name e = let is : six.Artist ≡ name = cc in (e, ap tag_text is)
-as-named known.Album name e = let is : six.Album ≡ name = cc in (e, ap tag_text is)
-as-named known.Title name e = let is : six.Title ≡ name = cc in (e, ap tag_text is)
-as-named known.Genre name e = let is : six.Genre ≡ name = cc in (e, ap tag_text is)
-as-named known.Date name e = let is : six.Date ≡ name = cc in (e, ap tag_text is)
-as-named known.Comment name e = let is : six.Comment ≡ name = cc in (e, ap tag_text is)
+as-named known.Artist name e = let is : songs.Artist ≡ name = cc in (e, ap tag_text is)
+as-named known.Album name e = let is : songs.Album ≡ name = cc in (e, ap tag_text is)
+as-named known.Title name e = let is : songs.Title ≡ name = cc in (e, ap tag_text is)
+as-named known.Genre name e = let is : songs.Genre ≡ name = cc in (e, ap tag_text is)
+as-named known.Date name e = let is : songs.Date ≡ name = cc in (e, ap tag_text is)
+as-named known.Comment name e = let is : songs.Comment ≡ name = cc in (e, ap tag_text is)
+as-named known.AlbumArtist name e = let is : songs.AlbumArtist ≡ name = cc in (e, ap tag_text is)
+as-named known.Track name e = let is : songs.Track ≡ name = cc in (e, ap tag_text is)
+as-named known.Disc name e = let is : songs.Disc ≡ name = cc in (e, ap tag_text is)
+as-named known.Composer name e = let is : songs.Composer ≡ name = cc in (e, ap tag_text is)
 as-named _ name e = absurd (cc)
 
 pub base_list_has_the_texts : BaseListHasTheTexts

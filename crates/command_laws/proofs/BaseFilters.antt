@@ -1,5 +1,5 @@
 -- What filters compare in the base profile.
-use Rattle.std.proofs.Common.{ℕ, Bool, true, false, cond, List, [], ◌∷◌, Option, Some, None, option_map, Result, Ok, Err, subst, not, codes}
+use Rattle.std.proofs.Common.{ℕ, Bool, true, false, cond, List, [], ◌∷◌, Option, Some, None, option_map, Result, Ok, Err, refl, subst, not, codes}
 use Rattle.std.specs.List.{cons_option, filter_map, find}
 use Rattle.filters.specs.Answers.{IsAnswer}
 use Rattle.filters.specs.Expressions.{Expression, Compare, Under, Both, all_of}
@@ -13,7 +13,7 @@ use Rattle.filters.specs.declared.pairs.Pair.{Pair}
 use Rattle.filters.specs.declared.reading.FilterFault.{FilterFault}
 use Rattle.filters.specs.declared.words.Vocabulary.TheVariants.{Base}
 use Rattle.filters.proofs.Exact.{parsed_answers}
-use Rattle.command_arguments.specs.Readers.{argument_of, both, map_ok, none_of}
+use Rattle.command_arguments.specs.Readers.{argument_of, both, map_ok, none_of, read_or}
 use Rattle.command_arguments.specs.Wanted.{asked, filter_of, is_alone, one_filter_of, paired, pairs_of, perhaps_filter_of}
 use Rattle.command_arguments.specs.declared.readers.Misread.{Misread}
 use Rattle.command_laws.specs.Base.{IsBaseExpression, IsBaseField, IsBaseFilter, MayBeFilter}
@@ -58,8 +58,8 @@ pick false x y h k = k
 field-base : (word : List ℕ) → MayBeField (field_named Base word)
 unfolding field_named base_field
 field-base word =
-    pick (same_word word (codes "title")) _ _ tt (pick (same_word word (codes "artist")) _ _ tt (pick (same_word word (codes "album")) _ _ tt
-    (pick (same_word word (codes "date")) _ _ tt (pick (same_word word (codes "genre")) _ _ tt (pick (same_word word (codes "comment")) _ _ tt
+    pick (same_word word (codes "title")) _ _ refl (pick (same_word word (codes "artist")) _ _ refl (pick (same_word word (codes "album")) _ _ refl
+    (pick (same_word word (codes "date")) _ _ refl (pick (same_word word (codes "genre")) _ _ refl (pick (same_word word (codes "comment")) _ _ refl
     (pick (same_word word (codes "file")) _ _ tt (pick (same_word word (codes "any")) _ _ tt tt)))))))
 
 named-base : (o : Option Field) → MayBeField o → IsBaseField (field_of o)
@@ -143,8 +143,23 @@ perhaps-base : (test : Test) (words : List (List ℕ)) → Reads MayBeFilter (pe
 perhaps-base test [] = tt
 perhaps-base test (word ∷ words) = from-read IsBaseFilter MayBeFilter _ (filter_of Base test (word ∷ words)) (filter-base test (word ∷ words)) (λ wanted h. h)
 
-pub one-filter-base : {A : Type 0} (read : List ℕ → Option A) (test : Test) (words : List (List ℕ)) → Reads (λ p. MayBeFilter p.1) (one_filter_of read Base test words)
-one-filter-base read test [] = tt
-one-filter-base read test (word ∷ words) =
-    from-read (λ p. MayBeFilter p.0) (λ p. MayBeFilter p.1) _ (both (perhaps_filter_of Base test words) (argument_of read word))
-    (both-first MayBeFilter (perhaps_filter_of Base test words) (argument_of read word) (perhaps-base test words)) (λ p h. h)
+-- what a word is read as has a property, where it is read
+abbrev pub MayHave : {A : Type 0} → (A → Type 0) → Option A → Type 0
+MayHave Q None = Unit {0}
+MayHave Q (Some a) = Q a
+
+argument-has : {A : Type 0} (Q : A → Type 0) (o : Option A) (word : List ℕ) → MayHave Q o → Reads Q (read_or o word)
+argument-has Q None word h = tt
+argument-has Q (Some a) word h = h
+
+both-have : {A B : Type 0} (P : A → Type 0) (Q : B → Type 0) (r : Result A Misread) (s : Result B Misread) → Reads P r → Reads Q s → Reads (λ p. P p.0 × Q p.1) (both r s)
+both-have P Q (Ok a) (Ok b) h k = (h, k)
+both-have P Q (Ok a) (Err e) h k = tt
+both-have P Q (Err e) s h k = tt
+
+pub one-filter-base : {A : Type 0} (Q : A → Type 0) (read : List ℕ → Option A) (test : Test) (words : List (List ℕ)) → ((word : List ℕ) → MayHave Q (read word))
+    → Reads (λ p. Q p.0 × MayBeFilter p.1) (one_filter_of read Base test words)
+one-filter-base Q read test [] each = tt
+one-filter-base Q read test (word ∷ words) each =
+    from-read (λ p. MayBeFilter p.0 × Q p.1) (λ p. Q p.0 × MayBeFilter p.1) _ (both (perhaps_filter_of Base test words) (argument_of read word))
+    (both-have MayBeFilter Q (perhaps_filter_of Base test words) (argument_of read word) (perhaps-base test words) (argument-has Q (read word) word (each word))) (λ p h. (h.1, h.0))

@@ -1,9 +1,14 @@
 -- What the rows of the tables read in the base profile.
 use Rattle.std.proofs.Common.{◌≡◌, ◌∙◌, ℕ, Bool, true, false, cond, List, [], ◌∷◌, take, drop, Option, Some, None, Result, Ok, Err, refl, sym, ap}
-use Rattle.std.specs.Str.{bytes_eq}
+use Rattle.std.specs.List.{find}
+use Rattle.std.specs.Str.{bytes_eq, str_eq_ignore_ascii_case}
+use Rattle.std.proofs.lemmas.Bool.{or_left, or_right}
+use Rattle.mpd_text.specs.Songs.Tags.{base_tag_names, tag_text}
+use Rattle.known_tags.specs.Sets.{has, same_tag}
+use Rattle.known_tags.proofs.TenTags.{same_tag-self}
 use Rattle.std.proofs.lemmas.Slice.Eq.{bytes_eq-Decides}
 use Rattle.mpd_text.specs.declared.songs.song.TagName.{TagName}
-use Rattle.mpd_text.specs.declared.songs.song.TagName.TheVariants as six
+use Rattle.mpd_text.specs.declared.songs.song.TagName.TheVariants as songs
 use Rattle.known_tags.specs.KnownTags.{base_of}
 use Rattle.filters.specs.declared.expression.Test.{Test}
 use Rattle.filters.specs.declared.expression.Test.TheVariants.{Equals, Contains}
@@ -28,8 +33,8 @@ use Rattle.mpd_command.specs.Queue.{rows as queue_rows, rows_from_playlist, rows
 use Rattle.mpd_command.specs.Status.{rows as status_rows}
 use Rattle.command_arguments.specs.declared.forms.Window.{Window}
 use Rattle.command_arguments.specs.declared.wanted.Wanted.{Wanted}
-use Rattle.command_laws.proofs.BaseFilters.{Reads, alone, both-first, filter-base, from-read, mapped, one-filter-base}
-use Rattle.command_laws.specs.Base.{IsBaseFilter, MayBeFilter, IsBaseAddition, IsBaseConnection, IsBaseCounting, IsBaseDatabase, IsBaseGrouping, IsBaseOption, IsBasePlaylist, IsBaseQueue, IsBaseSelection, IsBaseStatus, base_set}
+use Rattle.command_laws.proofs.BaseFilters.{MayHave, Reads, alone, both-first, filter-base, from-read, mapped, one-filter-base}
+use Rattle.command_laws.specs.Base.{IsBaseFilter, IsBaseTag, MayBeFilter, IsBaseAddition, IsBaseConnection, IsBaseCounting, IsBaseDatabase, IsBaseGrouping, IsBaseOption, IsBasePlaylist, IsBaseQueue, IsBaseSelection, IsBaseStatus, base_set}
 
 -- what is found is so, where something is found
 abbrev pub Finds : {A : Type 0} → (A → Type 0) → Result (Option A) Misread → Type 0
@@ -70,21 +75,43 @@ counts : (words : List (List ℕ)) → Reads IsBaseCounting (counting_of false w
 unfolding counting_of
 counts words = from-read IsBaseFilter IsBaseCounting _ (filter_of Base Equals words) (filter-base Equals words) (λ wanted h. (wanted, refl, h, refl))
 
-is-six : (name : TagName) → base_of (known_as name) ≡ Some name
-is-six six.Title = refl
-is-six six.Artist = refl
-is-six six.Album = refl
-is-six six.Date = refl
-is-six six.Genre = refl
-is-six six.Comment = refl
+is-known : (name : TagName) → base_of (known_as name) ≡ Some name
+is-known songs.Title = refl
+is-known songs.Artist = refl
+is-known songs.Album = refl
+is-known songs.Date = refl
+is-known songs.Genre = refl
+is-known songs.Comment = refl
+is-known songs.AlbumArtist = refl
+is-known songs.Track = refl
+is-known songs.Disc = refl
+is-known songs.Composer = refl
 
 abbrev HasFilter : TagName × Option Wanted → Type 0
-HasFilter p = MayBeFilter p.1
+HasFilter p = IsBaseTag p.0 × MayBeFilter p.1
+
+-- what a word names is one of the names that it is looked for in
+found-among : (p : TagName → Bool) (names : List TagName) → MayHave (λ name. has name names ≡ true) (find p names)
+found-among p [] = tt
+found-among p (name ∷ names) =
+    elim (p name) as (λ b. MayHave (λ other. has other (name ∷ names) ≡ true) (cond b (Some name) (find p names))) [
+      | true ↦ or_left (same_tag name name) (has name names) (same_tag-self name)
+      | false ↦ later (find p names) (found-among p names)
+    ]
+  where
+    later : (o : Option TagName) → MayHave (λ other. has other names ≡ true) o → MayHave (λ other. has other (name ∷ names) ≡ true) o
+    later None h = tt
+    later (Some other) h = or_right (same_tag other name) (has other names) h
+
+named-base : (word : List ℕ) → MayHave IsBaseTag (forms.tag_of word)
+unfolding forms.tag_of
+named-base word = found-among (λ name. str_eq_ignore_ascii_case (tag_text name) word) base_tag_names
 
 groups : (words : List (List ℕ)) → Reads IsBaseGrouping (grouping_of false words)
 unfolding grouping_of
 groups words =
-    from-read HasFilter IsBaseGrouping _ (one_filter_of forms.tag_of Base Equals words) (one-filter-base forms.tag_of Equals words) (λ p h. (known_as p.0, p.0, refl, is-six p.0, h))
+    from-read HasFilter IsBaseGrouping _ (one_filter_of forms.tag_of Base Equals words) (one-filter-base IsBaseTag forms.tag_of Equals words named-base)
+    (λ p h. (known_as p.0, p.0, refl, is-known p.0, h.0, h.1))
 
 abbrev IsFiltered : Wanted × Option Window → Type 0
 IsFiltered p = IsBaseFilter p.0
@@ -114,7 +141,7 @@ connection kill =
     ⊙ (λ words there. none-there there)  -- listmounts
     ⊙ (λ words there. alone IsBaseConnection _ words refl)  -- notcommands
     ⊙ (λ words there. alone IsBaseConnection _ words tt)  -- ping
-    ⊙ (λ words there. alone IsBaseConnection _ words tt)  -- tagtypes
+    ⊙ (λ words there. alone IsBaseConnection _ words refl)  -- tagtypes
     ⊙ (λ words there. none-there there)  -- urlhandlers
     ⊙ tt
 

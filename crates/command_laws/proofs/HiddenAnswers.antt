@@ -1,5 +1,5 @@
 -- What all commands show less hidden tags.
-use Rattle.std.proofs.Common.{◌≡◌, ℕ, refl, ap}
+use Rattle.std.proofs.Common.{true, false, ◌≡◌, ℕ, refl, ap}
 use Rattle.player_state.specs.declared.state.Library.{Library}
 use Rattle.player_state.specs.declared.state.Part.{Part}
 use Rattle.transitions.specs.Transitions.{transition_by}
@@ -42,7 +42,8 @@ messages-same asked part it = refl
 
 connection-same : (asked : Asked) (it : ConnectionCommand) → AreShownLess asked asked.tags (connection_shown it) (connection_result asked it) (connection_result (unchosen asked) it)
 unfolding connection_result
-connection-same asked connection.TagTypes = tt
+connection-same asked (connection.TagTypes true) = tt
+connection-same asked (connection.TagTypes false) = refl
 connection-same asked _ = refl
 
 -- a command of partitions shows no songs, and asks for no tags

@@ -7,7 +7,7 @@ use Rattle.mpd_text.specs.Answers.Answer.{pair_line}
 use Rattle.mpd_text.specs.Songs.Song.{SongData, TagData}
 use Rattle.mpd_text.specs.Songs.Tags.{tag_names, tag_text}
 use Rattle.mpd_text.specs.declared.songs.song.TagName.{TagName}
-use Rattle.mpd_text.specs.declared.songs.song.TagName.TheVariants.{Title, Artist, Album, Date, Genre, Comment}
+use Rattle.mpd_text.specs.declared.songs.song.TagName.TheVariants.{Title, Artist, Album, Date, Genre, Comment, AlbumArtist, Track, Disc, Composer}
 use Rattle.song_db.specs.Lines.{duration_text, first_tag, line_for, millis, seconds_rounded, tag_line}
 use Rattle.known_tags.specs.Lines.{song_lines_with, tag_lines_of}
 use Rattle.known_tags.specs.Sets.{has}
@@ -65,6 +65,10 @@ tag-hidden set Album text = or-false (not (has Album set))
 tag-hidden set Date text = or-false (not (has Date set))
 tag-hidden set Genre text = or-false (not (has Genre set))
 tag-hidden set Comment text = or-false (not (has Comment set))
+tag-hidden set AlbumArtist text = or-false (not (has AlbumArtist set))
+tag-hidden set Track text = or-false (not (has Track set))
+tag-hidden set Disc text = or-false (not (has Disc set))
+tag-hidden set Composer text = or-false (not (has Composer set))
 
 tag-kept : (set : List TagName) (name : TagName) (o : Option TagData) → has name set ≡ true → LessTags set (lines_for name o) (line_for name o) (line_for name o)
 tag-kept set name None e = less-nil set

@@ -12,8 +12,8 @@ use Rattle.std.specs.declared.cmp.Ordering.TheVariants.{Less, Equal, Greater}
 use Rattle.std.proofs.lemmas.List.{append-nil}
 use Rattle.mpd_text.specs.Answers.Answer.{pair_line}
 use Rattle.mpd_text.specs.Songs.Song.{SongData}
+use Rattle.mpd_text.specs.Songs.Tags.{text_of_tag}
 use Rattle.mpd_text.specs.declared.songs.song.TagName.{TagName}
-use Rattle.filters.specs.Truth.{text_of_tag}
 use Rattle.song_search.specs.Answers.{tag_texts}
 use Rattle.mpd_text.specs.Texts.{ascending, by_bytes, key_of as text_key}
 use Rattle.song_groups.specs.Tuples.{ascending_tuples, by_texts, key_of as tuple_key, labelled, lines_after, lines_of_tuples, listed_tuples, tuples, unchanged}

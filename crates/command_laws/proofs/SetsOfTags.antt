@@ -5,7 +5,7 @@ use Rattle.mpd_text.specs.Songs.Tags.{tag_names}
 use Rattle.mpd_text.specs.declared.songs.song.TagName.{TagName}
 use Rattle.known_tags.specs.Sets.{disabled, enabled, has, is_named}
 use Rattle.known_tags.specs.declared.known_tag.KnownTag.{KnownTag}
-use Rattle.known_tags.proofs.SixTags.{filter-alike, filter-filter, has-filter}
+use Rattle.known_tags.proofs.TenTags.{filter-alike, filter-filter, has-filter}
 use Rattle.command_laws.specs.HiddenTags.{IsTagSet}
 
 -- those of all tags that pass a test are a set
@@ -13,6 +13,7 @@ filtered : (p : TagName → Bool) → IsTagSet (filter p tag_names)
 filtered p = filter-alike p (λ name. has name (filter p tag_names)) (λ name. sym (has-filter p name)) tag_names
 
 pub enabled-set : (named : List KnownTag) (set : List TagName) → IsTagSet (enabled named set)
+unfolding enabled
 enabled-set named set = filtered (λ name. has name set || is_named name named)
 
 pub disabled-set : (named : List KnownTag) (set : List TagName) → IsTagSet set → IsTagSet (disabled named set)

@@ -1,8 +1,10 @@
 -- The base profile: which commands it has, and with which arguments (MPD protocol reference, Command
 -- reference; which of them are the base profile's is this program's choice).
-use Rattle.std.specs.Prelude.{◌≡◌, ℕ, Bool, true, false, List, [], ◌∷◌, Option, Some, None}
+use Rattle.std.specs.Prelude.{◌≡◌, ℕ, Bool, true, false, IsTrue, List, [], ◌∷◌, Option, Some, None}
+use Rattle.mpd_text.specs.Songs.Tags.{base_tag_names}
 use Rattle.mpd_text.specs.declared.songs.song.TagName.{TagName}
 use Rattle.known_tags.specs.KnownTags.{base_of}
+use Rattle.known_tags.specs.Sets.{has}
 use Rattle.known_tags.specs.declared.known_tag.KnownTag.{KnownTag}
 use Rattle.filters.specs.Expressions.{Expression, Compare, Under, Negation, Both}
 use Rattle.filters.specs.declared.expression.Field.{Field}
@@ -37,12 +39,17 @@ use Rattle.mpd_command.specs.declared.status.StatusCommand.TheVariants as status
 abbrev pub base_set : Bool → CommandSet
 base_set kill = record { kill = kill; everyday = false }
 
--- what a filter compares is one of the six tags, any of them, or the URI, and no tag that songs have not
+-- a tag is one of the six of the base profile
+abbrev pub IsBaseTag : TagName → Type 0
+IsBaseTag name = IsTrue (has name base_tag_names)
+
+-- what a filter compares is one of the six tags, any of them, or the URI, and no other tag that clients know
 abbrev pub IsBaseField : Field → Type 0
-IsBaseField (field.Tag name) = Unit {0}
+IsBaseField (field.Tag name) = IsBaseTag name
 IsBaseField field.NoTag = ⊥
 IsBaseField field.File = Unit {0}
 IsBaseField field.Any = Unit {0}
+IsBaseField field.AnyKnown = ⊥
 
 -- so is all that an expression compares
 abbrev pub IsBaseExpression : Expression → Type 0
@@ -77,10 +84,10 @@ MayBeFilter (Some wanted) = IsBaseFilter wanted
 -- one tag is listed, and it is one of the six
 abbrev pub IsBaseGrouping : Grouping → Type 0
 IsBaseGrouping grouping =
-    (tag : KnownTag) × (name : TagName) × (grouping.tags ≡ tag ∷ []) × (base_of tag ≡ Some name)
+    (tag : KnownTag) × (name : TagName) × (grouping.tags ≡ tag ∷ []) × (base_of tag ≡ Some name) × IsBaseTag name
     × MayBeFilter grouping.wanted
 
--- a client is shown its tags and cannot change them; `commands` and `notcommands` show those of the base
+-- a client is shown the six tags and cannot change them; `commands` and `notcommands` show those of the base
 -- profile
 abbrev pub IsBaseConnection : ConnectionCommand → Type 0
 IsBaseConnection connection.Close = Unit {0}
@@ -90,7 +97,7 @@ IsBaseConnection connection.Kill = Unit {0}
 IsBaseConnection connection.ListMounts = ⊥
 IsBaseConnection (connection.NotCommands set) = set.everyday ≡ false
 IsBaseConnection connection.Ping = Unit {0}
-IsBaseConnection connection.TagTypes = Unit {0}
+IsBaseConnection (connection.TagTypes everyday) = everyday ≡ false
 IsBaseConnection connection.AllTags = ⊥
 IsBaseConnection connection.NoTags = ⊥
 IsBaseConnection (connection.WithoutTags named) = ⊥

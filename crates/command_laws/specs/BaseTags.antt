@@ -71,7 +71,7 @@ BaseStatusHasNoTime =
 abbrev pub lines_of_texts : TagName → List (List ℕ) → List ℕ
 lines_of_texts name texts = flat_map (pair_line (tag_text name)) texts
 
--- `list` of one of the six tags shows the texts that it has among the songs that meet a filter, in byte order
+-- `list` of one of the ten tags shows the texts that it has among the songs that meet a filter, in byte order
 abbrev pub BaseListHasTheTexts : Type 0
 BaseListHasTheTexts =
     (asked : Asked) (library : Library) (tag : KnownTag) (name : TagName) (e : Expression)

@@ -1,6 +1,6 @@
 -- The lines that each command shows of songs to a client that is shown all tags (MPD protocol reference, The
 -- queue; The music database; Stored playlists; Querying MPD's status: `currentsong`).
-use Rattle.std.specs.Prelude.{ℕ, ◌+◌, ◌-◌, ◌==◌, List, [], ◌∷◌, ◌++◌, Option, Some, None, slice_get, if◌then◌else◌, codes, decimal}
+use Rattle.std.specs.Prelude.{ℕ, true, ◌+◌, ◌-◌, ◌==◌, List, [], ◌∷◌, ◌++◌, Option, Some, None, slice_get, if◌then◌else◌, codes, decimal}
 use Rattle.std.specs.List.{flat_map, range_with_len}
 use Rattle.std.specs.declared.ops.Range.{Range as Places}
 use Rattle.mpd_text.specs.Answers.Range.{places}
@@ -166,7 +166,7 @@ status_shown part library _ = NoSongs
 
 -- what the commands of the connection show
 abbrev pub connection_shown : ConnectionCommand → Showing
-connection_shown connection.TagTypes = OwnTags
+connection_shown (connection.TagTypes true) = OwnTags
 connection_shown _ = NoSongs
 
 -- what each command shows of songs

@@ -3,7 +3,7 @@ use Rattle.std.proofs.Common.{◌≡◌, ◌==◌, ℕ, Bool, cond, true, false,
 use Rattle.clap.specs.Walk.{Text}
 use Rattle.clap.specs.declared.error.kind.ErrorKind.TheVariants.{UnknownArgument, ValueValidation}
 use Rattle.clap.proofs.OnLiterals.{clap_on_literals}
-use Rattle.command_line.specs.Readings.{AsksCheck, AsksScan, AsksServe, IsPlain, Readings, Refuses}
+use Rattle.command_line.specs.Readings.{AsksCheck, AsksEveryday, AsksScan, AsksServe, IsPlain, Readings, Refuses}
 
 -- a word that does not begin with a hyphen: it is empty, or its first byte is another
 plain_word : (P : Text → Type 0) → P [] → ((x : ℕ) (xs : Text) → (x == 45) ≡ false → P (x ∷ xs)) → (word : Text) → IsPlain word → P word
@@ -31,17 +31,27 @@ plain_file name file is = plain_word (λ w. Refuses (name ∷ codes "serve" ∷ 
 scan : (name folder : Text) → IsPlain folder → AsksScan (name ∷ codes "scan" ∷ folder ∷ []) 44100 folder
 unfolding clap_on_literals
 scan name folder is = plain_word (λ w. AsksScan (name ∷ codes "scan" ∷ w ∷ []) 44100 w)
-    (record { taken = refl; read = (_, refl, (refl, refl, refl)) }) (λ x xs e. record { taken = simp e refl; read = simp e (_, refl, (refl, refl, refl)) }) folder is
+    (record { taken = refl; read = (_, refl, (refl, refl, refl), refl) }) (λ x xs e. record { taken = simp e refl; read = simp e (_, refl, (refl, refl, refl), refl) }) folder is
 
 least : (name folder : Text) → IsPlain folder → AsksScan (name ∷ codes "scan" ∷ codes "--rate" ∷ codes "8000" ∷ folder ∷ []) 8000 folder
 unfolding clap_on_literals
 least name folder is = plain_word (λ w. AsksScan (name ∷ codes "scan" ∷ codes "--rate" ∷ codes "8000" ∷ w ∷ []) 8000 w)
-    (record { taken = refl; read = (_, refl, (refl, refl, refl)) }) (λ x xs e. record { taken = simp e refl; read = simp e (_, refl, (refl, refl, refl)) }) folder is
+    (record { taken = refl; read = (_, refl, (refl, refl, refl), refl) }) (λ x xs e. record { taken = rw e (rw e refl); read = rw e (rw e (_, refl, (refl, refl, refl), refl)) }) folder is
 
 most : (name folder : Text) → IsPlain folder → AsksScan (name ∷ codes "scan" ∷ codes "--rate" ∷ codes "192000" ∷ folder ∷ []) 192000 folder
 unfolding clap_on_literals
 most name folder is = plain_word (λ w. AsksScan (name ∷ codes "scan" ∷ codes "--rate" ∷ codes "192000" ∷ w ∷ []) 192000 w)
-    (record { taken = refl; read = (_, refl, (refl, refl, refl)) }) (λ x xs e. record { taken = simp e refl; read = simp e (_, refl, (refl, refl, refl)) }) folder is
+    (record { taken = refl; read = (_, refl, (refl, refl, refl), refl) }) (λ x xs e. record { taken = rw e (rw e refl); read = rw e (rw e (_, refl, (refl, refl, refl), refl)) }) folder is
+
+everyday : (name folder : Text) → IsPlain folder → AsksEveryday (name ∷ codes "scan" ∷ codes "--everyday" ∷ folder ∷ []) 44100 folder
+unfolding clap_on_literals
+everyday name folder is = plain_word (λ w. AsksEveryday (name ∷ codes "scan" ∷ codes "--everyday" ∷ w ∷ []) 44100 w)
+    (record { taken = refl; read = (_, refl, (refl, refl, refl), refl) }) (λ x xs e. record { taken = simp e refl; read = simp e (_, refl, (refl, refl, refl), refl) }) folder is
+
+everyday_at : (name folder : Text) → IsPlain folder → AsksEveryday (name ∷ codes "scan" ∷ codes "--rate" ∷ codes "8000" ∷ codes "--everyday" ∷ folder ∷ []) 8000 folder
+unfolding clap_on_literals
+everyday_at name folder is = plain_word (λ w. AsksEveryday (name ∷ codes "scan" ∷ codes "--rate" ∷ codes "8000" ∷ codes "--everyday" ∷ w ∷ []) 8000 w)
+    (record { taken = refl; read = (_, refl, (refl, refl, refl), refl) }) (λ x xs e. record { taken = rw e (rw e refl); read = rw e (rw e (_, refl, (refl, refl, refl), refl)) }) folder is
 
 too_low : (name folder : Text) → IsPlain folder → Refuses (name ∷ codes "scan" ∷ codes "--rate" ∷ codes "7999" ∷ folder ∷ []) (ValueValidation ∷ [])
 unfolding clap_on_literals
@@ -68,6 +78,8 @@ all = record {
   most = most;
   too_low = too_low;
   too_high = too_high;
+  everyday = everyday;
+  everyday_at = everyday_at;
   no_folder = λ name. refl;
   script = λ name. record { taken = refl; read = (_, refl, refl) };
   one_more = one_more;

@@ -1,5 +1,5 @@
 -- What was read of words that nothing refuses: a scan has its rate and its folder.
-use Rattle.std.proofs.Common.{◌≡◌, ◌∙◌, ◌++◌, ℕ, Bool, cond, true, false, refl, sym, subst, inl, inr, List, [], ◌∷◌, length, Some, true≢false}
+use Rattle.std.proofs.Common.{◌≡◌, ◌∙◌, ◌||◌, ◌++◌, ℕ, Bool, cond, true, false, refl, sym, subst, inl, inr, List, [], ◌∷◌, length, None, Some, true≢false}
 use Rattle.std.specs.Prelude.{⊤, codes, pos, slice_get, get_or}
 use Rattle.std.specs.Str.{bytes_eq}
 use Rattle.std.proofs.lemmas.Slice.Eq.{bytes_eq-Decides}
@@ -113,21 +113,80 @@ rate_used values rows each e =
     subst (λ (vs : List Text). action_fault Set false (rule_at 0) (values_or_missing (rule_at 0) vs) rows ≡ [] → Each Fits (used (rule_at 0) vs rows)) (sym one.1)
     (rate_one one.0 rows each) parts.1
 
-folder_used : (values : List Text) (rows : List Row) → Each Fits rows → use_fault false (rule_at 1) values rows ≡ [] → Each Fits (used (rule_at 1) values rows)
+folder_used : (values : List Text) (rows : List Row) → Each Fits rows → use_fault false (rule_at 2) values rows ≡ [] → Each Fits (used (rule_at 2) values rows)
 folder_used values rows each e =
     let parts = both_pass (range_kinds 1 1 (length values)) _ e in
     let one = one_value values parts.0 in
-    rw one.1 (folder_put CommandLine (reading_by (rule_at 1)) one.0 (without (codes "folder") rows) (taken_out (codes "folder") rows each))
+    rw one.1 (folder_put CommandLine (reading_by (rule_at 2)) one.0 (without (codes "folder") rows) (taken_out (codes "folder") rows each))
+
+-- ---- a use of the flag, and its default
+
+not_rate : (id : Text) → bytes_eq id (codes "everyday") ≡ true → bytes_eq id (codes "rate") ≡ true → ⊥
+not_rate id e f = let is : id ≡ codes "everyday" = (bytes_eq-Decides id (codes "everyday")).0 e in true≢false (sym (rw is at f))
+
+no_folder : (id : Text) → bytes_eq id (codes "everyday") ≡ true → bytes_eq id (codes "folder") ≡ true → ⊥
+no_folder id e f = let is : id ≡ codes "everyday" = (bytes_eq-Decides id (codes "everyday")).0 e in true≢false (sym (rw is at f))
+
+everyday_put : (source : ValueSource) (how : Reading) (vs : List Text) (rows : List Row) → Each Fits rows
+    → Each Fits (with_values (codes "everyday") how source vs rows)
+everyday_put source how vs rows each =
+    at_row_keeps Fits (codes "everyday") (more_values source vs) (flag_row ∷ []) rows each more first
+  where
+    flag_row : Row
+    flag_row = record { id = codes "everyday"; values = vs; count = None; source = Some source; reading = how }
+
+    more : (r : Row) → bytes_eq r.id (codes "everyday") ≡ true → Fits r → Each Fits (more_values source vs r)
+    more r is fits =
+        let changed : Fits (record r { values = r.values ++ vs; source = Some (stronger r.source source) }) = record {
+          rate = λ e. absurd (not_rate r.id is e);
+          folder = λ e. absurd (no_folder r.id is e);
+        } in
+        (changed, tt)
+
+    first : Each Fits (flag_row ∷ [])
+    first = let new : Fits flag_row = record { rate = λ e. absurd (true≢false (sym e)); folder = λ e. absurd (true≢false (sym e)) } in (new, tt)
+
+everyday_used : (values : List Text) (rows : List Row) → Each Fits rows → Each Fits (used (rule_at 1) values rows)
+everyday_used values rows each =
+    everyday_put CommandLine (reading_by (rule_at 1)) (values_or_missing (rule_at 1) values) (without (codes "everyday") rows) (taken_out (codes "everyday") rows each)
+
+everyday_ended : (rows : List Row) → Each Fits rows → Each Fits (with_default rows (rule_at 1))
+everyday_ended rows each = go (has_row (codes "everyday") rows)
+  where
+    go : (b : Bool) → Each Fits (cond b rows (with_values (codes "everyday") (reading_by (rule_at 1)) DefaultValue (codes "false" ∷ []) rows))
+    go true = each
+    go false = everyday_put DefaultValue (reading_by (rule_at 1)) (codes "false" ∷ []) rows each
+
+-- the flag takes no rate away
+rate_left : (source : ValueSource) (how : Reading) (vs : List Text) (rows : List Row) → has_row (codes "rate") rows ≡ true → has_row (codes "rate") (with_values (codes "everyday") how source vs rows) ≡ true
+rate_left source how vs [] e = absurd (true≢false (sym e))
+rate_left source how vs (r ∷ rs) e = go (bytes_eq r.id (codes "everyday")) (bytes_eq r.id (codes "rate")) refl e (rate_left source how vs rs)
+  where
+    go : (b c : Bool) → bytes_eq r.id (codes "rate") ≡ c → (c || has_row (codes "rate") rs) ≡ true
+        → (has_row (codes "rate") rs ≡ true → has_row (codes "rate") (with_values (codes "everyday") how source vs rs) ≡ true)
+        → has_row (codes "rate") (cond b (more_values source vs r ++ rs) (r ∷ with_values (codes "everyday") how source vs rs)) ≡ true
+    go true c is e rest = rw is e
+    go false true is e rest = rw is refl
+    go false false is e rest = rw is (rest e)
+
+rate_still : (rows : List Row) → has_row (codes "rate") rows ≡ true → has_row (codes "rate") (with_default rows (rule_at 1)) ≡ true
+rate_still rows e = go (has_row (codes "everyday") rows)
+  where
+    go : (b : Bool) → has_row (codes "rate") (cond b rows (with_values (codes "everyday") (reading_by (rule_at 1)) DefaultValue (codes "false" ∷ []) rows)) ≡ true
+    go true = e
+    go false = rate_left DefaultValue (reading_by (rule_at 1)) (codes "false" ∷ []) rows e
 
 keeps : (a : Rule) → IsIn a scan.rules → (values : List Text) (rows : List Row) → Each Fits rows → use_fault scan.args_override_self a values rows ≡ []
     → Each Fits (used a values rows)
 keeps a (inl is) values rows each e =
     subst (λ (x : Rule). use_fault false x values rows ≡ [] → Each Fits (used x values rows)) is (rate_used values rows each) e
 keeps a (inr (inl is)) values rows each e =
-    subst (λ (x : Rule). use_fault false x values rows ≡ [] → Each Fits (used x values rows)) is (folder_used values rows each) e
+    subst (λ (x : Rule). use_fault false x values rows ≡ [] → Each Fits (used x values rows)) is (λ _. everyday_used values rows each) e
 keeps a (inr (inr (inl is))) values rows each e =
+    subst (λ (x : Rule). use_fault false x values rows ≡ [] → Each Fits (used x values rows)) is (folder_used values rows each) e
+keeps a (inr (inr (inr (inl is)))) values rows each e =
     subst (λ (x : Rule). use_fault false x values rows ≡ [] → Each Fits (used x values rows)) is (λ _. each) e
-keeps a (inr (inr (inr none))) values rows each e = absurd none
+keeps a (inr (inr (inr (inr none)))) values rows each e = absurd none
 
 -- ---- the rows at the end
 
@@ -184,6 +243,10 @@ scan_read words e =
     let defaults = both_pass _ _ settling.1 in
     let rows = (settled scan.rules end).rows in
     let kept : Each Fits rows = settled_keeps scan (Each Fits) keeps end (walk_keeps scan (Each Fits) keeps [] (walk_from nothing_held) words tt walked_all.0) settling.0 in
-    let last = ended rows kept in
-    let same : finished scan.rules end ≡ with_default rows (rule_at 0) = same_both _ _ ∙ same_both _ _ in
-    subst HasScan (sym same) (has_scan (with_default rows (rule_at 0)) last.0 last.1 (subst (λ rs. check_fault scan rs false ≡ []) same defaults.1))
+    let rated = ended rows kept in
+    let last : List Row = with_default (with_default rows (rule_at 0)) (rule_at 1) in
+    let same : finished scan.rules end ≡ last =
+    same_both (has_row (rule_at 3).id (with_default last (rule_at 2))) (with_default last (rule_at 2))
+    ∙ same_both (has_row (rule_at 2).id last) last in
+    subst HasScan (sym same) (has_scan last (everyday_ended (with_default rows (rule_at 0)) rated.0) (rate_still (with_default rows (rule_at 0)) rated.1)
+    (subst (λ rs. check_fault scan rs false ≡ []) same defaults.1))

@@ -31,9 +31,13 @@ rate = record (new_rule (codes "rate")) {
 abbrev pub folder : Rule
 folder = record (new_rule (codes "folder")) { required = true; action = Some Set; value_names = 1 }
 
--- `scan [--rate N] DIR`
+-- `--everyday`
+abbrev pub everyday : Rule
+everyday = record (new_rule (codes "everyday")) { long = Some (codes "everyday"); action = Some SetTrue }
+
+-- `scan [--rate N] [--everyday] DIR`
 abbrev pub scan : App
-scan = with_rule (with_rule (new_app (codes "scan")) rate) folder
+scan = with_rule (with_rule (with_rule (new_app (codes "scan")) rate) everyday) folder
 
 -- `script`
 abbrev pub script : App

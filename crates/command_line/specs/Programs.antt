@@ -31,7 +31,7 @@ IsScan p rate folder = (p.0 ≡ codes "scan") × (option_map number_of (one_of (
 -- they are those of this program
 abbrev pub Says : Text × List Row → Program → Type 0
 Says p (Serve file check) = IsServe p file.now × IsFlag (one_of (codes "check") p.1) check
-Says p (Scan rate folder) = IsScan p rate folder.now
+Says p (Scan rate folder everyday) = IsScan p rate folder.now × IsFlag (one_of (codes "everyday") p.1) everyday
 Says p Script = p.0 ≡ codes "script"
 
 -- clap's definition reads this program in the words, of which the first is the program's name

@@ -20,10 +20,15 @@ pub record AsksCheck (words : List Text) (file : Text) : Type 0 where
   pub taken : fault_of daemon words ≡ []
   pub read : (p : Text × List Row) × (subcommand_of daemon words ≡ Some p) × IsServe p file × (one_of (codes "check") p.1 ≡ Some (codes "true"))
 
--- the words are taken, and ask for a scan at this rate of this folder
+-- the words are taken, and ask for a scan at this rate of this folder, in the base profile
 pub record AsksScan (words : List Text) (rate : ℕ) (folder : Text) : Type 0 where
   pub taken : fault_of daemon words ≡ []
-  pub read : (p : Text × List Row) × (subcommand_of daemon words ≡ Some p) × IsScan p rate folder
+  pub read : (p : Text × List Row) × (subcommand_of daemon words ≡ Some p) × IsScan p rate folder × (one_of (codes "everyday") p.1 ≡ Some (codes "false"))
+
+-- the same, in the everyday profile
+pub record AsksEveryday (words : List Text) (rate : ℕ) (folder : Text) : Type 0 where
+  pub taken : fault_of daemon words ≡ []
+  pub read : (p : Text × List Row) × (subcommand_of daemon words ≡ Some p) × IsScan p rate folder × (one_of (codes "everyday") p.1 ≡ Some (codes "true"))
 
 -- the words are taken, and ask for a script
 pub record AsksScript (words : List Text) : Type 0 where
@@ -48,6 +53,9 @@ pub record Readings : Type 0 where
   pub most : (name folder : Text) → IsPlain folder → AsksScan (name ∷ codes "scan" ∷ codes "--rate" ∷ codes "192000" ∷ folder ∷ []) 192000 folder
   pub too_low : (name folder : Text) → IsPlain folder → Refuses (name ∷ codes "scan" ∷ codes "--rate" ∷ codes "7999" ∷ folder ∷ []) (ValueValidation ∷ [])
   pub too_high : (name folder : Text) → IsPlain folder → Refuses (name ∷ codes "scan" ∷ codes "--rate" ∷ codes "192001" ∷ folder ∷ []) (ValueValidation ∷ [])
+  -- `--everyday`, with or without `--rate N`
+  pub everyday : (name folder : Text) → IsPlain folder → AsksEveryday (name ∷ codes "scan" ∷ codes "--everyday" ∷ folder ∷ []) 44100 folder
+  pub everyday_at : (name folder : Text) → IsPlain folder → AsksEveryday (name ∷ codes "scan" ∷ codes "--rate" ∷ codes "8000" ∷ codes "--everyday" ∷ folder ∷ []) 8000 folder
   -- no folder
   pub no_folder : (name : Text) → Refuses (name ∷ codes "scan" ∷ []) (MissingRequiredArgument ∷ [])
   -- `script`, and nothing more

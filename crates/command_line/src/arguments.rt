@@ -49,6 +49,7 @@ fn scan<'a>(alloc: Global) -> Result<Command<'a>, AllocError>
     Command::new(alloc, "scan")
         .about("Prints the songs of a folder, and on standard error why other files are not songs")
         .arg(rate(alloc))?
+        .arg(everyday(alloc))?
         .arg(folder(alloc))
 }
 
@@ -92,6 +93,16 @@ fn rate<'a>(alloc: Global) -> Arg<'a>
         .action(ArgAction::Set)
         .default_value("44100")
         .value_parser(clap::value_parser!(u32).range(8000..=192000))
+}
+
+fn everyday<'a>(alloc: Global) -> Arg<'a>
+    ensures rule { rule_of result ≡ arguments.everyday }
+    ensures local { result.global ≡ false }
+{
+    Arg::new(alloc, "everyday")
+        .long("everyday")
+        .help("Also read the tags of the everyday profile, from ID3 too")
+        .action(ArgAction::SetTrue)
 }
 
 fn folder<'a>(alloc: Global) -> Arg<'a>

@@ -71,7 +71,7 @@ fn scan_in<'a>(matches: &ArgMatches<'a>) -> Program<'a>
     let Some(folder) = matches.get_str("folder") else {
         unreachable!()
     };
-    Program::Scan(rate, folder)
+    Program::Scan(rate, folder, matches.get_flag("everyday"))
 }
 
 /// Why clap refused the words.

@@ -12,8 +12,8 @@ pub enum Program<'a> {
     /// Serves clients and plays to outputs, as this file of settings says; or, where this is so, only checks
     /// what it says.
     Serve(&'a str, bool),
-    /// Prints the songs of this folder at this rate.
-    Scan(Rate, &'a str),
+    /// Prints the songs of this folder at this rate; and where this is so, with the tags of the everyday profile.
+    Scan(Rate, &'a str, bool),
     /// Runs standard input as a script.
     Script,
 }

@@ -1,5 +1,5 @@
 -- Why songs fail.
-use Rattle.std.proofs.Common.{ℕ, ℤ, ◌≡◌, ◌⊎◌, inl, inr, Bool, true, List, length, min, Option, Some, None, Result, Ok, Err, IfSome, IfOk, IfErr, IsErrAnd, refl, sym, subst}
+use Rattle.std.proofs.Common.{ℕ, ℤ, ◌≡◌, ◌⊎◌, inl, inr, Bool, true, false, List, length, min, Option, Some, None, Result, Ok, Err, IfSome, IfOk, IfErr, IsErrAnd, refl, sym, subst}
 use Rattle.std.specs.declared.io.traits.Read as Read
 use Rattle.counted_devices.specs.declared.call_counts.CallCounts.{CallCounts}
 use Rattle.counted_devices.specs.declared.device.Failing as Failing
@@ -24,10 +24,10 @@ use Rattle.crew_steps.specs.declared.songs.NoFrames.TheVariants.{NoMemory, Faile
 
 module _ {M : Type 0} (bytes : M → Option (List ℕ)) (counts : M → CallCounts) where
   -- what a file whose bytes are known means, where its head was refused
-  meant : (rate : ℕ) (file : M) (fault : WaveFault) (all : List ℕ) → IfSome (bytes file) (λ b. MeansWave b (Err fault) (wave_of rate b)) → bytes file ≡ Some all → MeansWave all (Err fault) (wave_of rate all)
-  meant rate file fault all means is = subst (λ o. IfSome o (λ b. MeansWave b (Err fault) (wave_of rate b))) is means
+  meant : (rate : ℕ) (file : M) (fault : WaveFault) (all : List ℕ) → IfSome (bytes file) (λ b. MeansWave b (Err fault) (wave_of false rate b)) → bytes file ≡ Some all → MeansWave all (Err fault) (wave_of false rate all)
+  meant rate file fault all means is = subst (λ o. IfSome o (λ b. MeansWave b (Err fault) (wave_of false rate b))) is means
 
-  pub bad_head : (rate : ℕ) (file later : M) (fault : WaveFault) → IfSome (bytes file) (λ b. MeansWave b (Err fault) (wave_of rate b)) → ReadFaultHasCause {X = Head} (counts file) (counts later) (Err fault) → head_fault fault ≡ song.Unopened
+  pub bad_head : (rate : ℕ) (file later : M) (fault : WaveFault) → IfSome (bytes file) (λ b. MeansWave b (Err fault) (wave_of false rate b)) → ReadFaultHasCause {X = Head} (counts file) (counts later) (Err fault) → head_fault fault ≡ song.Unopened
       → RefusesHead bytes counts rate file fault
   bad_head rate file later wave.NotRiff means breaks is = λ all known. meant rate file wave.NotRiff all means known
   bad_head rate file later wave.NoFormat means breaks is = λ all known. meant rate file wave.NoFormat all means known

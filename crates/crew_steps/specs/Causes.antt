@@ -41,7 +41,7 @@ module _ {M : Type 0} (bytes : M → Option (List ℕ)) (counts : M → CallCoun
   abbrev pub RefusesHead : ℕ → M → WaveFault → Type 0
   RefusesHead rate file wave.NoMemory = ⊥
   RefusesHead rate file wave.ReadFault = (later : M) × Breaks file later
-  RefusesHead rate file fault = ForSome (bytes file) (λ all. wave_of rate all ≡ Err fault)
+  RefusesHead rate file fault = ForSome (bytes file) (λ all. wave_of false rate all ≡ Err fault)
 
   -- the song that is open is of a file, of which the same bytes are known
   abbrev pub IsOfFile : Option Opened → Type 0

@@ -42,13 +42,14 @@ abbrev pub AreOfSome : Option Opened → ℕ → ℕ → List (List ℤ) → Typ
 AreOfSome None from count frames = ⊥
 AreOfSome (Some song) from count frames = AreOf song from count frames
 
--- a song's head and the frames that lie where it says are what its file means at a rate
+-- a song's head and the frames that lie where it says are what its file means at a rate; no profile changes the
+-- frames, and so the tags that are read are those of the base profile
 abbrev pub IsMeant : ℕ → Option Opened → Type 0
-IsMeant rate opened = ForSome opened (λ song. ForSome song.known (λ bytes. wave_of rate bytes ≡ Ok (wave_in bytes song.head)))
+IsMeant rate opened = ForSome opened (λ song. ForSome song.known (λ bytes. wave_of false rate bytes ≡ Ok (wave_in bytes song.head)))
 
 -- these are so many frames that a file means at a rate, from a place on, or as many as it has there
 abbrev pub MeansFrames : ℕ → List ℕ → ℕ → ℕ → List (List ℤ) → Type 0
-MeansFrames rate bytes from count frames = (wave : Wave) × (wave_of rate bytes ≡ Ok wave) × (frames ≡ take count (drop from wave.frames))
+MeansFrames rate bytes from count frames = (wave : Wave) × (wave_of false rate bytes ≡ Ok wave) × (frames ≡ take count (drop from wave.frames))
 
 -- the same of the file of a song that is open, where its bytes are known
 abbrev pub AreHeard : ℕ → Option Opened → ℕ → ℕ → List (List ℤ) → Type 0

@@ -186,7 +186,7 @@ impl<S: SongSource<M> + Drop, M: Media + Drop> Songs<S, M> {
         ensures rate { self.new.rate ≡ self.old.rate }
     {
         let mut file = self.source.open(alloc, song.song().uri())?;
-        match read_head(alloc, &mut file, self.rate) {
+        match read_head(alloc, &mut file, self.rate, false) {
             Ok(head) => Ok(OpenSong::new(alloc, place, id, file, head)),
             Err(fault) => Err(song_fault(fault)),
         }

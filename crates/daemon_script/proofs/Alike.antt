@@ -325,11 +325,11 @@ module _ {P Q : Type 0} (m : PlayerKind P) (n : PlayerKind Q) (R : P → Q → T
         text = λ i. window_text (agree.window p q r i) (agree.own p q r i);
       }
 
-  step_same : (s : ScriptData P) (q : Option Q) (rest : List ℕ) (step : Option Step) (found : Found) → step_of rest ≡ step → 1 ≤ s.limits.max_version → SamePlayer R s.player q
+  step_same : (s : ScriptData P) (q : Option Q) (rest : List ℕ) (step : Option Step) (found : Found) → step_of s.commands.everyday rest ≡ step → 1 ≤ s.limits.max_version → SamePlayer R s.player q
       → SameShown R (shown_step m s step found) (shown_step n (over R s q) step found)
   step_same s q rest None found e above r = shows_same R _ s q above r
   step_same s q rest (Some (Song song)) found e above r = collects_same R s q song above r
-  step_same s q rest (Some (Limit name number)) found e above r = lowers_same R s q name number above (limit_at_least_one rest name number (sym e)) r
+  step_same s q rest (Some (Limit name number)) found e above r = lowers_same R s q name number above (limit_at_least_one s.commands.everyday rest name number (sym e)) r
   step_same s q rest (Some (Gone number)) found e above r = sends_same s.limits s.commands s.songs s.lists s.player q number found above r
   step_same s q rest (Some Scanned) found e above r = event_same s q (scan_result s) found above r
   step_same s q rest (Some (Job step)) found e above r = event_same s q (job_event 0 step) found above r
@@ -339,12 +339,12 @@ module _ {P Q : Type 0} (m : PlayerKind P) (n : PlayerKind Q) (R : P → Q → T
 
   step_line_same : (s : ScriptData P) (q : Option Q) (rest : List ℕ) (memory : Memory) → 1 ≤ s.limits.max_version → SamePlayer R s.player q
       → SameShown R (step_line m s rest memory) (step_line n (over R s q) rest memory)
-  step_line_same s q rest Ample above r = step_same s q rest (step_of rest) (found_then Ample) refl above r
-  step_line_same s q rest NoneToConnect above r = step_same s q rest (step_of rest) (found_then NoneToConnect) refl above r
-  step_line_same s q rest NoneToFoldFirst above r = step_same s q rest (step_of rest) (found_then NoneToFoldFirst) refl above r
+  step_line_same s q rest Ample above r = step_same s q rest (step_of s.commands.everyday rest) (found_then Ample) refl above r
+  step_line_same s q rest NoneToConnect above r = step_same s q rest (step_of s.commands.everyday rest) (found_then NoneToConnect) refl above r
+  step_line_same s q rest NoneToFoldFirst above r = step_same s q rest (step_of s.commands.everyday rest) (found_then NoneToFoldFirst) refl above r
   step_line_same s q rest (NoneToRead place) above r = shows_same R _ s q above r
-  step_line_same s q rest (NoneToRun place) above r = step_same s q rest (step_of rest) (found_then (NoneToRun place)) refl above r
-  step_line_same s q rest (NoneToFold place) above r = step_same s q rest (step_of rest) (found_then (NoneToFold place)) refl above r
+  step_line_same s q rest (NoneToRun place) above r = step_same s q rest (step_of s.commands.everyday rest) (found_then (NoneToRun place)) refl above r
+  step_line_same s q rest (NoneToFold place) above r = step_same s q rest (step_of s.commands.everyday rest) (found_then (NoneToFold place)) refl above r
 
   -- the script after a line of a client that was there when the line was run
   abbrev kept : {X : Type 0} → ScriptData X → ℕ → LineRun X → ScriptData X

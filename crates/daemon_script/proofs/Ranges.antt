@@ -46,15 +46,15 @@ song_if : (b : Bool) (song : SongData) (found : LimitName) (n : ℕ) → cond b 
 song_if true song found n e = cc
 song_if false song found n e = cc
 
-song_no_limit : (uri : List ℕ) (frames : Option ℕ) (words : List (List ℕ)) (found : LimitName) (n : ℕ) → song_with uri frames words ≡ Some (Limit found n) → 1 ≤ n
-song_no_limit uri None words found n e = cc
-song_no_limit uri (Some frames) words found n e =
-    song_if (is_uri uri && list_all is_tag words) (record { uri = uri; tags = tags_of words; frames = frames }) found n e
+song_no_limit : (everyday : Bool) (uri : List ℕ) (frames : Option ℕ) (words : List (List ℕ)) (found : LimitName) (n : ℕ) → song_with everyday uri frames words ≡ Some (Limit found n) → 1 ≤ n
+song_no_limit everyday uri None words found n e = cc
+song_no_limit everyday uri (Some frames) words found n e =
+    song_if (is_uri uri && list_all (is_tag everyday) words) (record { uri = uri; tags = tags_of words; frames = frames }) found n e
 
-songs_no_limit : (words : List (List ℕ)) (found : LimitName) (n : ℕ) → song_of words ≡ Some (Limit found n) → 1 ≤ n
-songs_no_limit [] found n e = cc
-songs_no_limit (a ∷ []) found n e = cc
-songs_no_limit (a ∷ b ∷ more) found n e = song_no_limit a (number_within 4294967295 b) more found n e
+songs_no_limit : (everyday : Bool) (words : List (List ℕ)) (found : LimitName) (n : ℕ) → song_of everyday words ≡ Some (Limit found n) → 1 ≤ n
+songs_no_limit everyday [] found n e = cc
+songs_no_limit everyday (a ∷ []) found n e = cc
+songs_no_limit everyday (a ∷ b ∷ more) found n e = song_no_limit everyday a (number_within 4294967295 b) more found n e
 
 gone_no_limit : (number : Option ℕ) (found : LimitName) (n : ℕ) → gone_with number ≡ Some (Limit found n) → 1 ≤ n
 gone_no_limit None found n e = cc
@@ -128,25 +128,25 @@ player_step_no_limit : (word : List ℕ) (words : List (List ℕ)) → SetsMore 
 player_step_no_limit word words found n e =
     player_step_if (bytes_eq word (codes "window")) (bytes_eq word (codes "turn")) words (job_step_of word words) found n e
 
-step_if : (a b c d f : Bool) (word : List ℕ) (words : List (List ℕ))
-    → SetsMore (cond a (song_of words) (cond b (limit_of words) (cond c (gone_of words) (cond d (scanned_of words) (cond f (named_of words) (player_step_of word words))))))
-step_if true b c d f word words found n e = songs_no_limit words found n e
-step_if false true c d f word words found n e = limits_positive words found n e
-step_if false false true d f word words found n e = gones_no_limit words found n e
-step_if false false false true f word words found n e = scanned_no_limit words found n e
-step_if false false false false true word words found n e = named_no_limit words found n e
-step_if false false false false false word words found n e = player_step_no_limit word words found n e
+step_if : (everyday a b c d f : Bool) (word : List ℕ) (words : List (List ℕ))
+    → SetsMore (cond a (song_of everyday words) (cond b (limit_of words) (cond c (gone_of words) (cond d (scanned_of words) (cond f (named_of words) (player_step_of word words))))))
+step_if everyday true b c d f word words found n e = songs_no_limit everyday words found n e
+step_if everyday false true c d f word words found n e = limits_positive words found n e
+step_if everyday false false true d f word words found n e = gones_no_limit words found n e
+step_if everyday false false false true f word words found n e = scanned_no_limit words found n e
+step_if everyday false false false false true word words found n e = named_no_limit words found n e
+step_if everyday false false false false false word words found n e = player_step_no_limit word words found n e
 
-step_positive : (r : Result (List (List ℕ)) WordsFault) (found : LimitName) (n : ℕ) → step_if_read r ≡ Some (Limit found n) → 1 ≤ n
-step_positive (Err fault) found n e = cc
-step_positive (Ok []) found n e = cc
-step_positive (Ok (word ∷ words)) found n e = step_if (bytes_eq word (codes "song")) (bytes_eq word (codes "limit")) (bytes_eq word (codes "gone")) (bytes_eq word (codes "scanned"))
+step_positive : (everyday : Bool) (r : Result (List (List ℕ)) WordsFault) (found : LimitName) (n : ℕ) → step_if_read everyday r ≡ Some (Limit found n) → 1 ≤ n
+step_positive everyday (Err fault) found n e = cc
+step_positive everyday (Ok []) found n e = cc
+step_positive everyday (Ok (word ∷ words)) found n e = step_if everyday (bytes_eq word (codes "song")) (bytes_eq word (codes "limit")) (bytes_eq word (codes "gone")) (bytes_eq word (codes "scanned"))
     (bytes_eq word (codes "in")) word words found n e
 
 -- a limit that a step sets is at least 1
-pub limit_at_least_one : (rest : List ℕ) (found : LimitName) (n : ℕ) → Some (Limit found n) ≡ step_of rest → 1 ≤ n
+pub limit_at_least_one : (everyday : Bool) (rest : List ℕ) (found : LimitName) (n : ℕ) → Some (Limit found n) ≡ step_of everyday rest → 1 ≤ n
 unfolding step_of
-limit_at_least_one rest found n e = step_positive (words_of rest) found n (sym e)
+limit_at_least_one everyday rest found n e = step_positive everyday (words_of rest) found n (sym e)
 
 number_in : LineData → ℕ
 number_in (ClientLine number rest) = number

@@ -330,7 +330,7 @@ module _ {P : Type 0} (kind : PlayerKind P) where
   shown_step s (Some Window) found = shows_window s s.player
 
   abbrev pub step_line : ScriptData P → List ℕ → Memory → Shown P
-  step_line s rest memory = once_read s memory (shown_step s (step_of rest) (found_then memory))
+  step_line s rest memory = once_read s memory (shown_step s (step_of s.commands.everyday rest) (found_then memory))
 
   abbrev pub request_run : P → ℕ → Request → Option PartitionFault → LineRun P
   request_run player number request (Some fault) =

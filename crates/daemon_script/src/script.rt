@@ -127,7 +127,7 @@ impl Script {
         ensures script { IfOk result (Leaves (step_line images self.old rest.now) self.new) }
         ensures text { IfOk result (PrintsBy (step_line images self.old rest.now) shown.old shown.new) }
     {
-        match Step::of_line(self.alloc, rest) {
+        match Step::of_line(self.alloc, self.commands.everyday, rest) {
             Ok(Some(Step::Song(song))) => self.collect(song, shown),
             Ok(Some(Step::Limit(name, n))) => self.lower(name, n, shown),
             Ok(Some(Step::Gone(number))) => self.send_off(number, shown),

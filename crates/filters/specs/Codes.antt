@@ -5,8 +5,8 @@ use Rattle.std.proofs.Common.{sym, ap, ◌∙◌}
 use borrow.Author.Tests.{eqb-false}
 use base.Stored.{Gv, gnil, gnum, gcons, num}
 use Rattle.filters.specs.declared.expression.Field.{Field}
-use Rattle.mpd_text.specs.declared.songs.song.TagName.TheVariants.{Title, Artist, Album, Date, Genre, Comment}
-use Rattle.filters.specs.declared.expression.Field.TheVariants.{Tag, NoTag, File, Any}
+use Rattle.mpd_text.specs.declared.songs.song.TagName.TheVariants.{Title, Artist, Album, Date, Genre, Comment, AlbumArtist, Track, Disc, Composer}
+use Rattle.filters.specs.declared.expression.Field.TheVariants.{Tag, NoTag, File, Any, AnyKnown}
 use Rattle.filters.specs.declared.expression.Test.{Test}
 use Rattle.filters.specs.declared.expression.Test.TheVariants.{Equals, Differs, Contains}
 use Rattle.filters.specs.Expressions.{Expression, Compare, Under, Negation, Both}
@@ -18,14 +18,21 @@ field_number (Tag Album) = 2
 field_number (Tag Date) = 3
 field_number (Tag Genre) = 4
 field_number (Tag Comment) = 5
-field_number File = 6
-field_number Any = 7
-field_number NoTag = 8
+field_number (Tag AlbumArtist) = 6
+field_number (Tag Track) = 7
+field_number (Tag Disc) = 8
+field_number (Tag Composer) = 9
+field_number File = 10
+field_number Any = 11
+field_number AnyKnown = 12
+field_number NoTag = 13
 
 abbrev pub field_at : ℕ → Field
 field_at n =
-    if n == 0 then Tag Title else (if n == 1 then Tag Artist else (if n == 2 then Tag Album else (if n == 3 then Tag Date
-    else (if n == 4 then Tag Genre else (if n == 5 then Tag Comment else (if n == 6 then File else (if n == 7 then Any else NoTag)))))))
+    if n == 0 then Tag Title else (if n == 1 then Tag Artist else (if n == 2 then Tag Album else (if n == 3 then Tag Date else
+    (if n == 4 then Tag Genre else (if n == 5 then Tag Comment else (if n == 6 then Tag AlbumArtist else (if n == 7 then Tag Track else
+    (if n == 8 then Tag Disc else (if n == 9 then Tag Composer else (if n == 10 then File else (if n == 11 then Any else
+    (if n == 12 then AnyKnown else NoTag))))))))))))
 
 pub field_back : (f : Field) → field_at (field_number f) ≡ f
 field_back (Tag Title) = refl
@@ -34,8 +41,13 @@ field_back (Tag Album) = refl
 field_back (Tag Date) = refl
 field_back (Tag Genre) = refl
 field_back (Tag Comment) = refl
+field_back (Tag AlbumArtist) = refl
+field_back (Tag Track) = refl
+field_back (Tag Disc) = refl
+field_back (Tag Composer) = refl
 field_back File = refl
 field_back Any = refl
+field_back AnyKnown = refl
 field_back NoTag = refl
 
 abbrev pub test_number : Test → ℕ

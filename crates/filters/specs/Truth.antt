@@ -1,13 +1,13 @@
--- When a song meets a filter (MPD protocol reference, Filters; that an absent tag is the empty text is this
--- profile's).
-use Rattle.std.specs.Prelude.{◌≡◌, ◌≢◌, ℕ, List, [], ◌∷◌, ◌++◌, ◌⊎◌, ◌==◌, if◌then◌else◌, chars, encode_utf8_all}
+-- When a song meets a filter (MPD protocol reference, Filters; what is read of a tag that the song has not is
+-- this profile's).
+use Rattle.std.specs.Prelude.{◌≡◌, ◌≢◌, ℕ, List, [], ◌∷◌, ◌++◌, ◌⊎◌, chars, encode_utf8_all}
 use Rattle.std.specs.Str.Iter.{HasSubslice}
 use Rattle.caseless.specs.Caseless.{default_case_fold}
 use Rattle.mpd_text.specs.Songs.Song.{SongData, TagData}
-use Rattle.mpd_text.specs.Songs.Tags.{tag_names, tag_number}
+use Rattle.mpd_text.specs.Songs.Tags.{tag_names, base_tag_names, text_of_tag}
 use Rattle.mpd_text.specs.declared.songs.song.TagName.{TagName}
 use Rattle.filters.specs.declared.expression.Field.{Field}
-use Rattle.filters.specs.declared.expression.Field.TheVariants.{Tag, NoTag, File, Any}
+use Rattle.filters.specs.declared.expression.Field.TheVariants.{Tag, NoTag, File, Any, AnyKnown}
 use Rattle.filters.specs.declared.expression.Test.{Test}
 use Rattle.filters.specs.declared.expression.Test.TheVariants.{Equals, Differs, Contains}
 use Rattle.filters.specs.declared.matching.Case.{Case}
@@ -16,22 +16,18 @@ use Rattle.filters.specs.declared.matching.Relation.{Relation}
 use Rattle.filters.specs.declared.matching.Relation.TheVariants.{Same, Includes as IncludesIt}
 use Rattle.filters.specs.Expressions.{Expression, Compare, Under, Negation, Both}
 
--- the text of the first tag of this name; empty where there is none
-abbrev pub text_of_tag : TagName → List TagData → List ℕ
-text_of_tag name [] = []
-text_of_tag name (tag ∷ tags) = if tag_number tag.name == tag_number name then tag.text else text_of_tag name tags
-
--- some tag of these names has a text with this property
+-- some tag of these names, each read as by its own name, has a text with this property
 abbrev pub SomeTag : (List ℕ → Type 0) → List TagName → List TagData → Type 0
 SomeTag P [] tags = ⊥
 SomeTag P (name ∷ names) tags = P (text_of_tag name tags) ⊎ SomeTag P names tags
 
--- what is compared has this property: of `any` it is enough that one tag has it
+-- what is compared has this property: of several tags it is enough that one has it
 abbrev pub HasIt : (List ℕ → Type 0) → Field → SongData → Type 0
 HasIt P (Tag name) song = P (text_of_tag name song.tags)
 HasIt P NoTag song = P []
 HasIt P File song = P song.uri
-HasIt P Any song = SomeTag P tag_names song.tags
+HasIt P Any song = SomeTag P base_tag_names song.tags
+HasIt P AnyKnown song = SomeTag P tag_names song.tags
 
 -- a text as it is compared: where case is ignored, in the default case folding of the Unicode Standard,
 -- section 3.13

@@ -7,7 +7,7 @@ use Rattle.mpd_text.specs.declared.songs.song.TagName.TheVariants.{Title, Artist
 use Rattle.known_tags.specs.declared.known_tag.KnownTag.{KnownTag}
 use Rattle.known_tags.specs.KnownTags.{tag_of, read_of}
 use Rattle.filters.specs.declared.expression.Field.{Field}
-use Rattle.filters.specs.declared.expression.Field.TheVariants.{Tag, NoTag, File, Any}
+use Rattle.filters.specs.declared.expression.Field.TheVariants.{Tag, NoTag, File, Any, AnyKnown}
 use Rattle.filters.specs.declared.words.Vocabulary.{Vocabulary}
 use Rattle.filters.specs.declared.words.Vocabulary.TheVariants.{Base, Known}
 
@@ -31,7 +31,7 @@ same_word word name = str_eq_ignore_ascii_case word name
 abbrev pub is_base : List ℕ → Bool
 is_base word = same_word word (codes "base")
 
--- what of a song the word names, where its six tags are words
+-- what of a song the word names, where the six tags of the base profile are words
 unfoldable pub base_field : List ℕ → Option Field
 base_field word =
     if same_word word (codes "title") then Some (Tag Title)
@@ -56,7 +56,7 @@ field_of_tag tag = field_read (read_of tag)
 unfoldable pub known_field : List ℕ → Option Field
 known_field word =
     if same_word word (codes "file") || same_word word (codes "filename") then Some File
-    else (if same_word word (codes "any") then Some Any else option_map field_of_tag (tag_of word))
+    else (if same_word word (codes "any") then Some AnyKnown else option_map field_of_tag (tag_of word))
 
 -- what of a song the word names
 unfoldable pub field_named : Vocabulary → List ℕ → Option Field

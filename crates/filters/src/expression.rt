@@ -9,14 +9,16 @@ use std::marker::Model;
 /// What of a song is compared.
 #[derive(Clone, Copy, PartialEq, Eq)]
 pub enum Field {
-    /// The text of a tag; empty where the song has none of the name.
+    /// The text of a tag, as [`mpd_text::text_of_tag`] reads it.
     Tag(TagName),
     /// The empty text: a tag that clients know and no song has.
     NoTag,
     /// The URI.
     File,
-    /// Each tag's text, of which one is enough.
+    /// The text of each tag of the base profile, of which one is enough.
     Any,
+    /// The text of each of the ten tags, of which one is enough.
+    AnyKnown,
 }
 
 /// How a text of a song is compared with the one that is wanted.

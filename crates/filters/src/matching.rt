@@ -1,12 +1,12 @@
 //! Whether a song meets a filter (MPD protocol reference, Filters).
 ghost use Rattle.std.specs.Prelude.{◌≡◌, ◌↔◌, ◌++◌, ◌∷◌, List, ℕ, IfOk, IsOk, IsTrue, MatchOption};
-ghost use Rattle.filters.specs.Truth.{Holds, Compares, Relates, IsUnder, LacksPrefix, SomeTagRelates, IsRelated, folded, text_of_tag as text_of_tag_lem};
+ghost use Rattle.filters.specs.Truth.{Holds, Compares, Relates, IsUnder, LacksPrefix, SomeTagRelates, IsRelated, folded};
 ghost use Rattle.std.specs.Str.Iter.{HasSubslice};
 ghost use Rattle.filters.specs.declared.matching.Case.TheVariants.{Heeded};
 
 use crate::expression::{Field, Filter, Node, Test};
 use caseless::default_case_fold_str;
-use mpd_text::{Song, TAG_NAMES, Tag, TagName};
+use mpd_text::{BASE_TAG_NAMES, Song, TAG_NAMES, Tag, TagName, text_of_tag};
 use std::alloc::{AllocError, Global};
 
 /// Whether the case of letters counts.
@@ -118,12 +118,13 @@ fn has_it(
         ),
         Field::NoTag => text_has_it(alloc, "", relation, wanted, case),
         Field::File => text_has_it(alloc, song.uri(), relation, wanted, case),
-        Field::Any => some_tag(alloc, song.tags(), &TAG_NAMES, relation, wanted, case),
+        Field::Any => some_tag(alloc, song.tags(), &BASE_TAG_NAMES, relation, wanted, case),
+        Field::AnyKnown => some_tag(alloc, song.tags(), &TAG_NAMES, relation, wanted, case),
     }
 }
 
-/// Whether some tag of these names has a text with this relation to the wanted one. An absent tag is the
-/// empty text.
+/// Whether some tag of these names, each read as by its own name, has a text with this relation to the
+/// wanted one.
 fn some_tag(
     alloc: Global,
     tags: &[Tag],
@@ -177,18 +178,6 @@ fn includes(text: &str, wanted: &str) -> bool
     ensures { IsTrue result ↔ HasSubslice text.now wanted.now }
 {
     text.contains(wanted)
-}
-
-/// The text of the first tag of this name; empty where there is none.
-fn text_of_tag(tags: &[Tag], name: TagName) -> &str
-    ensures { result.now ≡ text_of_tag_lem name tags.now }
-{
-    for tag in tags {
-        if tag.name() == name {
-            return tag.text();
-        }
-    }
-    ""
 }
 
 /// Whether a URI lies under a folder; each lies under the empty one.

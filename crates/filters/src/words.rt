@@ -9,9 +9,10 @@ use mpd_text::TagName;
 /// Which words name what a filter compares.
 #[derive(Clone, Copy, PartialEq, Eq)]
 pub enum Vocabulary {
-    /// The six tags of songs, `file` and `any`. A name is ASCII letters.
+    /// The six tags of the base profile, `file` and `any`, which means these six. A name is ASCII letters.
     Base,
-    /// All tags that clients know, `file`, `filename` and `any`. A name is ASCII letters or `_`.
+    /// All tags that clients know, `file`, `filename` and `any`, which means the ten tags of songs. A name is
+    /// ASCII letters or `_`.
     Known,
 }
 
@@ -42,7 +43,7 @@ pub fn field_named(vocabulary: Vocabulary, word: &str) -> Option<Field>
     }
 }
 
-/// What of a song a word names, where its six tags are words.
+/// What of a song a word names, where the six tags of the base profile are words.
 #[tactic(auto, unfolding(crate::specs::Words::base_field))]
 fn base_field(word: &str) -> Option<Field>
     ensures { result ≡ base_field_lem word.now }
@@ -76,7 +77,7 @@ fn known_field(word: &str) -> Option<Field>
     if same_word(word, "file") || same_word(word, "filename") {
         Some(Field::File)
     } else if same_word(word, "any") {
-        Some(Field::Any)
+        Some(Field::AnyKnown)
     } else {
         match KnownTag::of_word(word) {
             Some(tag) => Some(field_of_tag(tag)),

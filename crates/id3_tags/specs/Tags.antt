@@ -78,3 +78,13 @@ begins_tag chunk = nat_le 10 (length chunk) && starts_with nat_eq chunk (codes "
 unfoldable pub tag_in : List ℕ → Option Id3Tag
 tag_in chunk =
     if begins_tag chunk then tag_of (version_of (slice_index chunk 3)) (slice_index chunk 5) (syncsafe_at chunk 6) (drop 10 chunk) else None
+
+-- the ten bytes of a head and as many as it says; none where it says no size
+abbrev pub with_head : Option ℕ → ℕ
+with_head None = 0
+with_head (Some size) = 10 + size
+
+-- How many bytes from the start of a chunk a tag takes, as its first ten bytes say it. There are none where
+-- these are no head of a tag.
+unfoldable pub tag_len : List ℕ → ℕ
+tag_len chunk = if begins_tag chunk then with_head (syncsafe_at chunk 6) else 0

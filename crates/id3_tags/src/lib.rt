@@ -9,5 +9,6 @@ mod utf16;
 mod windows;
 
 pub use frame::frames_are_those_of_the_bytes;
-pub use texts::{Id3Texts, texts_of};
+pub use tag::tag_len;
+pub use texts::{Id3Texts, bytes_after_the_tag_do_not_matter, no_texts, texts_of};
 pub use windows::windows_1252;

@@ -1,6 +1,6 @@
 //! The head of a tag, and where its frames lie.
-ghost use Rattle.std.specs.Prelude.{◌≡◌, ◌+◌, ◌≤◌, Some, None, MatchOption, length, take, drop};
-ghost use Rattle.id3_tags.specs.Tags.{number_at, syncsafe_at, version_of, is_read, says_unsynchronised, after_extended, frames_in, tag_of, begins_tag, tag_in, is_set};
+ghost use Rattle.std.specs.Prelude.{◌≡◌, ◌+◌, ◌^◌, ◌≤◌, ◌<◌, Some, None, MatchOption, IfSome, length, take, drop};
+ghost use Rattle.id3_tags.specs.Tags.{number_at, syncsafe_at, version_of, is_read, says_unsynchronised, after_extended, frames_in, tag_of, begins_tag, tag_in, tag_len, is_set};
 ghost use Rattle.id3_tags.specs.Views.{tag_data};
 
 /// The major version of a tag: ID3v2.2, 2.3 or 2.4.
@@ -40,7 +40,8 @@ pub(crate) fn plain_at(bytes: &[u8], at: usize) -> u32
 /// the highest bit of a byte is set.
 pub(crate) fn syncsafe_at(bytes: &[u8], at: usize) -> Option<u32>
     requires { at + 4 ≤ length bytes.now }
-    ensures { result ≡ syncsafe_at bytes.now at }
+    ensures value { result ≡ syncsafe_at bytes.now at }
+    ensures bound { IfSome result (λ number. number < 2 ^ 28) }
 {
     let (a, b, c, d) = (bytes[at], bytes[at + 1], bytes[at + 2], bytes[at + 3]);
     if a < 128 && b < 128 && c < 128 && d < 128 {
@@ -167,4 +168,21 @@ pub(crate) fn tag_in(chunk: &[u8]) -> Option<Tag<'_>>
     let version = version_of(chunk[3])?;
     let size = syncsafe_at(chunk, 6)?;
     tag_of(version, chunk[5], size, &chunk[10..])
+}
+
+/// How many bytes from the start of a chunk its ID3v2 tag takes, with the ten of its head. Ten bytes of the
+/// chunk say it; it is 0 where they are no head of a tag, and otherwise below 10 + 2^28. No byte after these
+/// counts for the texts that [`texts_of`](crate::texts_of) gives.
+#[tactic(auto, unfolding(crate::specs::Tags::tag_len))]
+pub fn tag_len(chunk: &[u8]) -> u64
+    ensures value { result ≡ tag_len chunk.now }
+    ensures bound { result < 10 + 2 ^ 28 }
+{
+    if !begins_tag(chunk) {
+        return 0;
+    }
+    match syncsafe_at(chunk, 6) {
+        Some(size) => 10 + u64::from(size),
+        None => 0,
+    }
 }

@@ -1,5 +1,6 @@
 //! The texts that a tag gives.
-ghost use Rattle.std.specs.Prelude.{◌≡◌, IfOk};
+ghost use Rattle.std.specs.Prelude.{◌≡◌, ◌≤◌, ℕ, List, take, IfOk};
+ghost use Rattle.id3_tags.specs.Tags.{tag_len};
 ghost use Rattle.id3_tags.specs.Texts.{frame_text, text_named, text_of, by_version, plain_text, time_or_year, date_of, comment_of, no_texts, texts_in, id3_texts};
 ghost use Rattle.id3_tags.specs.Views.{tag_data, frame_data};
 
@@ -142,7 +143,7 @@ fn comment_of(alloc: Global, tag: Tag<'_>) -> Result<Option<Text>, AllocError>
 }
 
 /// No text of any tag.
-fn no_texts() -> Id3Texts
+pub fn no_texts() -> Id3Texts
     ensures { result ≡ no_texts }
 {
     Id3Texts {
@@ -189,3 +190,9 @@ pub fn texts_of(alloc: Global, chunk: &[u8]) -> Result<Id3Texts, AllocError>
         None => Ok(no_texts()),
     }
 }
+
+/// The law that no byte after a tag counts: the first ten bytes of a chunk say how many bytes, from its start,
+/// are enough.
+pub fn bytes_after_the_tag_do_not_matter()
+    ensures { (chunk : List ℕ) (n : ℕ) → tag_len (take 10 chunk) ≤ n → id3_texts (take n chunk) ≡ id3_texts chunk }
+{}

@@ -1,3 +1,3 @@
-pub mod SixTags
+pub mod TenTags
 pub mod NamedTags
 pub mod ReadBack

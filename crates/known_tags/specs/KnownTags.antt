@@ -1,11 +1,11 @@
 -- The names of tags that clients know (MPD protocol reference, Tags; that ASCII case is ignored, and what is
 -- read of a song for those that songs have not, is this profile's).
-use Rattle.std.specs.Prelude.{ℕ, ◌==◌, List, [], ◌∷◌, codes, Option, Some, None, find, if◌then◌else◌}
+use Rattle.std.specs.Prelude.{ℕ, List, [], ◌∷◌, codes, Option, Some, None, find}
 use Rattle.std.specs.Str.{str_eq_ignore_ascii_case}
-use Rattle.mpd_text.specs.Songs.Song.{SongData, TagData}
-use Rattle.mpd_text.specs.Songs.Tags.{tag_number}
+use Rattle.mpd_text.specs.Songs.Song.{SongData}
+use Rattle.mpd_text.specs.Songs.Tags.{text_of_tag}
 use Rattle.mpd_text.specs.declared.songs.song.TagName.{TagName}
-use Rattle.mpd_text.specs.declared.songs.song.TagName.TheVariants as six
+use Rattle.mpd_text.specs.declared.songs.song.TagName.TheVariants as songs
 use Rattle.known_tags.specs.declared.known_tag.KnownTag.{KnownTag}
 use Rattle.known_tags.specs.declared.known_tag.KnownTag.TheVariants.{Artist, ArtistSort, Album, AlbumSort, AlbumArtist, AlbumArtistSort, Title, Track, Name, Genre, Date, OriginalDate, Composer, ComposerSort, Performer, Conductor, Work, Ensemble, Movement, MovementNumber, Location, Grouping, Comment, Disc, Label, MusicBrainzArtistId, MusicBrainzAlbumId, MusicBrainzAlbumArtistId, MusicBrainzTrackId, MusicBrainzReleaseTrackId, MusicBrainzWorkId}
 
@@ -56,32 +56,30 @@ named word tags = find (λ tag. str_eq_ignore_ascii_case word (text_of tag)) tag
 unfoldable pub tag_of : List ℕ → Option KnownTag
 tag_of word = named word known_tags
 
--- which of the six tags of songs it is
+-- which of the ten tags of songs it is
 abbrev pub base_of : KnownTag → Option TagName
-base_of Artist = Some six.Artist
-base_of Album = Some six.Album
-base_of Title = Some six.Title
-base_of Genre = Some six.Genre
-base_of Date = Some six.Date
-base_of Comment = Some six.Comment
+base_of Artist = Some songs.Artist
+base_of Album = Some songs.Album
+base_of Title = Some songs.Title
+base_of Genre = Some songs.Genre
+base_of Date = Some songs.Date
+base_of Comment = Some songs.Comment
+base_of AlbumArtist = Some songs.AlbumArtist
+base_of Track = Some songs.Track
+base_of Disc = Some songs.Disc
+base_of Composer = Some songs.Composer
 base_of _ = None
 
 -- which tag of a song is read for it
 abbrev pub read_of : KnownTag → Option TagName
-read_of ArtistSort = Some six.Artist
-read_of AlbumArtist = Some six.Artist
-read_of AlbumArtistSort = Some six.Artist
-read_of AlbumSort = Some six.Album
+read_of ArtistSort = Some songs.Artist
+read_of AlbumArtistSort = Some songs.AlbumArtist
+read_of AlbumSort = Some songs.Album
 read_of tag = base_of tag
-
--- the text of the first tag of this name; empty where there is none
-abbrev pub text_of_base : TagName → List TagData → List ℕ
-text_of_base name [] = []
-text_of_base name (tag ∷ tags) = if tag_number tag.name == tag_number name then tag.text else text_of_base name tags
 
 abbrev pub text_read : Option TagName → SongData → List ℕ
 text_read None song = []
-text_read (Some name) song = text_of_base name song.tags
+text_read (Some name) song = text_of_tag name song.tags
 
 -- the text that a song has of it
 abbrev pub text_in : KnownTag → SongData → List ℕ

@@ -1,4 +1,4 @@
--- Sets of the six tags, each in the order in which answers show them (MPD protocol reference, Connection
+-- Sets of the ten tags, each in the order in which answers show them (MPD protocol reference, Connection
 -- settings: `tagtypes`; that a known tag that songs have not does nothing is this profile's).
 use Rattle.std.specs.Prelude.{◌==◌, Bool, true, false, not, ◌&&◌, ◌||◌, List, [], ◌∷◌, Option, Some, None, filter}
 use Rattle.std.specs.List.{list_any}
@@ -26,24 +26,24 @@ abbrev pub has : TagName → List TagName → Bool
 has name set = list_any (same_tag name) set
 
 -- the tags that are in a set or are this one
-abbrev pub joined : TagName → List TagName → List TagName
+unfoldable pub joined : TagName → List TagName → List TagName
 joined name set = filter (λ other. has other set || same_tag other name) tag_names
 
 -- the tags of a set that are not this one
 abbrev pub left : TagName → List TagName → List TagName
 left name set = filter (λ other. not (same_tag other name)) set
 
--- whether a known tag is this one of the six
+-- whether a known tag is this one of the ten
 abbrev pub is_base : TagName → Option TagName → Bool
 is_base name None = false
 is_base name (Some base) = same_tag name base
 
--- whether one of the six is among known tags
+-- whether one of the ten is among known tags
 abbrev pub is_named : TagName → List KnownTag → Bool
 is_named name named = list_any (λ tag. is_base name (base_of tag)) named
 
 -- the tags that are in a set or that a known tag is
-abbrev pub joined_by : KnownTag → List TagName → List TagName
+unfoldable pub joined_by : KnownTag → List TagName → List TagName
 joined_by tag set = filter (λ name. has name set || is_base name (base_of tag)) tag_names
 
 -- the tags of a set that a known tag is not
@@ -51,7 +51,7 @@ abbrev pub left_by : KnownTag → List TagName → List TagName
 left_by tag set = filter (λ name. not (is_base name (base_of tag))) set
 
 -- the tags that are in a set or are named
-abbrev pub enabled : List KnownTag → List TagName → List TagName
+unfoldable pub enabled : List KnownTag → List TagName → List TagName
 enabled named set = filter (λ name. has name set || is_named name named) tag_names
 
 -- the tags of a set that are not named

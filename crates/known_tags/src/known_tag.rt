@@ -1,11 +1,11 @@
 //! The names of tags that clients know (MPD protocol reference, Tags).
 ghost use Rattle.std.specs.Prelude.{◌≡◌, Some};
 ghost use Rattle.std.specs.Str.{str_eq_ignore_ascii_case};
-ghost use Rattle.known_tags.specs.KnownTags.{text_of, tag_of, base_of, read_of, named as named_lem, text_in as text_in_lem, text_of_base as text_of_base_lem};
+ghost use Rattle.known_tags.specs.KnownTags.{text_of, tag_of, base_of, read_of, named as named_lem, text_in as text_in_lem};
 
-use mpd_text::{Song, Tag, TagName};
+use mpd_text::{Song, TagName, text_of_tag};
 
-/// A tag that clients know, in the order of the reference. Songs have six of them alone.
+/// A tag that clients know, in the order of the reference. Songs have ten of them alone.
 #[derive(Clone, Copy, PartialEq, Eq)]
 pub enum KnownTag {
     /// Shown as `Artist`.
@@ -155,7 +155,7 @@ impl KnownTag {
         }
     }
 
-    /// Which of the six tags of songs it is, if it is one of them.
+    /// Which of the ten tags of songs it is, if it is one of them.
     pub fn base(self) -> Option<TagName>
         ensures { result ≡ base_of self }
     {
@@ -166,31 +166,33 @@ impl KnownTag {
             KnownTag::Date => Some(TagName::Date),
             KnownTag::Genre => Some(TagName::Genre),
             KnownTag::Comment => Some(TagName::Comment),
+            KnownTag::AlbumArtist => Some(TagName::AlbumArtist),
+            KnownTag::Track => Some(TagName::Track),
+            KnownTag::Disc => Some(TagName::Disc),
+            KnownTag::Composer => Some(TagName::Composer),
             _ => None,
         }
     }
 
-    /// Which tag of a song is read for it (this profile's): the artist also for the names for sorting by it
-    /// and for the artist of an album, the album also for sorting by it, and no tag for the others.
+    /// Which tag of a song is read for it (this profile's): the artist, the album and the artist of an album
+    /// also for the names for sorting by them, and no tag for the others.
     pub fn read_as(self) -> Option<TagName>
         ensures { result ≡ read_of self }
     {
         match self {
-            KnownTag::ArtistSort | KnownTag::AlbumArtist | KnownTag::AlbumArtistSort => {
-                Some(TagName::Artist)
-            }
+            KnownTag::ArtistSort => Some(TagName::Artist),
             KnownTag::AlbumSort => Some(TagName::Album),
+            KnownTag::AlbumArtistSort => Some(TagName::AlbumArtist),
             _ => self.base(),
         }
     }
 
-    /// The text that a song has of it: that of its first tag of the name that is read; empty where it has
-    /// none.
+    /// The text that a song has of it: that of the tag that is read; empty where it has none.
     pub fn text_in<'a>(self, song: &'a Song) -> &'a str
         ensures { result.now ≡ text_in_lem self song.now }
     {
         match self.read_as() {
-            Some(name) => text_of_base(song.tags(), name),
+            Some(name) => text_of_tag(song.tags(), name),
             None => "",
         }
     }
@@ -212,16 +214,4 @@ fn same_word(word: &str, name: &str) -> bool
     ensures { result ≡ str_eq_ignore_ascii_case word.now name.now }
 {
     word.eq_ignore_ascii_case(name)
-}
-
-/// The text of the first tag of this name; empty where there is none.
-fn text_of_base(tags: &[Tag], name: TagName) -> &str
-    ensures { result.now ≡ text_of_base_lem name tags.now }
-{
-    for tag in tags {
-        if tag.name() == name {
-            return tag.text();
-        }
-    }
-    ""
 }

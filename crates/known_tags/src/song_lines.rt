@@ -4,12 +4,12 @@ ghost use Rattle.std.specs.Prelude.{◌≡◌, ◌++◌, ℕ, OnOk};
 ghost use Rattle.std.specs.List.{flat_map};
 ghost use Rattle.mpd_text.specs.Songs.Song.{SongData};
 ghost use Rattle.mpd_text.specs.Songs.Tags.{tag_names};
-ghost use Rattle.song_db.specs.Lines.{song_lines, tag_line};
+ghost use Rattle.song_db.specs.Lines.{song_lines};
 ghost use Rattle.known_tags.specs.Lines.{tag_lines_of, song_lines_with, tagtype_lines, tag_line_where, tagtype_line_where};
 
 use crate::tag_set::{TagSet, is_among};
 use mpd_text::{Answer, Song, TAG_NAMES, Tag, TagName};
-use song_db::{Rate, SharedSong, first_tag, push_length};
+use song_db::{Rate, SharedSong, push_length, push_tag};
 use std::alloc::AllocError;
 
 /// Appends the lines of a shared song to an answer, as [`push_song_with`] does. With all tags those of its
@@ -61,7 +61,7 @@ fn push_tags(answer: &mut Answer, tags: &[Tag], set: TagSet) -> Result<(), Alloc
 fn push_where(
     answer: &mut Answer,
     tags: &[Tag],
-    bits: u8,
+    bits: u16,
     names: &[TagName],
 ) -> Result<(), AllocError>
     ensures { OnOk result (answer.new ≡ answer.old ++ flat_map (tag_line_where bits tags.now) names.now) }
@@ -75,7 +75,7 @@ fn push_where(
 fn push_tag_where(
     answer: &mut Answer,
     tags: &[Tag],
-    bits: u8,
+    bits: u16,
     name: TagName,
 ) -> Result<(), AllocError>
     ensures { OnOk result (answer.new ≡ answer.old ++ tag_line_where bits tags.now name) }
@@ -86,16 +86,6 @@ fn push_tag_where(
     Ok(())
 }
 
-/// The line of the first tag of a name, if there is one.
-fn push_tag(answer: &mut Answer, name: TagName, tags: &[Tag]) -> Result<(), AllocError>
-    ensures { OnOk result (answer.new ≡ answer.old ++ tag_line name tags.now) }
-{
-    match first_tag(tags, name) {
-        Some(tag) => answer.pair(name.text(), tag.text()),
-        None => Ok(()),
-    }
-}
-
 /// Appends a line `tagtype: NAME` for each tag of a set, in the order of [`TAG_NAMES`]. Where memory runs
 /// out, the answer may have some of them.
 pub fn push_tagtypes(answer: &mut Answer, set: TagSet) -> Result<(), AllocError>
@@ -104,7 +94,7 @@ pub fn push_tagtypes(answer: &mut Answer, set: TagSet) -> Result<(), AllocError>
     push_types_where(answer, set.bits, &TAG_NAMES)
 }
 
-fn push_types_where(answer: &mut Answer, bits: u8, names: &[TagName]) -> Result<(), AllocError>
+fn push_types_where(answer: &mut Answer, bits: u16, names: &[TagName]) -> Result<(), AllocError>
     ensures { OnOk result (answer.new ≡ answer.old ++ flat_map (tagtype_line_where bits) names.now) }
 {
     for name in names {
@@ -113,7 +103,7 @@ fn push_types_where(answer: &mut Answer, bits: u8, names: &[TagName]) -> Result<
     Ok(())
 }
 
-fn push_type_where(answer: &mut Answer, bits: u8, name: TagName) -> Result<(), AllocError>
+fn push_type_where(answer: &mut Answer, bits: u16, name: TagName) -> Result<(), AllocError>
     ensures { OnOk result (answer.new ≡ answer.old ++ tagtype_line_where bits name) }
 {
     if is_among(bits, name) {

@@ -1,5 +1,5 @@
 -- What is found while folders are listed.
-use Rattle.std.proofs.Common.{◌≡◌, ◌∙◌, ℕ, ◌+◌, ◌≤◌, ◌<◌, inl, inr, drop, add-one, drop-cons, length-append, true, false, List, [], ◌∷◌, ◌++◌, length, take, Option, Some, None, sym, ap, subst, refl, arith, append_assoc}
+use Rattle.std.proofs.Common.{◌≡◌, ◌∙◌, ℕ, ◌+◌, ◌≤◌, ◌<◌, inl, inr, drop, add-one, drop-cons, length-append, Bool, true, false, List, [], ◌∷◌, ◌++◌, length, take, Option, Some, None, sym, ap, subst, refl, arith, append_assoc}
 use Rattle.std.specs.Prelude.{slice_get}
 use Rattle.std.specs.List.{flat_map}
 use Rattle.mpd_text.specs.Songs.Song.{SongData}
@@ -64,42 +64,42 @@ keeps_nothing found = record {
   names = refl;
 }
 
-module _ (tree : Tree) (rate : ℕ) (folder : List ℕ) where
+module _ (tree : Tree) (everyday : Bool) (rate : ℕ) (folder : List ℕ) where
   -- what is found now is what was kept of the names that were told: with what is left, it makes all
   pub record Goes (left all : List Entry) (first now : Found) : Type 0 where
-    pub gains : (final : Found) → Adds (kept_heard tree rate folder left) now final → Adds (kept_heard tree rate folder all) first final
+    pub gains : (final : Found) → Adds (kept_heard tree everyday rate folder left) now final → Adds (kept_heard tree everyday rate folder all) first final
     pub whole : never_breaks left ≡ never_breaks all
-    pub songs : length now.songs.items + length (songs_of (kept_heard tree rate folder left)) ≡ length first.songs.items + length (songs_of (kept_heard tree rate folder all))
-    pub names : now.names + length (kept_heard tree rate folder left) ≡ first.names + length (kept_heard tree rate folder all)
+    pub songs : length now.songs.items + length (songs_of (kept_heard tree everyday rate folder left)) ≡ length first.songs.items + length (songs_of (kept_heard tree everyday rate folder all))
+    pub names : now.names + length (kept_heard tree everyday rate folder left) ≡ first.names + length (kept_heard tree everyday rate folder all)
 
   pub begun : (all : List Entry) (first : Found) → Goes all all first first
   begun all first = record { gains = λ final adds. adds; whole = refl; songs = refl; names = refl }
 
   module _ (left all more : List Entry) (first now counted next : Found) (goes : Goes left all first now) (is : IsCounted now counted) where
-    pub named : (name : List ℕ) → left ≡ Name name ∷ more → Keeps (kept_at tree rate (path_of folder name)) counted next → Goes more all first next
+    pub named : (name : List ℕ) → left ≡ Name name ∷ more → Keeps (kept_at tree everyday rate (path_of folder name)) counted next → Goes more all first next
     named name told keeps = record {
-      gains = λ final adds. goes.gains final (subst (λ l. Adds (kept_heard tree rate folder l) now final) (sym told) (one_more (kept_at tree rate (path_of folder name)) (kept_heard tree rate folder more) now counted next final is keeps adds));
+      gains = λ final adds. goes.gains final (subst (λ l. Adds (kept_heard tree everyday rate folder l) now final) (sym told) (one_more (kept_at tree everyday rate (path_of folder name)) (kept_heard tree everyday rate folder more) now counted next final is keeps adds));
       whole = ap never_breaks (sym told) ∙ goes.whole;
-      songs = less (kept_at tree rate (path_of folder name)) (kept_heard tree rate folder more) now counted next is keeps _ (subst (λ l. length now.songs.items + length (songs_of (kept_heard tree rate folder l)) ≡ length first.songs.items + length (songs_of (kept_heard tree rate folder all))) told goes.songs);
-      names = (let n = ap (λ l. length (kept_heard tree rate folder l)) told in let a = goes.names in let b = is.names in let d = keeps.names in omega arith);
+      songs = less (kept_at tree everyday rate (path_of folder name)) (kept_heard tree everyday rate folder more) now counted next is keeps _ (subst (λ l. length now.songs.items + length (songs_of (kept_heard tree everyday rate folder l)) ≡ length first.songs.items + length (songs_of (kept_heard tree everyday rate folder all))) told goes.songs);
+      names = (let n = ap (λ l. length (kept_heard tree everyday rate folder l)) told in let a = goes.names in let b = is.names in let d = keeps.names in omega arith);
     }
 
     pub passed : left ≡ NotText ∷ more → Goes more all first counted
     passed told = record {
-      gains = λ final adds. goes.gains final (subst (λ l. Adds (kept_heard tree rate folder l) now final) (sym told) (one_more nothing (kept_heard tree rate folder more) now counted counted final is (keeps_nothing counted) adds));
+      gains = λ final adds. goes.gains final (subst (λ l. Adds (kept_heard tree everyday rate folder l) now final) (sym told) (one_more nothing (kept_heard tree everyday rate folder more) now counted counted final is (keeps_nothing counted) adds));
       whole = ap never_breaks (sym told) ∙ goes.whole;
-      songs = less nothing (kept_heard tree rate folder more) now counted counted is (keeps_nothing counted) _ (subst (λ l. length now.songs.items + length (songs_of (kept_heard tree rate folder l)) ≡ length first.songs.items + length (songs_of (kept_heard tree rate folder all))) told goes.songs);
-      names = (let n = ap (λ l. length (kept_heard tree rate folder l)) told in let a = goes.names in let b = is.names in omega arith);
+      songs = less nothing (kept_heard tree everyday rate folder more) now counted counted is (keeps_nothing counted) _ (subst (λ l. length now.songs.items + length (songs_of (kept_heard tree everyday rate folder l)) ≡ length first.songs.items + length (songs_of (kept_heard tree everyday rate folder all))) told goes.songs);
+      names = (let n = ap (λ l. length (kept_heard tree everyday rate folder l)) told in let a = goes.names in let b = is.names in omega arith);
     }
 
-    pub broken : left ≡ Broken ∷ more → Adds (kept_heard tree rate folder all) first counted
-    broken told = goes.gains counted (subst (λ l. Adds (kept_heard tree rate folder l) now counted) (sym told) (one_more nothing [] now counted counted counted is (keeps_nothing counted) (no_more counted)))
+    pub broken : left ≡ Broken ∷ more → Adds (kept_heard tree everyday rate folder all) first counted
+    broken told = goes.gains counted (subst (λ l. Adds (kept_heard tree everyday rate folder l) now counted) (sym told) (one_more nothing [] now counted counted counted is (keeps_nothing counted) (no_more counted)))
 
     pub broke : left ≡ Broken ∷ more → false ≡ never_breaks all
     broke told = ap never_breaks (sym told) ∙ goes.whole
 
-  pub ended : (left all : List Entry) (first now : Found) → Goes left all first now → left ≡ [] → Adds (kept_heard tree rate folder all) first now
-  ended left all first now goes told = goes.gains now (subst (λ l. Adds (kept_heard tree rate folder l) now now) (sym told) (no_more now))
+  pub ended : (left all : List Entry) (first now : Found) → Goes left all first now → left ≡ [] → Adds (kept_heard tree everyday rate folder all) first now
+  ended left all first now goes told = goes.gains now (subst (λ l. Adds (kept_heard tree everyday rate folder l) now now) (sym told) (no_more now))
 
   pub ended_whole : (left all : List Entry) (first now : Found) → Goes left all first now → left ≡ [] → true ≡ never_breaks all
   ended_whole left all first now goes told = ap never_breaks (sym told) ∙ goes.whole
@@ -115,48 +115,48 @@ around xs at x is = sym (take-append-drop at xs) ∙ ap (λ r. take at xs ++ r) 
 counted_more : (tree : Tree) (listed : List (List ℕ)) (uri : List ℕ) → length (flat_map (told_in tree) listed) + length (told_in tree uri) ≡ length (flat_map (told_in tree) (listed ++ uri ∷ []))
 counted_more tree listed uri = sym (length-append (flat_map (told_in tree) listed) (told_in tree uri)) ∙ ap length (flat_map_more (told_in tree) [] listed uri)
 
-over_of : (tree : Tree) (rate : ℕ) (listed : List (List ℕ)) (uri : List ℕ) (old : Found) → Holds tree rate listed old → IsOverWith old (kept_in tree rate uri)
-    → IsOver (length (flat_map (songs_in tree rate) (listed ++ uri ∷ []))) (length (flat_map (told_in tree) (listed ++ uri ∷ [])))
-over_of tree rate listed uri old holds over = elim over [
+over_of : (tree : Tree) (everyday : Bool) (rate : ℕ) (listed : List (List ℕ)) (uri : List ℕ) (old : Found) → Holds tree everyday rate listed old → IsOverWith old (kept_in tree everyday rate uri)
+    → IsOver (length (flat_map (songs_in tree everyday rate) (listed ++ uri ∷ []))) (length (flat_map (told_in tree) (listed ++ uri ∷ [])))
+over_of tree everyday rate listed uri old holds over = elim over [
   | inl songs ↦ inl (
       let a = ap length holds.songs in
-      let b = length-append (flat_map (songs_in tree rate) listed) (songs_in tree rate uri) in
-      let d = ap length (flat_map_more (songs_in tree rate) [] listed uri) in
+      let b = length-append (flat_map (songs_in tree everyday rate) listed) (songs_in tree everyday rate uri) in
+      let d = ap length (flat_map_more (songs_in tree everyday rate) [] listed uri) in
       omega arith)
   | inr names ↦ inr (
       let a = holds.names in
       let b = counted_more tree listed uri in
-      let d = length-map (told_in tree uri) (kept_of_entry tree rate uri) in
+      let d = length-map (told_in tree uri) (kept_of_entry tree everyday rate uri) in
       omega arith)
 ]
 
 -- one folder more was listed
-pub listed : (tree : Tree) (rate at : ℕ) (uri : List ℕ) (old new : Found) → Holds tree rate (take at old.folders.items) old → slice_get old.folders.items at ≡ Some uri → Adds (kept_in tree rate uri) old new
-    → Holds tree rate (take (at + 1) new.folders.items) new
-listed tree rate at uri old new holds is adds =
-    subst (λ l. Holds tree rate l new) (sym (taken old.folders.items new.folders.items _ at uri is adds.folders)) (record {
-      folders = adds.folders ∙ ap (λ s. s ++ folders_in tree rate uri) holds.folders ∙ flat_map_more (folders_in tree rate) ([] ∷ []) (take at old.folders.items) uri;
-      songs = adds.songs ∙ ap (λ s. s ++ songs_in tree rate uri) holds.songs ∙ flat_map_more (songs_in tree rate) [] (take at old.folders.items) uri;
-      refused = adds.refused ∙ ap (λ s. s ++ refused_in tree rate uri) holds.refused ∙ flat_map_more (refused_in tree rate) [] (take at old.folders.items) uri;
-      names = adds.names ∙ ap (λ n. n + length (kept_in tree rate uri)) holds.names ∙ ap (λ n. length (flat_map (told_in tree) (take at old.folders.items)) + n) (length-map (told_in tree uri) (kept_of_entry tree rate uri)) ∙ counted_more tree (take at old.folders.items) uri;
+pub listed : (tree : Tree) (everyday : Bool) (rate at : ℕ) (uri : List ℕ) (old new : Found) → Holds tree everyday rate (take at old.folders.items) old → slice_get old.folders.items at ≡ Some uri → Adds (kept_in tree everyday rate uri) old new
+    → Holds tree everyday rate (take (at + 1) new.folders.items) new
+listed tree everyday rate at uri old new holds is adds =
+    subst (λ l. Holds tree everyday rate l new) (sym (taken old.folders.items new.folders.items _ at uri is adds.folders)) (record {
+      folders = adds.folders ∙ ap (λ s. s ++ folders_in tree everyday rate uri) holds.folders ∙ flat_map_more (folders_in tree everyday rate) ([] ∷ []) (take at old.folders.items) uri;
+      songs = adds.songs ∙ ap (λ s. s ++ songs_in tree everyday rate uri) holds.songs ∙ flat_map_more (songs_in tree everyday rate) [] (take at old.folders.items) uri;
+      refused = adds.refused ∙ ap (λ s. s ++ refused_in tree everyday rate uri) holds.refused ∙ flat_map_more (refused_in tree everyday rate) [] (take at old.folders.items) uri;
+      names = adds.names ∙ ap (λ n. n + length (kept_in tree everyday rate uri)) holds.names ∙ ap (λ n. length (flat_map (told_in tree) (take at old.folders.items)) + n) (length-map (told_in tree uri) (kept_of_entry tree everyday rate uri)) ∙ counted_more tree (take at old.folders.items) uri;
     })
 
 -- the folder of a place has too much with those before it
-pub too_large : (tree : Tree) (rate at : ℕ) (uri : List ℕ) (old : Found) → Holds tree rate (take at old.folders.items) old → slice_get old.folders.items at ≡ Some uri → IsOverWith old (kept_in tree rate uri) → IsTooLarge tree rate
-too_large tree rate at uri old holds is over = record {
+pub too_large : (tree : Tree) (everyday : Bool) (rate at : ℕ) (uri : List ℕ) (old : Found) → Holds tree everyday rate (take at old.folders.items) old → slice_get old.folders.items at ≡ Some uri → IsOverWith old (kept_in tree everyday rate uri) → IsTooLarge tree everyday rate
+too_large tree everyday rate at uri old holds is over = record {
   before = take at old.folders.items;
   folder = uri;
   after = drop (at + 1) old.folders.items;
   reached = sym holds.folders ∙ around old.folders.items at uri is;
-  over = over_of tree rate (take at old.folders.items) uri old holds over;
+  over = over_of tree everyday rate (take at old.folders.items) uri old holds over;
 }
 
 -- the scanned folder is the first
-pub first_listed : (tree : Tree) (rate : ℕ) (found : Found) → RootListed tree rate found → Holds tree rate (take 1 found.folders.items) found
-first_listed tree rate found root = subst (λ l. Holds tree rate l found) (sym (ap (take 1) root.folders)) root
+pub first_listed : (tree : Tree) (everyday : Bool) (rate : ℕ) (found : Found) → RootListed tree everyday rate found → Holds tree everyday rate (take 1 found.folders.items) found
+first_listed tree everyday rate found root = subst (λ l. Holds tree everyday rate l found) (sym (ap (take 1) root.folders)) root
 
 -- no folder is left
-pub all_listed : (tree : Tree) (rate at : ℕ) (found : Found) → Holds tree rate (take at found.folders.items) found → slice_get found.folders.items at ≡ None → Holds tree rate found.folders.items found
-all_listed tree rate at found holds none =
+pub all_listed : (tree : Tree) (everyday : Bool) (rate at : ℕ) (found : Found) → Holds tree everyday rate (take at found.folders.items) found → slice_get found.folders.items at ≡ None → Holds tree everyday rate found.folders.items found
+all_listed tree everyday rate at found holds none =
     let past : length found.folders.items ≤ at = grind (arith, slice_get_cases found.folders.items at) in
-    subst (λ l. Holds tree rate l found) (take_all at found.folders.items past) holds
+    subst (λ l. Holds tree everyday rate l found) (take_all at found.folders.items past) holds

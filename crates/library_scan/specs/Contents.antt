@@ -26,8 +26,8 @@ Keeps Empty meaning = (wave : Wave) × (meaning ≡ Ok wave) × (length wave.fra
 Keeps (Refused r) meaning = Refuses r meaning
 
 -- what is kept of a file is what its bytes mean, where they are known
-abbrev pub KeepsBytes : ℕ → Option (List ℕ) → Result Content AllocError → Type 0
-KeepsBytes rate known result = IfSome known (λ bytes. IfOk result (λ content. Keeps content (wave_of rate bytes)))
+abbrev pub KeepsBytes : Bool → ℕ → Option (List ℕ) → Result Content AllocError → Type 0
+KeepsBytes everyday rate known result = IfSome known (λ bytes. IfOk result (λ content. Keeps content (wave_of everyday rate bytes)))
 
 -- a refusal that says that the file could not be opened or read
 abbrev pub is_read_fault : Refusal → Bool

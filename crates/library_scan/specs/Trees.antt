@@ -30,11 +30,11 @@ reading_of content.Empty = AsNothing
 reading_of (content.Refused cause) = AsRefused cause
 
 -- What lies on a disk, by URI: what a folder tells in its order, or that it cannot be opened; what the system
--- says that a path is; and what a file turns out to be at a rate.
+-- says that a path is; and what a file turns out to be, in the everyday profile or not, at a rate.
 pub record Tree : Type 0 where
   pub told : List ℕ → Option (List Entry)
   pub kind : List ℕ → Kind
-  pub reading : ℕ → List ℕ → Reading
+  pub reading : Bool → ℕ → List ℕ → Reading
 
 -- what holds where the tree is known
 abbrev pub OnTree : Option Tree → (Tree → Type 0) → Type 0
@@ -72,14 +72,14 @@ kept_of uri Descend reading = one_folder uri
 kept_of uri Refuse reading = one_refused uri refusal.ReadFault
 kept_of uri Read reading = kept_of_file uri reading
 
-abbrev pub kept_at : Tree → ℕ → List ℕ → Kept
-kept_at tree rate uri = kept_of uri (step_of uri (tree.kind uri)) (tree.reading rate uri)
+abbrev pub kept_at : Tree → Bool → ℕ → List ℕ → Kept
+kept_at tree everyday rate uri = kept_of uri (step_of uri (tree.kind uri)) (tree.reading everyday rate uri)
 
 -- of what a folder tells: a name that is no text is passed over
-abbrev pub kept_of_entry : Tree → ℕ → List ℕ → Entry → Kept
-kept_of_entry tree rate folder (Name name) = kept_at tree rate (path_of folder name)
-kept_of_entry tree rate folder NotText = nothing
-kept_of_entry tree rate folder Broken = nothing
+abbrev pub kept_of_entry : Tree → Bool → ℕ → List ℕ → Entry → Kept
+kept_of_entry tree everyday rate folder (Name name) = kept_at tree everyday rate (path_of folder name)
+kept_of_entry tree everyday rate folder NotText = nothing
+kept_of_entry tree everyday rate folder Broken = nothing
 
 -- what is heard of a folder: all that it tells, or all up to where its listing broke off
 abbrev pub heard : List Entry → List Entry
@@ -115,28 +115,28 @@ Tells old new None = old ≡ []
 Tells old new (Some entry) = old ≡ entry ∷ new
 
 -- a file turns out to be what it is
-abbrev pub Reads : Tree → ℕ → List ℕ → Content → Type 0
-Reads tree rate uri content = reading_of content ≡ tree.reading rate uri
+abbrev pub Reads : Tree → Bool → ℕ → List ℕ → Content → Type 0
+Reads tree everyday rate uri content = reading_of content ≡ tree.reading everyday rate uri
 
 -- what is heard of a folder of a tree
 abbrev pub told_in : Tree → List ℕ → List Entry
 told_in tree folder = heard_of (tree.told folder)
 
 -- what is kept of each name that a folder tells, in its order
-abbrev pub kept_heard : Tree → ℕ → List ℕ → List Entry → List Kept
-kept_heard tree rate folder told = map (kept_of_entry tree rate folder) (heard told)
+abbrev pub kept_heard : Tree → Bool → ℕ → List ℕ → List Entry → List Kept
+kept_heard tree everyday rate folder told = map (kept_of_entry tree everyday rate folder) (heard told)
 
-abbrev pub kept_in : Tree → ℕ → List ℕ → List Kept
-kept_in tree rate folder = map (kept_of_entry tree rate folder) (told_in tree folder)
+abbrev pub kept_in : Tree → Bool → ℕ → List ℕ → List Kept
+kept_in tree everyday rate folder = map (kept_of_entry tree everyday rate folder) (told_in tree folder)
 
-abbrev pub songs_in : Tree → ℕ → List ℕ → List SongData
-songs_in tree rate folder = flat_map (λ kept. kept.songs) (kept_in tree rate folder)
+abbrev pub songs_in : Tree → Bool → ℕ → List ℕ → List SongData
+songs_in tree everyday rate folder = flat_map (λ kept. kept.songs) (kept_in tree everyday rate folder)
 
-abbrev pub refused_in : Tree → ℕ → List ℕ → List Refused
-refused_in tree rate folder = flat_map (λ kept. kept.refused) (kept_in tree rate folder)
+abbrev pub refused_in : Tree → Bool → ℕ → List ℕ → List Refused
+refused_in tree everyday rate folder = flat_map (λ kept. kept.refused) (kept_in tree everyday rate folder)
 
-abbrev pub folders_in : Tree → ℕ → List ℕ → List (List ℕ)
-folders_in tree rate folder = flat_map (λ kept. kept.folders) (kept_in tree rate folder)
+abbrev pub folders_in : Tree → Bool → ℕ → List ℕ → List (List ℕ)
+folders_in tree everyday rate folder = flat_map (λ kept. kept.folders) (kept_in tree everyday rate folder)
 
 -- what is found gains this of a name
 pub record Keeps (kept : Kept) (old new : Found) : Type 0 where
@@ -153,16 +153,16 @@ pub record Adds (kept : List Kept) (old new : Found) : Type 0 where
   pub names : new.names ≡ old.names + length kept
 
 -- what is found gains what is kept of a name of a folder, of all that a folder has to tell, of a folder
-abbrev pub KeepsName : {X : Type 0} → Option Tree → ℕ → List ℕ → List ℕ → Found → Found → Result X ScanFault → Type 0
-KeepsName known rate folder name old new result =
-    OnTree known (λ tree. OnOk result (Keeps (kept_at tree rate (path_of folder name)) old new))
+abbrev pub KeepsName : {X : Type 0} → Option Tree → Bool → ℕ → List ℕ → List ℕ → Found → Found → Result X ScanFault → Type 0
+KeepsName known everyday rate folder name old new result =
+    OnTree known (λ tree. OnOk result (Keeps (kept_at tree everyday rate (path_of folder name)) old new))
 
-abbrev pub AddsTold : {X : Type 0} → Option Tree → ℕ → List ℕ → List Entry → Found → Found → Result X ScanFault → Type 0
-AddsTold known rate folder told old new result =
-    OnTree known (λ tree. OnOk result (Adds (kept_heard tree rate folder told) old new))
+abbrev pub AddsTold : {X : Type 0} → Option Tree → Bool → ℕ → List ℕ → List Entry → Found → Found → Result X ScanFault → Type 0
+AddsTold known everyday rate folder told old new result =
+    OnTree known (λ tree. OnOk result (Adds (kept_heard tree everyday rate folder told) old new))
 
-abbrev pub AddsFolder : {X : Type 0} → Option Tree → ℕ → List ℕ → Found → Found → Result X ScanFault → Type 0
-AddsFolder known rate folder old new result = OnTree known (λ tree. OnOk result (Adds (kept_in tree rate folder) old new))
+abbrev pub AddsFolder : {X : Type 0} → Option Tree → Bool → ℕ → List ℕ → Found → Found → Result X ScanFault → Type 0
+AddsFolder known everyday rate folder old new result = OnTree known (λ tree. OnOk result (Adds (kept_in tree everyday rate folder) old new))
 
 -- why a listing ends early: the songs or the names are at their limit, or there is no memory
 abbrev pub IsLimit : Found → ScanFault → Type 0
@@ -172,19 +172,19 @@ IsLimit found NoMemory = Unit {0}
 
 -- What was found is what these folders hold that were listed, the scanned one first; the folders known are
 -- that one and each that lies in one that was listed; and each name that they told was counted.
-pub record Holds (tree : Tree) (rate : ℕ) (listed : List (List ℕ)) (found : Found) : Type 0 where
-  pub folders : found.folders.items ≡ [] ∷ flat_map (folders_in tree rate) listed
-  pub songs : found.songs.items ≡ flat_map (songs_in tree rate) listed
-  pub refused : found.refused.items ≡ flat_map (refused_in tree rate) listed
+pub record Holds (tree : Tree) (everyday : Bool) (rate : ℕ) (listed : List (List ℕ)) (found : Found) : Type 0 where
+  pub folders : found.folders.items ≡ [] ∷ flat_map (folders_in tree everyday rate) listed
+  pub songs : found.songs.items ≡ flat_map (songs_in tree everyday rate) listed
+  pub refused : found.refused.items ≡ flat_map (refused_in tree everyday rate) listed
   pub names : found.names ≡ length (flat_map (told_in tree) listed)
 
 -- the folder that is scanned was listed, and nothing else yet
-abbrev pub RootListed : Tree → ℕ → Found → Type 0
-RootListed tree rate found = Holds tree rate ([] ∷ []) found
+abbrev pub RootListed : Tree → Bool → ℕ → Found → Type 0
+RootListed tree everyday rate found = Holds tree everyday rate ([] ∷ []) found
 
 -- then each folder that was found was listed
-abbrev pub ListsAll : Tree → ℕ → Found → Found → Type 0
-ListsAll tree rate old new = RootListed tree rate old → Holds tree rate new.folders.items new
+abbrev pub ListsAll : Tree → Bool → ℕ → Found → Found → Type 0
+ListsAll tree everyday rate old new = RootListed tree everyday rate old → Holds tree everyday rate new.folders.items new
 
 -- more songs than a library has, or more names than a scan looks at
 abbrev pub IsOver : ℕ → ℕ → Type 0
@@ -201,12 +201,12 @@ NoRoom found kept = (length found.songs.items ≡ 100000) × (0 < length kept.so
 
 -- These folders have too much for a scan: those that it lists first, in the order in which they are found,
 -- and the one that comes after them.
-pub record IsTooLarge (tree : Tree) (rate : ℕ) : Type 0 where
+pub record IsTooLarge (tree : Tree) (everyday : Bool) (rate : ℕ) : Type 0 where
   pub before : List (List ℕ)
   pub folder : List ℕ
   pub after : List (List ℕ)
-  pub reached : [] ∷ flat_map (folders_in tree rate) before ≡ before ++ folder ∷ after
-  pub over : IsOver (length (flat_map (songs_in tree rate) (before ++ folder ∷ [])))
+  pub reached : [] ∷ flat_map (folders_in tree everyday rate) before ≡ before ++ folder ∷ after
+  pub over : IsOver (length (flat_map (songs_in tree everyday rate) (before ++ folder ∷ [])))
       (length (flat_map (told_in tree) (before ++ folder ∷ [])))
 
 -- what holds where there is too much
@@ -214,25 +214,25 @@ abbrev pub OnTooMany : {X : Type 0} → Result X ScanFault → Type 0 → Type 0
 OnTooMany result P = IsErrOf result TooMany → P
 
 -- too much is what is kept of a name of a folder, of all that a folder has to tell, of a folder
-abbrev pub OverByName : {X : Type 0} → Option Tree → ℕ → List ℕ → List ℕ → Found → Result X ScanFault → Type 0
-OverByName known rate folder name found result =
-    OnTree known (λ tree. OnTooMany result (NoRoom found (kept_at tree rate (path_of folder name))))
+abbrev pub OverByName : {X : Type 0} → Option Tree → Bool → ℕ → List ℕ → List ℕ → Found → Result X ScanFault → Type 0
+OverByName known everyday rate folder name found result =
+    OnTree known (λ tree. OnTooMany result (NoRoom found (kept_at tree everyday rate (path_of folder name))))
 
-abbrev pub OverByTold : {X : Type 0} → Option Tree → ℕ → List ℕ → List Entry → Found → Result X ScanFault → Type 0
-OverByTold known rate folder told found result =
-    OnTree known (λ tree. OnTooMany result (IsOverWith found (kept_heard tree rate folder told)))
+abbrev pub OverByTold : {X : Type 0} → Option Tree → Bool → ℕ → List ℕ → List Entry → Found → Result X ScanFault → Type 0
+OverByTold known everyday rate folder told found result =
+    OnTree known (λ tree. OnTooMany result (IsOverWith found (kept_heard tree everyday rate folder told)))
 
-abbrev pub OverByFolder : {X : Type 0} → Option Tree → ℕ → List ℕ → Found → Result X ScanFault → Type 0
-OverByFolder known rate folder found result = OnTree known (λ tree. OnTooMany result (IsOverWith found (kept_in tree rate folder)))
+abbrev pub OverByFolder : {X : Type 0} → Option Tree → Bool → ℕ → List ℕ → Found → Result X ScanFault → Type 0
+OverByFolder known everyday rate folder found result = OnTree known (λ tree. OnTooMany result (IsOverWith found (kept_in tree everyday rate folder)))
 
-abbrev pub RestIsTooLarge : Tree → ℕ → Found → Type 0
-RestIsTooLarge tree rate found = RootListed tree rate found → IsTooLarge tree rate
+abbrev pub RestIsTooLarge : Tree → Bool → ℕ → Found → Type 0
+RestIsTooLarge tree everyday rate found = RootListed tree everyday rate found → IsTooLarge tree everyday rate
 
 -- Why a tree has no scan: its own folder cannot be listed whole, or it has too much, or there is no memory.
-abbrev pub Explains : Tree → ℕ → ScanFault → Type 0
-Explains tree rate NoFolder = is_whole (tree.told []) ≡ false
-Explains tree rate TooMany = IsTooLarge tree rate
-Explains tree rate NoMemory = Unit {0}
+abbrev pub Explains : Tree → Bool → ℕ → ScanFault → Type 0
+Explains tree everyday rate NoFolder = is_whole (tree.told []) ≡ false
+Explains tree everyday rate TooMany = IsTooLarge tree everyday rate
+Explains tree everyday rate NoMemory = Unit {0}
 
 -- each of these is among those, and of each of those one of its URI is left
 pub record OnceEach {X : Type 0} (uri : X → List ℕ) (given left : List X) : Type 0 where
@@ -241,9 +241,9 @@ pub record OnceEach {X : Type 0} (uri : X → List ℕ) (given left : List X) : 
 
 -- A scan gives what all folders hold that can be found: the scanned one, and each that lies in one of them.
 -- The list of these folders is the only one that the equation has.
-pub record IsScanOf (tree : Tree) (rate : ℕ) (scanned : Scanned) : Type 0 where
+pub record IsScanOf (tree : Tree) (everyday : Bool) (rate : ℕ) (scanned : Scanned) : Type 0 where
   pub whole : IsTrue (is_whole (tree.told []))
   pub folders : List (List ℕ)
-  pub reached : folders ≡ [] ∷ flat_map (folders_in tree rate) folders
-  pub songs : OnceEach (λ (song : SongData). song.uri) (flat_map (songs_in tree rate) folders) scanned.songs.items
-  pub refused : OnceEach (λ (file : Refused). file.uri) (flat_map (refused_in tree rate) folders) scanned.refused.items
+  pub reached : folders ≡ [] ∷ flat_map (folders_in tree everyday rate) folders
+  pub songs : OnceEach (λ (song : SongData). song.uri) (flat_map (songs_in tree everyday rate) folders) scanned.songs.items
+  pub refused : OnceEach (λ (file : Refused). file.uri) (flat_map (refused_in tree everyday rate) folders) scanned.refused.items

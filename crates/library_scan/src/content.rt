@@ -53,21 +53,22 @@ pub enum Content {
     Refused(Refusal),
 }
 
-/// What a scan at this rate keeps of a file.
+/// What a scan at this rate keeps of a file, with the tags of the everyday profile or of the base profile.
 pub fn content_of<M: Media>(
     alloc: Global,
     media: &mut M,
     rate: &Rate,
+    everyday: bool,
 ) -> Result<Content, AllocError>
     // It is what the whole bytes mean.
-    ensures value { KeepsBytes rate.now (M.all_bytes media.old) result }
+    ensures value { KeepsBytes everyday rate.now (M.all_bytes media.old) result }
     // It is unread exactly where the device failed, or was called too often.
     ensures cause { UnreadOnFailure (M.call_counts media.old) (M.call_counts media.new) result }
     ensures calm { NoFewer (M.call_counts media.old) (M.call_counts media.new) }
 {
     let failures = media.failures();
     let blocked = media.blocked();
-    let head = read_head(alloc, media, rate.frames());
+    let head = read_head(alloc, media, rate.frames(), everyday);
     // What was read over a failure says nothing of the file.
     if media.failures() > failures || media.blocked() > blocked {
         return Ok(Content::Refused(Refusal::ReadFault));
@@ -93,10 +94,11 @@ pub(crate) fn content_in<F: ReadSeek + Drop>(
     alloc: Global,
     file: F,
     rate: &Rate,
+    everyday: bool,
     call_counts: &mut CallCounts,
 ) -> Result<Content, AllocError>
     // It is what the whole bytes mean.
-    ensures value { KeepsBytes rate.now (F.known_bytes file) result }
+    ensures value { KeepsBytes everyday rate.now (F.known_bytes file) result }
     ensures cause { UnreadOnFailure call_counts.old call_counts.new result }
     ensures calm { NoFewer call_counts.old call_counts.new }
 {
@@ -112,7 +114,7 @@ pub(crate) fn content_in<F: ReadSeek + Drop>(
         return Ok(Content::Refused(Refusal::ReadFault));
     };
     let mut window = Windowed::new(file, len);
-    let content = content_of(alloc, &mut window, rate);
+    let content = content_of(alloc, &mut window, rate, everyday);
     add_calls(call_counts, &window);
     content
 }
@@ -138,16 +140,17 @@ pub(crate) fn content_if_open<F: ReadSeek + Drop>(
     alloc: Global,
     opened: io::Result<F>,
     rate: &Rate,
+    everyday: bool,
     call_counts: &mut CallCounts,
 ) -> Result<Content, AllocError>
-    ensures open { IfOk opened (λ file. KeepsBytes rate.now (F.known_bytes file) result) }
+    ensures open { IfOk opened (λ file. KeepsBytes everyday rate.now (F.known_bytes file) result) }
     ensures shut { IfErr opened (λ _. result ≡ Ok (Content.Refused Refusal.ReadFault)) }
     ensures cause { UnreadOnFailure call_counts.old call_counts.new result }
     ensures calm { NoFewer call_counts.old call_counts.new }
 {
     call_counts.count_result(&opened);
     match opened {
-        Ok(file) => content_in(alloc, file, rate, call_counts),
+        Ok(file) => content_in(alloc, file, rate, everyday, call_counts),
         Err(_) => Ok(Content::Refused(Refusal::ReadFault)),
     }
 }

@@ -59,11 +59,17 @@ pub trait Disk: Failing {
         ensures cause { UnseenOnFailure (Self.call_counts self.old) (Self.call_counts self.new) result }
         ensures calm { NoFewer (Self.call_counts self.old) (Self.call_counts self.new) };
 
-    /// What a file is at this rate.
-    fn read(&mut self, alloc: Global, uri: &str, rate: &Rate) -> Result<Content, AllocError>
+    /// What a file is at this rate, with the tags of the everyday profile or of the base profile.
+    fn read(
+        &mut self,
+        alloc: Global,
+        uri: &str,
+        rate: &Rate,
+        everyday: bool,
+    ) -> Result<Content, AllocError>
         ensures stays { known_tree self.new ≡ known_tree self.old }
         ensures left { left self.new ≡ left self.old }
-        ensures reads { OnTree (known_tree self.old) (λ tree. IfOk result (Reads tree rate.now uri.now)) }
+        ensures reads { OnTree (known_tree self.old) (λ tree. IfOk result (Reads tree everyday rate.now uri.now)) }
         ensures cause { UnreadOnFailure (Self.call_counts self.old) (Self.call_counts self.new) result }
         ensures calm { NoFewer (Self.call_counts self.old) (Self.call_counts self.new) };
 }

@@ -97,10 +97,16 @@ where
         Ok(kind_of(&told))
     }
 
-    fn read(&mut self, alloc: Global, uri: &str, rate: &Rate) -> Result<Content, AllocError> {
+    fn read(
+        &mut self,
+        alloc: Global,
+        uri: &str,
+        rate: &Rate,
+        everyday: bool,
+    ) -> Result<Content, AllocError> {
         let path = joined(alloc, self.root, uri)?;
         let opened = fs::open(self.rt, path.as_str());
-        content_if_open(alloc, opened, rate, &mut self.call_counts)
+        content_if_open(alloc, opened, rate, everyday, &mut self.call_counts)
     }
 }
 

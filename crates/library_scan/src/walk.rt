@@ -36,7 +36,8 @@ impl Watcher for Unwatched {
     fn saw(&mut self, _names: u64) {}
 }
 
-/// The songs of a folder at this rate, and the files that are none.
+/// The songs of a folder at this rate, and the files that are none. In the everyday profile songs have the tags
+/// of that profile too, and ID3v2 tags are read.
 ///
 /// Looked at are regular files and folders, down to sixteen below this one; links are followed, and so a
 /// folder that leads back to itself is listed at each depth. Of files those are read whose name ends in
@@ -50,6 +51,7 @@ pub fn scan<R: Files + AllocGlobal + Clone + Drop, W: Watcher>(
     alloc: Global,
     disk: &mut SystemDisk<'_, R>,
     rate: &Rate,
+    everyday: bool,
     watcher: &mut W,
 ) -> Result<Scanned, ScanFault>
 where
@@ -61,7 +63,7 @@ where
     ensures unread { GivenFailed disk.old.call_counts disk.new.call_counts result }
     ensures no_folder { IsErrOf result ScanFault.NoFolder → HasFailed disk.old.call_counts disk.new.call_counts }
 {
-    scan_disk(alloc, disk, rate, watcher)
+    scan_disk(alloc, disk, rate, everyday, watcher)
 }
 
 /// Scans a disk, as [`scan`] does a folder of the system.
@@ -69,6 +71,7 @@ pub fn scan_disk<D: Disk, W: Watcher>(
     alloc: Global,
     disk: &mut D,
     rate: &Rate,
+    everyday: bool,
     watcher: &mut W,
 ) -> Result<Scanned, ScanFault>
     ensures order { IfOk result (λ scanned. InByteOrder scanned.songs.items) }
@@ -76,18 +79,18 @@ pub fn scan_disk<D: Disk, W: Watcher>(
     ensures few { IfOk result (λ scanned. length scanned.songs.items ≤ 100000) }
     ensures refused_order { IfOk result (λ scanned. RefusedInOrder scanned.refused.items) }
     // It is what all folders hold that can be found.
-    ensures scan { OnTree (D.known_tree disk.old) (λ tree. IfOk result (IsScanOf tree rate.now)) }
+    ensures scan { OnTree (D.known_tree disk.old) (λ tree. IfOk result (IsScanOf tree everyday rate.now)) }
     // A fault names what the disk has: no whole listing of its own folder, or more than the limits.
-    ensures cause { OnTree (D.known_tree disk.old) (λ tree. IfErr result (Explains tree rate.now)) }
+    ensures cause { OnTree (D.known_tree disk.old) (λ tree. IfErr result (Explains tree everyday rate.now)) }
     // Each file that is called unreadable has a call of its own that failed.
     ensures unread { GivenFailed (D.call_counts disk.old) (D.call_counts disk.new) result }
     ensures no_folder { IsErrOf result ScanFault.NoFolder → HasFailed (D.call_counts disk.old) (D.call_counts disk.new) }
 {
     let mut found = Found::new(alloc)?;
-    if !list(alloc, disk, "", rate, &mut found, watcher)? {
+    if !list(alloc, disk, "", rate, everyday, &mut found, watcher)? {
         return Err(ScanFault::NoFolder);
     }
-    list_below(alloc, disk, rate, &mut found, watcher)?;
+    list_below(alloc, disk, rate, everyday, &mut found, watcher)?;
     Ok(in_order(found))
 }
 
@@ -115,11 +118,14 @@ fn list_below<D: Disk, W: Watcher>(
     alloc: Global,
     disk: &mut D,
     rate: &Rate,
+    everyday: bool,
     found: &mut Found,
     watcher: &mut W,
 ) -> Result<(), ScanFault>
-    ensures all { OnTree (D.known_tree disk.old) (λ tree. OnOk result (ListsAll tree rate.now found.old found.new)) }
-    ensures over { OnTree (D.known_tree disk.old) (λ tree. OnTooMany result (RestIsTooLarge tree rate.now found.old)) }
+    ensures all { OnTree (D.known_tree disk.old) (λ tree.
+        OnOk result (ListsAll tree everyday rate.now found.old found.new)) }
+    ensures over { OnTree (D.known_tree disk.old) (λ tree.
+        OnTooMany result (RestIsTooLarge tree everyday rate.now found.old)) }
     ensures cause { IfErr result (IsLimit found.new) }
     ensures unread { FoundFailed (D.call_counts disk.old) (D.call_counts disk.new) found.old found.new result }
     ensures calm { NoFewer (D.call_counts disk.old) (D.call_counts disk.new) }
@@ -129,7 +135,7 @@ fn list_below<D: Disk, W: Watcher>(
         let Some(uri) = found.folder(alloc, at)? else {
             return Ok(());
         };
-        let _is_listed = list(alloc, disk, uri.as_str(), rate, found, watcher)?;
+        let _is_listed = list(alloc, disk, uri.as_str(), rate, everyday, found, watcher)?;
         at += 1;
     }
 }
@@ -140,13 +146,14 @@ fn list<D: Disk, W: Watcher>(
     disk: &mut D,
     uri: &str,
     rate: &Rate,
+    everyday: bool,
     found: &mut Found,
     watcher: &mut W,
 ) -> Result<bool, ScanFault>
     ensures stays { D.known_tree disk.new ≡ D.known_tree disk.old }
-    ensures adds { AddsFolder (D.known_tree disk.old) rate.now uri.now found.old found.new result }
+    ensures adds { AddsFolder (D.known_tree disk.old) everyday rate.now uri.now found.old found.new result }
     ensures whole { OnTree (D.known_tree disk.old) (λ tree. IfOk result (λ all. all ≡ is_whole (tree.told uri.now))) }
-    ensures over { OverByFolder (D.known_tree disk.old) rate.now uri.now found.old result }
+    ensures over { OverByFolder (D.known_tree disk.old) everyday rate.now uri.now found.old result }
     ensures cause { IfErr result (IsLimit found.new) }
     ensures short { IfOk result (λ all. all ≡ false → HasFailed (D.call_counts disk.old) (D.call_counts disk.new)) }
     ensures unread { FoundFailed (D.call_counts disk.old) (D.call_counts disk.new) found.old found.new result }
@@ -155,7 +162,7 @@ fn list<D: Disk, W: Watcher>(
     if !disk.open_folder(alloc, uri)? {
         return Ok(false);
     }
-    list_open(alloc, disk, uri, rate, found, watcher)
+    list_open(alloc, disk, uri, rate, everyday, found, watcher)
 }
 
 /// Looks at each name of the folder that was opened last; false where its listing breaks off.
@@ -164,13 +171,16 @@ fn list_open<D: Disk, W: Watcher>(
     disk: &mut D,
     uri: &str,
     rate: &Rate,
+    everyday: bool,
     found: &mut Found,
     watcher: &mut W,
 ) -> Result<bool, ScanFault>
     ensures stays { D.known_tree disk.new ≡ D.known_tree disk.old }
-    ensures adds { AddsTold (D.known_tree disk.old) rate.now uri.now (D.left disk.old) found.old found.new result }
+    ensures adds { AddsTold (D.known_tree disk.old) everyday rate.now uri.now (D.left disk.old)
+        found.old found.new result }
     ensures whole { OnTree (D.known_tree disk.old) (λ tree. IfOk result (λ all. all ≡ never_breaks (D.left disk.old))) }
-    ensures over { OverByTold (D.known_tree disk.old) rate.now uri.now (D.left disk.old) found.old result }
+    ensures over { OverByTold (D.known_tree disk.old) everyday rate.now uri.now (D.left disk.old)
+        found.old result }
     ensures cause { IfErr result (IsLimit found.new) }
     ensures short { IfOk result (λ all. all ≡ false → HasFailed (D.call_counts disk.old) (D.call_counts disk.new)) }
     ensures unread { FoundFailed (D.call_counts disk.old) (D.call_counts disk.new) found.old found.new result }
@@ -182,7 +192,7 @@ fn list_open<D: Disk, W: Watcher>(
         };
         watcher.saw(found.count_name()?);
         match entry {
-            Entry::Name(name) => look_at(alloc, disk, uri, name.as_str(), rate, found)?,
+            Entry::Name(name) => look_at(alloc, disk, uri, name.as_str(), rate, everyday, found)?,
             Entry::NotText => {}
             Entry::Broken => return Ok(false),
         }
@@ -196,12 +206,14 @@ fn look_at<D: Disk>(
     folder: &str,
     name: &str,
     rate: &Rate,
+    everyday: bool,
     found: &mut Found,
 ) -> Result<(), ScanFault>
     ensures stays { D.known_tree disk.new ≡ D.known_tree disk.old }
     ensures left { D.left disk.new ≡ D.left disk.old }
-    ensures keeps { KeepsName (D.known_tree disk.old) rate.now folder.now name.now found.old found.new result }
-    ensures over { OverByName (D.known_tree disk.old) rate.now folder.now name.now found.old result }
+    ensures keeps { KeepsName (D.known_tree disk.old) everyday rate.now folder.now name.now
+        found.old found.new result }
+    ensures over { OverByName (D.known_tree disk.old) everyday rate.now folder.now name.now found.old result }
     ensures names { found.new.names ≡ found.old.names }
     ensures cause { IfErr result (IsLimit found.new) }
     ensures unread { FoundFailed (D.call_counts disk.old) (D.call_counts disk.new) found.old found.new result }
@@ -214,7 +226,7 @@ fn look_at<D: Disk>(
         Step::Descend => found.descend(uri),
         Step::Refuse => found.refuse(uri, Refusal::ReadFault),
         Step::Read => {
-            let content = disk.read(alloc, uri.as_str(), rate)?;
+            let content = disk.read(alloc, uri.as_str(), rate, everyday)?;
             keep(uri, content, found)
         }
     }

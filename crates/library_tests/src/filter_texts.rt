@@ -22,6 +22,35 @@ const SONGS: &[Given] = &[
     ("dd.wav", &[], 1),
 ];
 
+/// Songs of one album: the artist of the album is another one than the song's, or is not named, and the third
+/// song has no artist.
+const ALBUM: &[Given] = &[
+    (
+        "p/a.wav",
+        &[
+            (TagName::Title, "One"),
+            (TagName::Artist, "Ann"),
+            (TagName::Album, "X"),
+            (TagName::Track, "10/12"),
+        ],
+        1,
+    ),
+    (
+        "p/b.wav",
+        &[
+            (TagName::Title, "Two"),
+            (TagName::Artist, "Bob"),
+            (TagName::Album, "X"),
+            (TagName::AlbumArtist, "Various"),
+            (TagName::Track, "9"),
+            (TagName::Disc, "2"),
+            (TagName::Composer, "Bach"),
+        ],
+        1,
+    ),
+    ("p/c.wav", &[(TagName::Album, "X")], 1),
+];
+
 /// A song whose texts have 1,024 bytes each: the most that a tag's text and a URI have.
 const LONG_SONG: &[Given] = &[(
     "dd",
@@ -65,9 +94,10 @@ fn tell_found(
     }
 }
 
-/// The lines of a table again, with what is found by the filters on their left sides.
+/// The lines of a table again, with what is found among songs by the filters on their left sides.
 fn told_of(
     alloc: Global,
+    songs: &[Given],
     table: &str,
     vocabulary: Vocabulary,
     case: Case,
@@ -77,7 +107,7 @@ fn told_of(
         let (text, _) = line.split_once(" => ").unwrap_or((line, ""));
         told.add(format_args!("{text} => "));
         let filter = Filter::parse(alloc, text, vocabulary);
-        tell_found(&mut told, alloc, SONGS, filter, case);
+        tell_found(&mut told, alloc, songs, filter, case);
         told.add("\n");
     }
     told.into_text()
@@ -162,13 +192,49 @@ const KNOWN: &str = "(MUSICBRAINZ_ALBUMID == 'x') =>\u{20}
 (Track1 == 'x') => bad filter at byte 6
 ";
 
-/// The tables, with what their filters know and how they compare.
-const TABLES: &[(&str, Vocabulary, Case)] = &[
-    (FAULTS, Vocabulary::Base, Case::Heeded),
-    (DEPTHS, Vocabulary::Base, Case::Heeded),
-    (FOUND, Vocabulary::Base, Case::Heeded),
-    (FOUND_IN_ANY_CASE, Vocabulary::Base, Case::Ignored),
-    (KNOWN, Vocabulary::Known, Case::Heeded),
+// Without an artist of the album the artist stands for it.
+const KNOWN_ALBUM: &str = "(AlbumArtist == 'Ann') => p/a.wav\u{20}
+(AlbumArtist == 'Bob') =>\u{20}
+(albumartist == 'Various') => p/b.wav\u{20}
+(AlbumArtistSort == 'Various') => p/b.wav\u{20}
+(ArtistSort == 'Bob') => p/b.wav\u{20}
+(AlbumArtist == '') => p/c.wav\u{20}
+(Track == '10/12') => p/a.wav\u{20}
+(TRACK == '') => p/c.wav\u{20}
+(Disc == '2') => p/b.wav\u{20}
+(composer contains 'ac') => p/b.wav\u{20}
+(ComposerSort == 'Bach') =>\u{20}
+(any == '10/12') => p/a.wav\u{20}
+(any == 'Various') => p/b.wav\u{20}
+(any == 'Bach') => p/b.wav\u{20}
+(any == '2') => p/b.wav\u{20}
+(any == 'Bob') => p/b.wav\u{20}
+(any contains '1') => p/a.wav\u{20}
+(any != '9') => p/a.wav p/c.wav\u{20}
+";
+
+// The base profile has six tags, and they alone are any tag.
+const BASE_ALBUM: &str = "(any == '10/12') =>\u{20}
+(any == 'Various') =>\u{20}
+(any == 'Bach') =>\u{20}
+(any == '2') =>\u{20}
+(any == 'Bob') => p/b.wav\u{20}
+(any != '9') => p/a.wav p/b.wav p/c.wav\u{20}
+(Track == '9') => unknown tag Track
+(Disc == '2') => unknown tag Disc
+(Composer == 'Bach') => unknown tag Composer
+(AlbumArtist == 'Various') => unknown tag AlbumArtist
+";
+
+/// The songs of the tables, and what their filters know and how they compare.
+const TABLES: &[(&[Given], &str, Vocabulary, Case)] = &[
+    (SONGS, FAULTS, Vocabulary::Base, Case::Heeded),
+    (SONGS, DEPTHS, Vocabulary::Base, Case::Heeded),
+    (SONGS, FOUND, Vocabulary::Base, Case::Heeded),
+    (SONGS, FOUND_IN_ANY_CASE, Vocabulary::Base, Case::Ignored),
+    (SONGS, KNOWN, Vocabulary::Known, Case::Heeded),
+    (ALBUM, KNOWN_ALBUM, Vocabulary::Known, Case::Heeded),
+    (ALBUM, BASE_ALBUM, Vocabulary::Base, Case::Heeded),
 ];
 
 fn add_pair(
@@ -266,7 +332,7 @@ const KNOWN_PAIRS: &[Compared] = &[
         Case::Heeded,
     ),
     (
-        &[("Composer", "x")],
+        &[("Composer", "")],
         1,
         Test::Equals,
         Vocabulary::Known,
@@ -278,6 +344,23 @@ const KNOWN_PAIRS: &[Compared] = &[
         Test::Equals,
         Vocabulary::Known,
         Case::Heeded,
+    ),
+];
+
+const ALBUM_PAIRS: &[Compared] = &[
+    (
+        &[("albumartist", "Various"), ("disc", "2")],
+        1,
+        Test::Equals,
+        Vocabulary::Known,
+        Case::Heeded,
+    ),
+    (
+        &[("any", "ANN"), ("track", "/")],
+        1,
+        Test::Contains,
+        Vocabulary::Known,
+        Case::Ignored,
     ),
 ];
 
@@ -296,7 +379,12 @@ const ALL_PAIRS: &[(&[Given], &[Compared], &str)] = &[
         PAIRS,
         "a.wav b.wav d d/c.wav dd.wav |b.wav |b.wav |d/c.wav |unknown tag foo|unknown tag filename|",
     ),
-    (SONGS, KNOWN_PAIRS, "b.wav ||unknown tag Art_ist|"),
+    (
+        SONGS,
+        KNOWN_PAIRS,
+        "b.wav |a.wav b.wav d d/c.wav dd.wav |unknown tag Art_ist|",
+    ),
+    (ALBUM, ALBUM_PAIRS, "p/b.wav |p/a.wav |"),
     (LONG_SONG, LONG_PAIR, "dd |"),
 ];
 
@@ -339,8 +427,8 @@ fn told_of_long(alloc: Global) -> Result<String, AllocError> {
 fn songs_that_meet_filters(rt: HostRuntime) -> Result<(), Fail> {
     one_answer();
     let alloc = rt.alloc();
-    for (table, vocabulary, case) in TABLES {
-        wants(told_of(alloc, table, *vocabulary, *case), table)?;
+    for (songs, table, vocabulary, case) in TABLES {
+        wants(told_of(alloc, songs, table, *vocabulary, *case), table)?;
     }
     for (songs, pairs, wanted) in ALL_PAIRS {
         wants(told_of_pairs(alloc, songs, pairs), wanted)?;

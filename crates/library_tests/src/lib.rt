@@ -2,6 +2,8 @@
 #![tactic(auto)]
 
 #[cfg(test)]
+mod everyday_files;
+#[cfg(test)]
 mod filter_texts;
 #[cfg(test)]
 mod id3_rows;

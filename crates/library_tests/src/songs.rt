@@ -20,6 +20,10 @@ const TWO_TITLES: Tags = &[
 ];
 
 const ALL_TAGS: Tags = &[
+    (TagName::Composer, "t"),
+    (TagName::Disc, "t"),
+    (TagName::Track, "t"),
+    (TagName::AlbumArtist, "t"),
     (TagName::Comment, "t"),
     (TagName::Genre, "t"),
     (TagName::Date, "t"),
@@ -32,7 +36,8 @@ const ALL_TAGS: Tags = &[
 fn longest_lines(alloc: Global) -> Result<String, AllocError> {
     let text = "t".repeat(alloc, 1_024)?;
     format!(in alloc;
-        "file: {text}\nTitle: {text}\nArtist: {text}\nAlbum: {text}\nDate: {text}\nGenre: {text}\nComment: {text}\n"
+        "file: {text}\nTitle: {text}\nArtist: {text}\nAlbum: {text}\nDate: {text}\nGenre: {text}\nComment: {text}\n\
+         AlbumArtist: {text}\nTrack: {text}\nDisc: {text}\nComposer: {text}\n"
     )
 }
 

@@ -71,6 +71,10 @@ fn tell_ranges<M: Media>(told: &mut Told, alloc: Global, reader: &mut Reader<M>,
 fn tell_head(told: &mut Told, head: &Head) {
     let (channels, bits, frames) = (head.channels(), head.bits(), head.frames());
     told.add(format_args!("{channels} {bits} {frames}"));
+    tell_tags(told, head);
+}
+
+fn tell_tags(told: &mut Told, head: &Head) {
     for tag in head.tags() {
         told.add(format_args!("|{} {}", tag.name().text(), tag.text()));
     }
@@ -85,7 +89,7 @@ fn tell_file<M: Media + Drop>(
     ranges: &[Range],
 ) {
     let mut media = media;
-    match read_head(alloc, &mut media, rate) {
+    match read_head(alloc, &mut media, rate, false) {
         Ok(head) => {
             let mut reader = Reader::new(media, head);
             tell_head(told, reader.head());
@@ -249,11 +253,26 @@ pub(crate) fn digits(alloc: Global, parts: &[(&str, usize)]) -> Result<String, A
     digits.into_text()
 }
 
+/// Adds each tag after a bar, of a file of these digits in the everyday profile or in the base profile.
+pub(crate) fn tell_tags_of(told: &mut Told, alloc: Global, digits: &str, everyday: bool) {
+    let Ok(mut media) = device(alloc, digits, FailurePoint::Never) else {
+        return told.fail();
+    };
+    match read_head(alloc, &mut media, 8_000, everyday) {
+        Ok(head) => tell_tags(told, &head),
+        Err(fault) => told.add(format_args!("{fault:?}")),
+    }
+}
+
 /// Where the samples of a file begin, how long a frame is, how many frames and tags there are, and how many
 /// calls the reading of its head took.
-fn places_told(alloc: Global, parts: &[(&str, usize)]) -> Result<String, AllocError> {
+fn places_told(
+    alloc: Global,
+    parts: &[(&str, usize)],
+    everyday: bool,
+) -> Result<String, AllocError> {
     let mut media = device(alloc, digits(alloc, parts)?.as_str(), FailurePoint::Never)?;
-    match read_head(alloc, &mut media, 8_000) {
+    match read_head(alloc, &mut media, 8_000, everyday) {
         Ok(head) => {
             let (place, block, frames) = (head.place(), head.layout().block(), head.frames());
             let (tags, calls) = (head.into_tags().len(), media.calls());
@@ -264,7 +283,7 @@ fn places_told(alloc: Global, parts: &[(&str, usize)]) -> Result<String, AllocEr
 }
 
 /// A file's start, with a format of 24 bits and one channel at 8,000 frames a second.
-const START: &str =
+pub(crate) const START: &str =
     "52494646 00000000 57415645 666d7420 10000000 0100 0100 401f0000 c05d0000 0300 1800";
 
 /// An artist of 1,024 letters, the most that a tag has, and one of a letter more, in a list before two frames.
@@ -308,7 +327,7 @@ fn block_of_file_told(alloc: Global, start: &str, rate: u32) -> Result<String, A
     ];
     let digits = digits(alloc, &parts)?;
     let mut media = device(alloc, digits.as_str(), FailurePoint::Never)?;
-    match read_head(alloc, &mut media, rate) {
+    match read_head(alloc, &mut media, rate, false) {
         Ok(head) => block_told(alloc, Reader::new(media, head)),
         Err(fault) => format!(in alloc; "{fault:?}"),
     }
@@ -325,11 +344,11 @@ const HIGHEST: &str =
 
 /// Adds what is read twice of the frames of a file where a call fails, or the fault of its head, and how many
 /// calls failed.
-fn tell_failing(told: &mut Told, alloc: Global, digits: &str, call: u64) {
+fn tell_failing(told: &mut Told, alloc: Global, digits: &str, call: u64, everyday: bool) {
     let Ok(mut media) = device(alloc, digits, FailurePoint::Call(call)) else {
         return told.fail();
     };
-    match read_head(alloc, &mut media, 8_000) {
+    match read_head(alloc, &mut media, 8_000, everyday) {
         Ok(head) => {
             let mut reader = Reader::new(media, head);
             tell_ranges(told, alloc, &mut reader, &[(0, 2), (0, 2)]);
@@ -344,25 +363,52 @@ fn failing_told(alloc: Global, first: u64, last: u64) -> Result<String, AllocErr
     let digits = digits(alloc, LONGEST_TEXT)?;
     let mut told = Told::new(alloc);
     for call in first..=last {
-        tell_failing(&mut told, alloc, digits.as_str(), call);
+        tell_failing(&mut told, alloc, digits.as_str(), call, false);
+    }
+    told.into_text()
+}
+
+/// A file with no samples, and an ID3v2 tag with a title after them.
+const TAGGED: &[(&str, usize)] = &[
+    (START, 1),
+    ("64617461 00000000 69643320 16000000", 1),
+    ("494433030000 0000000c 544954320000000200000062", 1),
+];
+
+/// The same of a file with an ID3v2 tag, whose tags are those of the everyday profile.
+fn failing_tag_told(alloc: Global, last: u64) -> Result<String, AllocError> {
+    let digits = digits(alloc, TAGGED)?;
+    let mut told = Told::new(alloc);
+    for call in 1..=last {
+        tell_failing(&mut told, alloc, digits.as_str(), call, true);
     }
     told.into_text()
 }
 
 // The calls of a head are the file's size, and a seek and a read for each of eleven: the first twelve bytes,
 // three headers and the format for the samples, three headers, the list's kind, an item's header and its text
-// for the tags. Those of frames, at the lowest and the highest rate, are one seek and one read. Then each call
-// fails in turn: the 23 of the head, and the two of the frames.
+// for the tags. In the everyday profile three headers more are read, in search of an ID3v2 tag; of a file with
+// such a tag the calls are the size, and a seek and a read for each of twelve: the twelve bytes, two headers and
+// the format for the samples, three headers for the lists, three for the tag, its head, and all of it. Those of
+// frames, at the lowest and the highest rate, are one seek and one read. Then each call fails in turn: the 23 of
+// the head, the two of the frames, and the 25 of the head with the tag.
 #[test]
 fn places_and_calls(rt: HostRuntime) -> Result<(), Fail> {
     let alloc = rt.alloc();
-    wants(places_told(alloc, LONGEST_TEXT), "1088 3 2 1 23")?;
-    wants(places_told(alloc, TOO_LONG_TEXT), "1090 3 2 0 23")?;
+    wants(places_told(alloc, LONGEST_TEXT, false), "1088 3 2 1 23")?;
+    wants(places_told(alloc, LONGEST_TEXT, true), "1088 3 2 1 29")?;
+    wants(places_told(alloc, TOO_LONG_TEXT, false), "1090 3 2 0 23")?;
+    wants(places_told(alloc, TOO_LONG_TEXT, true), "1090 3 2 0 29")?;
+    wants(places_told(alloc, TAGGED, true), "44 3 0 1 25")?;
     wants(block_of_file_told(alloc, LOWEST, 8_000), "2000 2 true")?;
     wants(block_of_file_told(alloc, HIGHEST, 192_000), "2000 2 true")?;
     wants_made(
         failing_told(alloc, 1, 23),
         "ReadFault 1\n".repeat(alloc, 23),
+    )?;
+    wants_made(
+        failing_tag_told(alloc, 25),
+        "ReadFault 1\n".repeat(alloc, 25),
     )?;
     wants(
         failing_told(alloc, 24, 25),

@@ -23,8 +23,8 @@ tag_choice choice names =
 -- `tagtypes` alone shows the client's tags; in the everyday profile words after it change them
 abbrev pub tags_chosen : Bool → List (List ℕ) → Result ConnectionCommand Misread
 tags_chosen true (choice ∷ names) = tag_choice choice names
-tags_chosen true [] = none_of connection.TagTypes []
-tags_chosen false words = none_of connection.TagTypes words
+tags_chosen true [] = none_of (connection.TagTypes true) []
+tags_chosen false words = none_of (connection.TagTypes false) words
 
 -- the rows from `notcommands` on
 unfoldable pub rows_from_notcommands : CommandSet → List (Row ConnectionCommand)

@@ -27,8 +27,9 @@ pub enum ConnectionCommand {
     NotCommands(CommandSet),
     /// `ping`.
     Ping,
-    /// `tagtypes`: the names of tags that the client is shown of songs.
-    TagTypes,
+    /// `tagtypes`: the names of tags that the client is shown of songs; in the everyday profile those that it
+    /// chose, else the six of the base profile.
+    TagTypes(bool),
     /// `tagtypes all`: the client is shown all tags.
     AllTags,
     /// `tagtypes clear`: the client is shown no tags.
@@ -52,7 +53,7 @@ impl Drop for ConnectionCommand {
             | ConnectionCommand::ListMounts
             | ConnectionCommand::NotCommands(_)
             | ConnectionCommand::Ping
-            | ConnectionCommand::TagTypes
+            | ConnectionCommand::TagTypes(_)
             | ConnectionCommand::AllTags
             | ConnectionCommand::NoTags
             | ConnectionCommand::WithoutTags(_)
@@ -104,7 +105,7 @@ fn choose_tags(
 {
     match words {
         [choice, names @ ..] if everyday => tag_choice(alloc, choice.as_str(), names),
-        _ => none(words, ConnectionCommand::TagTypes),
+        _ => none(words, ConnectionCommand::TagTypes(everyday)),
     }
 }
 

@@ -34,7 +34,7 @@ fn main(rt: HostRuntime) -> io::Result<ExitCode> {
                 Ok(ExitCode::FAILURE)
             }
         },
-        Ok(Program::Scan(rate, folder)) => print_scan(&rt, folder, &rate),
+        Ok(Program::Scan(rate, folder, everyday)) => print_scan(&rt, folder, &rate, everyday),
         Ok(Program::Script) => run_input(&rt),
         Err(fault) => refuse(&rt, &fault),
     }
@@ -87,10 +87,10 @@ fn run_input(rt: &HostRuntime) -> io::Result<ExitCode> {
 }
 
 /// Prints the songs of a folder, and on standard error why other files are not songs.
-fn print_scan(rt: &HostRuntime, folder: &str, rate: &Rate) -> io::Result<ExitCode> {
+fn print_scan(rt: &HostRuntime, folder: &str, rate: &Rate, everyday: bool) -> io::Result<ExitCode> {
     let mut progress = Progress::new(rt, rt.stderr().is_terminal());
     let mut disk = SystemDisk::new(rt, folder);
-    let found = scan(rt.alloc(), &mut disk, rate, &mut progress);
+    let found = scan(rt.alloc(), &mut disk, rate, everyday, &mut progress);
     progress.end();
     let scanned = match found {
         Ok(scanned) => scanned,

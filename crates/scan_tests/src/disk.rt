@@ -14,12 +14,13 @@ use wanted::{Told, wants};
 pub const WAVE: [u8; 75] =
     *b"RIFF\0\0\0\0WAVEfmt \x10\0\0\0\x01\0\x01\0\x40\x1f\0\0\xc0\x5d\0\0\x03\0\x18\0LIST\x10\0\0\0INFOINAM\x03\0\0\0Hi\0\0data\x64\0\0\0\0\x01\0\xff\xff\xff\x7f";
 
-const FOLDERS: [&str; 5] = [
+const FOLDERS: [&str; 6] = [
     "made/kinds/folder.wav",
     "made/kinds/tab\tfolder",
     "made/links/one/two",
     "made/deep/d/d/d/d/d/d/d/d/d/d/d/d/d/d/d/d/d",
     "made/watched/a",
+    "made/tagged",
 ];
 
 /// Files, and with how many bytes of the worked one.
@@ -74,6 +75,16 @@ fn late(alloc: Global) -> Result<Vec<u8>, AllocError> {
     Ok(bytes)
 }
 
+/// A file of one frame, with an ID3v2 tag of a title and an artist after it, and with its title in a list.
+fn tagged(alloc: Global) -> Result<Vec<u8>, AllocError> {
+    let mut bytes = Vec::new(alloc);
+    bytes.extend_from_slice(&WAVE[..36])?;
+    bytes.extend_from_slice(b"data\x03\0\0\0\0\0\0\0id3 \x22\0\0\0ID3\x03\0\0\0\0\0\x18")?;
+    bytes.extend_from_slice(b"TIT2\0\0\0\x02\0\0\0bTPE1\0\0\0\x02\0\0\0c")?;
+    bytes.extend_from_slice(&WAVE[36..60])?;
+    Ok(bytes)
+}
+
 fn fill<R: Files + AllocGlobal>(rt: &R) -> io::Result<()> {
     for folder in FOLDERS.iter() {
         fs::create_dir_all(rt, folder)?;
@@ -85,20 +96,22 @@ fn fill<R: Files + AllocGlobal>(rt: &R) -> io::Result<()> {
         symlink(rt, to, path)?;
     }
     fs::write(rt, "made/kinds/unsupported.wav", &unsupported())?;
-    fs::write(rt, "made/kinds/late.wav", late(rt.alloc())?.as_slice())
+    fs::write(rt, "made/kinds/late.wav", late(rt.alloc())?.as_slice())?;
+    fs::write(rt, "made/tagged/x.wav", tagged(rt.alloc())?.as_slice())
 }
 
 fn scanned<R: Files + AllocGlobal + Clone + Drop>(
     rt: &R,
     folder: &str,
     frames: u32,
+    everyday: bool,
 ) -> Result<Scanned, ScanFault>
 where
     R::File: ReadSeek,
 {
     let rate = Rate::new(frames).unwrap_or(Rate::lowest());
     let mut disk = SystemDisk::new(rt, folder);
-    scan(rt.alloc(), &mut disk, &rate, &mut Unwatched)
+    scan(rt.alloc(), &mut disk, &rate, everyday, &mut Unwatched)
 }
 
 fn add_scanned<R: Files + AllocGlobal + Clone + Drop>(
@@ -106,11 +119,12 @@ fn add_scanned<R: Files + AllocGlobal + Clone + Drop>(
     told: &mut Told,
     folder: &str,
     frames: u32,
+    everyday: bool,
 )
 where
     R::File: ReadSeek,
 {
-    add_scan(told, &scanned(rt, folder, frames));
+    add_scan(told, &scanned(rt, folder, frames, everyday));
     told.add("\n");
 }
 
@@ -130,20 +144,22 @@ where
 {
     let mut count = Count(0);
     let mut disk = SystemDisk::new(rt, folder);
-    let _scanned = scan(rt.alloc(), &mut disk, &Rate::lowest(), &mut count);
+    let _scanned = scan(rt.alloc(), &mut disk, &Rate::lowest(), false, &mut count);
     count.0
 }
 
-/// What is scanned, and at how many frames a second.
-const SCANS: [(&str, u32); 8] = [
-    ("made/kinds", 8_000),
-    ("made/kinds/folder.wav", 44_100),
-    ("made/kinds/folder.wav/", 8_000),
-    ("made/kinds/x.wav", 8_000),
-    ("made/nothing", 8_000),
-    ("", 8_000),
-    ("made/links", 8_000),
-    ("made/deep", 8_000),
+/// What is scanned, at how many frames a second, and whether with the tags of the everyday profile.
+const SCANS: [(&str, u32, bool); 10] = [
+    ("made/kinds", 8_000, false),
+    ("made/kinds/folder.wav", 44_100, false),
+    ("made/kinds/folder.wav/", 8_000, false),
+    ("made/kinds/x.wav", 8_000, false),
+    ("made/nothing", 8_000, false),
+    ("", 8_000, false),
+    ("made/links", 8_000, false),
+    ("made/deep", 8_000, true),
+    ("made/tagged", 8_000, false),
+    ("made/tagged", 8_000, true),
 ];
 
 const SCANS_TELL: &str =
@@ -155,6 +171,8 @@ NoFolder
 NoFolder 
 one/x.wav=2+1 other/x.wav=2+1 y.wav=2+1 gone.wav:ReadFault self.wav:ReadFault 
 d/d/d/d/d/d/d/d/d/d/d/d/d/d/d/d/x.wav=2+1 
+x.wav=1+1 
+x.wav=1+2 
 3 names";
 
 fn told_of_scans<R: Files + AllocGlobal + Clone + Drop>(rt: &R) -> Result<String, AllocError>
@@ -162,8 +180,8 @@ where
     R::File: ReadSeek,
 {
     let mut told = Told::new(rt.alloc());
-    for (folder, frames) in SCANS.iter() {
-        add_scanned(rt, &mut told, folder, *frames);
+    for (folder, frames, everyday) in SCANS.iter() {
+        add_scanned(rt, &mut told, folder, *frames, *everyday);
     }
     let names = names_in(rt, "made/watched");
     told.add(format_args!("{names} names"));
@@ -220,7 +238,7 @@ where
 {
     fill_with_many(rt)?;
     fill_with_long(rt)?;
-    let told = size_of(rt.alloc(), &scanned(rt, "large", 8_000))?;
+    let told = size_of(rt.alloc(), &scanned(rt, "large", 8_000, false))?;
     fs::remove_dir_all(rt, "large")?;
     Ok(told)
 }

@@ -58,7 +58,13 @@ impl Disk for Many {
         Ok(Kind::File)
     }
 
-    fn read(&mut self, alloc: Global, _uri: &str, _rate: &Rate) -> Result<Content, AllocError> {
+    fn read(
+        &mut self,
+        alloc: Global,
+        _uri: &str,
+        _rate: &Rate,
+        _everyday: bool,
+    ) -> Result<Content, AllocError> {
         Ok(Content::Song(Vec::new(alloc), 1))
     }
 }
@@ -67,7 +73,7 @@ fn found(alloc: Global, count: u32) -> Result<String, AllocError> {
     let mut disk = Many { left: count };
     size_of(
         alloc,
-        &scan_disk(alloc, &mut disk, &Rate::lowest(), &mut Unwatched),
+        &scan_disk(alloc, &mut disk, &Rate::lowest(), false, &mut Unwatched),
     )
 }
 
@@ -89,7 +95,12 @@ fn add_kept(told: &mut Told, alloc: Global, point: FailurePoint) {
     let Ok(bytes) = Vec::from_slice(alloc, &WAVE) else {
         return told.fail();
     };
-    match content_of(alloc, &mut FailAt::new(bytes, point), &Rate::lowest()) {
+    match content_of(
+        alloc,
+        &mut FailAt::new(bytes, point),
+        &Rate::lowest(),
+        false,
+    ) {
         Ok(Content::Song(_, frames)) => told.add(format_args!("{frames} frames ")),
         Ok(Content::Refused(refusal)) => told.add(format_args!("{refusal:?} ")),
         Ok(Content::Empty) => told.add("Empty "),

@@ -103,7 +103,7 @@ where
 {
     let fake = (Odd { rt, alloc }, alloc);
     let mut disk = SystemDisk::new(&fake, folder);
-    let scanned = scan(alloc, &mut disk, &Rate::lowest(), &mut Unwatched);
+    let scanned = scan(alloc, &mut disk, &Rate::lowest(), false, &mut Unwatched);
     add_scan(told, &scanned);
 }
 

@@ -24,9 +24,9 @@ fn told(alloc: Global, line: &str) -> Result<String, AllocError> {
 fn program_told(alloc: Global, program: &Program<'_>) -> Result<String, AllocError> {
     match program {
         Program::Serve(file, only_checks) => format!(in alloc; "Serve({file}, {only_checks})"),
-        Program::Scan(rate, folder) => {
+        Program::Scan(rate, folder, everyday) => {
             let frames = rate.frames();
-            format!(in alloc; "Scan({frames}, {folder})")
+            format!(in alloc; "Scan({frames}, {folder}, {everyday})")
         }
         Program::Script => format!(in alloc; "Script"),
     }
@@ -61,12 +61,20 @@ music_daemon serve --config FILE --config FILE => 2: error: the argument '--conf
 music_daemon --config FILE serve => 2: error: unexpected argument '--config' found
 music_daemon help serve => 0: Serves clients and plays to outputs, as a file of settings says
 music_daemon script => Script
-music_daemon scan DIR => Scan(44100, DIR)
-music_daemon scan --rate 8000 DIR => Scan(8000, DIR)
-music_daemon scan --rate 192000 DIR => Scan(192000, DIR)
-music_daemon scan --rate=48000 DIR => Scan(48000, DIR)
-music_daemon scan DIR --rate 8000 => Scan(8000, DIR)
-music_daemon scan -- --rate => Scan(44100, --rate)
+music_daemon scan DIR => Scan(44100, DIR, false)
+music_daemon scan --rate 8000 DIR => Scan(8000, DIR, false)
+music_daemon scan --rate 192000 DIR => Scan(192000, DIR, false)
+music_daemon scan --rate=48000 DIR => Scan(48000, DIR, false)
+music_daemon scan DIR --rate 8000 => Scan(8000, DIR, false)
+music_daemon scan -- --rate => Scan(44100, --rate, false)
+music_daemon scan --everyday DIR => Scan(44100, DIR, true)
+music_daemon scan --rate 8000 --everyday DIR => Scan(8000, DIR, true)
+music_daemon scan --everyday --rate 8000 DIR => Scan(8000, DIR, true)
+music_daemon scan DIR --everyday => Scan(44100, DIR, true)
+music_daemon scan -- --everyday => Scan(44100, --everyday, false)
+music_daemon scan --everyday --everyday DIR => 2: error: the argument '--everyday' cannot be used multiple times
+music_daemon scan --everyday=true DIR => 2: error: unexpected value 'true' for '--everyday' found; no more were expected
+music_daemon scan --everyday => 2: error: the following required arguments were not provided:
 music_daemon scan --rate 7999 DIR => 2: error: invalid value '7999' for '--rate <N>': 7999 is not in 8000..=192000
 music_daemon scan --rate 192001 DIR => 2: error: invalid value '192001' for '--rate <N>': 192001 is not in 8000..=192000
 music_daemon scan --rate x DIR => 2: error: invalid value 'x' for '--rate <N>': invalid digit found in string
@@ -119,6 +127,7 @@ Arguments:
 
 Options:
       --rate <N>  Frames a second that a file must have, 8000 to 192000 [default: 44100]
+      --everyday  Also read the tags of the everyday profile, from ID3 too
   -h, --help      Print help
 ";
 

@@ -18,15 +18,15 @@ use Rattle.script_lines.specs.declared.step.Step.TheVariants.{Song, Limit, Gone,
 unfoldable pub is_uri : List ℕ → Bool
 is_uri uri = nat_le 1 (length uri) && nat_le (length uri) 1024 && not (has_byte 10 uri)
 
-abbrev pub song_with : List ℕ → Option ℕ → List (List ℕ) → Option Step
-song_with uri None words = None
-song_with uri (Some frames) words =
-    if is_uri uri && list_all is_tag words then Some (Song (record { uri = uri; tags = tags_of words; frames = frames })) else None
+abbrev pub song_with : Bool → List ℕ → Option ℕ → List (List ℕ) → Option Step
+song_with everyday uri None words = None
+song_with everyday uri (Some frames) words =
+    if is_uri uri && list_all (is_tag everyday) words then Some (Song (record { uri = uri; tags = tags_of words; frames = frames })) else None
 
--- URI FRAMES [TAG=VALUE...]
-abbrev pub song_of : List (List ℕ) → Option Step
-song_of (uri ∷ frames ∷ words) = song_with uri (number_within 4294967295 frames) words
-song_of _ = None
+-- URI FRAMES [TAG=VALUE...], where the everyday profile is on or off
+abbrev pub song_of : Bool → List (List ℕ) → Option Step
+song_of everyday (uri ∷ frames ∷ words) = song_with everyday uri (number_within 4294967295 frames) words
+song_of everyday _ = None
 
 abbrev pub limit_to : LimitName → Option ℕ → Option Step
 limit_to name None = None
@@ -153,20 +153,20 @@ player_step_of word arguments =
     else in_first (job_step_of word arguments))
 
 -- the step of its words
-abbrev pub step_of_words : List (List ℕ) → Option Step
-step_of_words [] = None
-step_of_words (word ∷ arguments) =
-    if bytes_eq word (codes "song") then song_of arguments
+abbrev pub step_of_words : Bool → List (List ℕ) → Option Step
+step_of_words everyday [] = None
+step_of_words everyday (word ∷ arguments) =
+    if bytes_eq word (codes "song") then song_of everyday arguments
     else (if bytes_eq word (codes "limit") then limit_of arguments
     else (if bytes_eq word (codes "gone") then gone_of arguments
     else (if bytes_eq word (codes "scanned") then scanned_of arguments
     else (if bytes_eq word (codes "in") then named_of arguments
     else player_step_of word arguments))))
 
-abbrev pub step_if_read : Result (List (List ℕ)) WordsFault → Option Step
-step_if_read (Ok words) = step_of_words words
-step_if_read (Err fault) = None
+abbrev pub step_if_read : Bool → Result (List (List ℕ)) WordsFault → Option Step
+step_if_read everyday (Ok words) = step_of_words everyday words
+step_if_read everyday (Err fault) = None
 
--- the step after a step's head, or None where it is bad
-unfoldable pub step_of : List ℕ → Option Step
-step_of rest = step_if_read (words_of rest)
+-- the step after a step's head, where the everyday profile is on or off, or None where it is bad
+unfoldable pub step_of : Bool → List ℕ → Option Step
+step_of everyday rest = step_if_read everyday (words_of rest)

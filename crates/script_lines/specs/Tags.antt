@@ -1,11 +1,11 @@
 -- The tags of a song in a script (this profile's script; texts are taken as those of a RIFF WAVE file's INFO
 -- list).
-use Rattle.std.specs.Prelude.{◌≡◌, ℕ, List, length, Option, Some, None, MatchOption, Bool, ◌&&◌, nat_le, option_map, find}
+use Rattle.std.specs.Prelude.{◌≡◌, ℕ, List, length, Option, Some, None, MatchOption, Bool, true, false, ◌&&◌, nat_le, option_map, find}
 use Rattle.std.specs.Borrow.{Bor}
 use Rattle.std.specs.List.{list_all, list_any, filter_map}
 use Rattle.std.specs.Str.{str_eq_ignore_ascii_case}
 use Rattle.mpd_text.specs.Songs.Song.{TagData}
-use Rattle.mpd_text.specs.Songs.Tags.{tag_names, tag_text, tag_with}
+use Rattle.mpd_text.specs.Songs.Tags.{base_tag_names, tag_names, tag_text, tag_with}
 use Rattle.mpd_text.specs.declared.songs.song.TagName.{TagName}
 use Rattle.script_lines.specs.Cuts.{has_byte, before, after}
 
@@ -13,9 +13,14 @@ use Rattle.script_lines.specs.Cuts.{has_byte, before, after}
 unfoldable pub is_tag_of : TagName → List ℕ → Bool
 is_tag_of name word = has_byte 61 word && str_eq_ignore_ascii_case (before 61 word) (tag_text name)
 
--- the word is of some tag
-unfoldable pub is_tag : List ℕ → Bool
-is_tag word = list_any (λ name. is_tag_of name word) tag_names
+-- the tags that a step may name: the six of the base profile, or all where the everyday profile is on
+abbrev pub names_known : Bool → List TagName
+names_known false = base_tag_names
+names_known true = tag_names
+
+-- the word is of some tag that may be named
+unfoldable pub is_tag : Bool → List ℕ → Bool
+is_tag everyday word = list_any (λ name. is_tag_of name word) (names_known everyday)
 
 -- the text is after the first `=` and ends at its first zero byte
 abbrev pub text_of : List ℕ → List ℕ
@@ -38,6 +43,10 @@ abbrev pub IsFirstText : TagName → List (List ℕ) → Option (Bor (List ℕ))
 IsFirstText name words found =
     MatchOption found (first_text name words ≡ None) (λ text. first_text name words ≡ Some text.now)
 
--- the tags that words give, in the order of the names
+-- the tags of these names that words give, in the order of the names
+unfoldable pub tags_named : List TagName → List (List ℕ) → List TagData
+tags_named names words = filter_map (λ name. tag_with name (first_text name words)) names
+
+-- the tags that words give, in the order of answers
 abbrev pub tags_of : List (List ℕ) → List TagData
-tags_of words = filter_map (λ name. tag_with name (first_text name words)) tag_names
+tags_of words = tags_named tag_names words

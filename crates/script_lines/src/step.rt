@@ -50,26 +50,27 @@ pub enum Step {
 
 impl Step {
     /// The step that follows a step's head; `None` where it is bad: its words cannot be read, the first one
-    /// names no step, or the others are not what it takes. `Err` where memory runs out.
+    /// names no step, or the others are not what it takes. A song may have the tags of the base profile, or all
+    /// where the everyday profile is on. `Err` where memory runs out.
     #[tactic(auto, unfolding(crate::specs::Steps::step_of))]
-    pub fn of_line(alloc: Global, rest: &str) -> Result<Option<Step>, AllocError>
-        ensures { IfOk result (λ step. step ≡ step_of rest.now) }
+    pub fn of_line(alloc: Global, everyday: bool, rest: &str) -> Result<Option<Step>, AllocError>
+        ensures { IfOk result (λ step. step ≡ step_of everyday rest.now) }
     {
         match words(alloc, rest) {
-            Ok(words) => Step::of_words(alloc, words.as_slice()),
+            Ok(words) => Step::of_words(alloc, everyday, words.as_slice()),
             Err(WordsFault::NoMemory) => Err(AllocError),
             Err(_) => Ok(None),
         }
     }
 
-    fn of_words(alloc: Global, words: &[String]) -> Result<Option<Step>, AllocError>
-        ensures { IfOk result (λ step. step ≡ step_of_words (map string_bytes words.now)) }
+    fn of_words(alloc: Global, everyday: bool, words: &[String]) -> Result<Option<Step>, AllocError>
+        ensures { IfOk result (λ step. step ≡ step_of_words everyday (map string_bytes words.now)) }
     {
         let Some((word, arguments)) = words.split_first() else {
             return Ok(None);
         };
         if word.as_str() == "song" {
-            song(alloc, arguments)
+            song(alloc, everyday, arguments)
         } else if word.as_str() == "limit" {
             Ok(limit(arguments))
         } else if word.as_str() == "gone" {
@@ -84,27 +85,28 @@ impl Step {
     }
 }
 
-fn song(alloc: Global, arguments: &[String]) -> Result<Option<Step>, AllocError>
-    ensures { IfOk result (λ step. step ≡ song_of (map string_bytes arguments.now)) }
+fn song(alloc: Global, everyday: bool, arguments: &[String]) -> Result<Option<Step>, AllocError>
+    ensures { IfOk result (λ step. step ≡ song_of everyday (map string_bytes arguments.now)) }
 {
     let [uri, frames, words @ ..] = arguments else {
         return Ok(None);
     };
     match number_within(frames.as_str(), u32::MAX) {
-        Some(frames) => song_with(alloc, uri.as_str(), frames, words),
+        Some(frames) => song_with(alloc, everyday, uri.as_str(), frames, words),
         None => Ok(None),
     }
 }
 
 fn song_with(
     alloc: Global,
+    everyday: bool,
     uri: &str,
     frames: u32,
     words: &[String],
 ) -> Result<Option<Step>, AllocError>
-    ensures { IfOk result (λ step. step ≡ song_with_lem uri.now (Some frames) (map string_bytes words.now)) }
+    ensures { IfOk result (λ step. step ≡ song_with_lem everyday uri.now (Some frames) (map string_bytes words.now)) }
 {
-    if !is_uri(uri) || !are_tags(words) {
+    if !is_uri(uri) || !are_tags(everyday, words) {
         return Ok(None);
     }
     let tags = tags_of(alloc, words)?;

@@ -2,10 +2,10 @@
 ghost use Rattle.std.specs.Prelude.{◌≡◌, ◌<◌, IfOk, map, string_bytes, nat_le};
 ghost use Rattle.std.specs.Str.{str_eq_ignore_ascii_case};
 ghost use Rattle.std.specs.List.{list_all};
-ghost use Rattle.script_lines.specs.Tags.{is_tag_of as is_tag_of_lem, is_tag as is_tag_lem, text_of as text_of_lem, counts as counts_lem, IsFirstText, tags_of as tags_of_lem};
+ghost use Rattle.script_lines.specs.Tags.{is_tag_of as is_tag_of_lem, is_tag as is_tag_lem, text_of as text_of_lem, counts as counts_lem, IsFirstText, tags_named as tags_named_lem, tags_of as tags_of_lem};
 
 use crate::cut::{cut, has};
-use mpd_text::{TAG_NAMES, Tag, TagName};
+use mpd_text::{BASE_TAG_NAMES, TAG_NAMES, Tag, TagName};
 use std::alloc::{AllocError, Global};
 
 /// The greatest length of a tag's text, in bytes. A longer text is skipped.
@@ -25,11 +25,16 @@ fn is_tag_of(name: TagName, word: &str) -> bool
     has(word, '=') && same_name(cut(word, '=').0, name.text())
 }
 
+/// Whether a word is of some tag: one of the base profile, or any where the everyday profile is on.
 #[tactic(auto, unfolding(crate::specs::Tags::is_tag))]
-fn is_tag(word: &str) -> bool
-    ensures { result ≡ is_tag_lem word.now }
+fn is_tag(everyday: bool, word: &str) -> bool
+    ensures { result ≡ is_tag_lem everyday word.now }
 {
-    TAG_NAMES.iter().any(|name| is_tag_of(*name, word))
+    if everyday {
+        TAG_NAMES.iter().any(|name| is_tag_of(*name, word))
+    } else {
+        BASE_TAG_NAMES.iter().any(|name| is_tag_of(*name, word))
+    }
 }
 
 /// The text of a tag: what follows the first `=`, up to its first zero byte.
@@ -68,21 +73,29 @@ fn first_text(words: &[String], name: TagName) -> Option<&str>
 pub(crate) fn tags_of(alloc: Global, words: &[String]) -> Result<Vec<Tag>, AllocError>
     ensures { IfOk result (λ tags. tags.items ≡ tags_of_lem (map string_bytes words.now)) }
 {
+    tags_named(alloc, words, &TAG_NAMES)
+}
+
+/// The tags of these names that words give, in the order of the names.
+#[tactic(auto, unfolding(crate::specs::Tags::tags_named))]
+fn tags_named(alloc: Global, words: &[String], names: &[TagName]) -> Result<Vec<Tag>, AllocError>
+    ensures { IfOk result (λ tags. tags.items ≡ tags_named_lem names.now (map string_bytes words.now)) }
+{
     let mut tags = Vec::new(alloc);
-    for name in TAG_NAMES {
-        if let Some(text) = first_text(words, name) {
-            tags.push(Tag::new(name, String::from_str(alloc, text)?))?;
+    for name in names {
+        if let Some(text) = first_text(words, *name) {
+            tags.push(Tag::new(*name, String::from_str(alloc, text)?))?;
         }
     }
     Ok(tags)
 }
 
-/// Whether each word gives a tag.
-pub(crate) fn are_tags(words: &[String]) -> bool
-    ensures { result ≡ list_all is_tag_lem (map string_bytes words.now) }
+/// Whether each word gives a tag: one of the base profile, or any where the everyday profile is on.
+pub(crate) fn are_tags(everyday: bool, words: &[String]) -> bool
+    ensures { result ≡ list_all (is_tag_lem everyday) (map string_bytes words.now) }
 {
     for word in words {
-        if !is_tag(word.as_str()) {
+        if !is_tag(everyday, word.as_str()) {
             return false;
         }
     }

@@ -59,7 +59,8 @@ fn tell(told: &mut Told, alloc: Global, name: &str, words: &[String]) {
             placed_selection(alloc, false, words, Test::Equals),
         ),
         "searchaddpl" => tell_named(told, alloc, words),
-        "list" => tell_listed(told, alloc, words),
+        "list" => tell_listed(told, alloc, true, words),
+        "base list" => tell_listed(told, alloc, false, words),
         _ => tell_counted(told, alloc, words),
     }
 }
@@ -95,8 +96,8 @@ fn tell_named(told: &mut Told, alloc: Global, words: &[String]) {
     }
 }
 
-fn tell_listed(told: &mut Told, alloc: Global, words: &[String]) {
-    match grouping(alloc, true, words) {
+fn tell_listed(told: &mut Told, alloc: Global, everyday: bool, words: &[String]) {
+    match grouping(alloc, everyday, words) {
         Ok(grouping) => {
             for tag in grouping.tags.items() {
                 told.add(format_args!("{} ", tag.text()));
@@ -189,6 +190,8 @@ search|album|n => songs bo
 find|album|n => songs\u{20}
 search|artist|lm|artist|O|sort|artist|window|5:6 => songs o rising Artist 5:6
 find|composer|x => songs\u{20}
+find|albumartist|Olm|sort|-Track => songs o falling Track
+find|any|One|sort|disc => songs bo rising Disc
 find|window|0:1|window|0:2 => unknown tag \"window\" 0:2
 find|sort|a|sort|title => unknown tag \"sort\" rising Title
 find|album|One|Sort|Title => unknown tag \"Sort\"
@@ -243,6 +246,11 @@ base findadd|artist|Olm => songs o
 base findadd|artist|x|position|0 => unknown tag \"position\"
 base findadd|artist|x|window|0:1 => unknown tag \"window\"
 base findadd|artist|x|more => wrong number
+base list|COMMENT => Comment all
+base list|artist|artist|Olm => Artist songs o
+base list|Track => bad Track
+base list|albumartist => bad albumartist
+base list|Artist|albumartist|Olm => Artist unknown tag \"albumartist\"
 ";
 
 const LIST_GROUPS: &str = "list|Title => Title all

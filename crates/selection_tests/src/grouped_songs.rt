@@ -10,7 +10,7 @@ use wanted::{Told, wants, wants_made};
 /// The URI of a song, its frames and its tags.
 type Given = (&'static str, u64, Tags);
 
-/// A tag, and whether its texts fall.
+/// A tag, and whether its texts or numbers fall.
 type Order = (Option<TagName>, bool);
 
 /// The labels and the tags of the columns of a list.
@@ -140,14 +140,14 @@ playtime: 2
 Artist: foo'bar\"
 songs: 1
 playtime: 1
-Track:\u{20}
+Performer:\u{20}
 songs: 7
 playtime: 8
 artists: 2
 albums: 0
 ";
 
-// A song has no track: a list has no line then, and a count one group.
+// No song has a performer: a list has no line then, and a count one group.
 const ROWS_ASKED: Asked = (
     &[
         (Some(TagName::Artist), false),
@@ -157,11 +157,11 @@ const ROWS_ASKED: Asked = (
     &[
         (
             &["AlbumArtist", "Title"],
-            &[Some(TagName::Artist), Some(TagName::Title)],
+            &[Some(TagName::AlbumArtist), Some(TagName::Title)],
         ),
-        (&["Track"], &[None]),
+        (&["Performer"], &[None]),
     ],
-    &[("Artist", Some(TagName::Artist)), ("Track", None)],
+    &[("Artist", Some(TagName::Artist)), ("Performer", None)],
 );
 
 const NO_SONGS_ASKED: Asked = (&[], &[], &[("Artist", Some(TagName::Artist))]);
@@ -267,6 +267,135 @@ const ALBUMS_ASKED: Asked = (
     &[],
 );
 
+/// Tracks that are numbers, begin with one, or have none; two texts have one number, and three are too large.
+const TRACKS: &[Given] = &[
+    (
+        "a.wav",
+        8_000,
+        &[(TagName::Artist, "Ann"), (TagName::Track, "10/12")],
+    ),
+    (
+        "b.wav",
+        8_000,
+        &[
+            (TagName::Artist, "Bob"),
+            (TagName::AlbumArtist, "Various"),
+            (TagName::Track, "9"),
+        ],
+    ),
+    ("c.wav", 8_000, &[]),
+    ("d.wav", 8_000, &[(TagName::Track, "9 of 12")]),
+    ("e.wav", 8_000, &[(TagName::Track, "x1")]),
+    ("f.wav", 8_000, &[(TagName::Track, "4294967296")]),
+    ("g.wav", 8_000, &[(TagName::Track, "4294967295")]),
+    ("h.wav", 8_000, &[(TagName::Track, "007")]),
+    (
+        "i.wav",
+        8_000,
+        &[
+            (TagName::Disc, "2"),
+            (TagName::Track, "99999999999999999999999"),
+        ],
+    ),
+    ("j.wav", 8_000, &[(TagName::Track, "9")]),
+];
+
+// A sort goes by the numbers, songs of one number by URI; a list and a count go by the texts.
+const TRACKS_TOLD: &str = "song: c.wav
+song: e.wav
+song: h.wav
+song: b.wav
+song: d.wav
+song: j.wav
+song: a.wav
+song: f.wav
+song: g.wav
+song: i.wav
+song: f.wav
+song: g.wav
+song: i.wav
+song: a.wav
+song: b.wav
+song: d.wav
+song: j.wav
+song: h.wav
+song: c.wav
+song: e.wav
+song: a.wav
+song: b.wav
+song: c.wav
+song: d.wav
+song: e.wav
+song: f.wav
+song: g.wav
+song: h.wav
+song: j.wav
+song: i.wav
+song: i.wav
+song: a.wav
+song: b.wav
+song: c.wav
+song: d.wav
+song: e.wav
+song: f.wav
+song: g.wav
+song: h.wav
+song: j.wav
+AlbumArtist: Ann
+AlbumArtist: Various
+Track: 007
+Track: 10/12
+Track: 4294967295
+Track: 4294967296
+Track: 9
+Track: 9 of 12
+Track: 99999999999999999999999
+Track: x1
+Track:\u{20}
+songs: 1
+playtime: 1
+Track: 007
+songs: 1
+playtime: 1
+Track: 10/12
+songs: 1
+playtime: 1
+Track: 4294967295
+songs: 1
+playtime: 1
+Track: 4294967296
+songs: 1
+playtime: 1
+Track: 9
+songs: 2
+playtime: 2
+Track: 9 of 12
+songs: 1
+playtime: 1
+Track: 99999999999999999999999
+songs: 1
+playtime: 1
+Track: x1
+songs: 1
+playtime: 1
+artists: 2
+albums: 0
+";
+
+const TRACKS_ASKED: Asked = (
+    &[
+        (Some(TagName::Track), false),
+        (Some(TagName::Track), true),
+        (Some(TagName::Disc), false),
+        (Some(TagName::Disc), true),
+    ],
+    &[
+        (&["AlbumArtist"], &[Some(TagName::AlbumArtist)]),
+        (&["Track"], &[Some(TagName::Track)]),
+    ],
+    &[("Track", Some(TagName::Track))],
+);
+
 /// Adds the song of a number: with the greatest number of frames, an artist of its own and one title.
 fn add_numbered(songs: &mut Vec<Song>, alloc: Global, number: u32) -> Result<(), AllocError> {
     let uri = format!(in alloc; "{number:03}.wav")?;
@@ -326,6 +455,10 @@ fn small_and_large_libraries(rt: HostRuntime) -> Result<(), Fail> {
     wants(
         told_of(alloc, library(alloc, ALBUMS), &ALBUMS_ASKED),
         ALBUMS_TOLD,
+    )?;
+    wants(
+        told_of(alloc, library(alloc, TRACKS), &TRACKS_ASKED),
+        TRACKS_TOLD,
     )?;
     wants_made(told_of(alloc, many(alloc), &MANY_ASKED), many_wanted(alloc))
 }

@@ -21,15 +21,17 @@ const ODD_WORDS: &str =
 
 /// For each of them its name, the tag that is read for it, and the tag that it is.
 const READ: &str = "Artist:Artist:Artist ArtistSort:Artist:- Album:Album:Album AlbumSort:Album:- \
-     AlbumArtist:Artist:- AlbumArtistSort:Artist:- Title:Title:Title Track:-:- \
-     Name:-:- Genre:Genre:Genre Date:Date:Date OriginalDate:-:- Composer:-:- \
+     AlbumArtist:AlbumArtist:AlbumArtist AlbumArtistSort:AlbumArtist:- Title:Title:Title \
+     Track:Track:Track Name:-:- Genre:Genre:Genre Date:Date:Date OriginalDate:-:- \
+     Composer:Composer:Composer \
      ComposerSort:-:- Performer:-:- Conductor:-:- Work:-:- Ensemble:-:- Movement:-:- \
-     MovementNumber:-:- Location:-:- Grouping:-:- Comment:Comment:Comment Disc:-:- \
-     Label:-:- MUSICBRAINZ_ARTISTID:-:- MUSICBRAINZ_ALBUMID:-:- \
+     MovementNumber:-:- Location:-:- Grouping:-:- Comment:Comment:Comment \
+     Disc:Disc:Disc Label:-:- MUSICBRAINZ_ARTISTID:-:- MUSICBRAINZ_ALBUMID:-:- \
      MUSICBRAINZ_ALBUMARTISTID:-:- MUSICBRAINZ_TRACKID:-:- \
      MUSICBRAINZ_RELEASETRACKID:-:- MUSICBRAINZ_WORKID:-:- ";
 
-/// For each of them the text of a song that has a text for each of the six tags.
+/// For each of them the text of a song that has a text for each of the six tags of the base profile: the
+/// artist of an album is then the artist.
 const TEXTS: &str =
     "Zoë Zoë One One Zoë Zoë Bee - - Pop 1999 - - - - - - - - - - - first - - - - - \
      - - - ";
@@ -83,6 +85,18 @@ fn texts_told(alloc: Global, given: Tags) -> Result<String, AllocError> {
     told.into_text()
 }
 
+/// For each of them the text of a song that has a text for each of the four other tags.
+const FOUR_TEXTS: &str =
+    "- - - - Various Various - 3/12 - - - - Bach - - - - - - - - - - 2 - - - - - - - ";
+
+const FOUR_TAGS: Tags = &[
+    (TagName::Composer, "Bach"),
+    (TagName::Disc, "2"),
+    (TagName::Track, "3/12"),
+    (TagName::AlbumArtist, "Various"),
+    (TagName::AlbumArtist, "Others"),
+];
+
 const SIX_TAGS: Tags = &[
     (TagName::Comment, "first"),
     (TagName::Genre, "Pop"),
@@ -104,7 +118,8 @@ fn names_and_texts(rt: HostRuntime) -> Result<(), Fail> {
         named_told(alloc, others),
         "none none none none none none none none ",
     )?;
-    wants(texts_told(alloc, SIX_TAGS), TEXTS)
+    wants(texts_told(alloc, SIX_TAGS), TEXTS)?;
+    wants(texts_told(alloc, FOUR_TAGS), FOUR_TEXTS)
 }
 
 /// Adds a sign for each tag, `+` where the set has it.
@@ -206,6 +221,29 @@ tagtype: Album
 tagtype: Date
 tagtype: Genre
 tagtype: Comment
+tagtype: AlbumArtist
+tagtype: Track
+tagtype: Disc
+tagtype: Composer
+file: b.wav
+Title: Bee
+Artist: Zo\u{eb}
+Time: 2
+duration: 2.000
+file: b.wav
+Title: Bee
+Artist: Zo\u{eb}
+Time: 2
+duration: 2.000
+";
+
+/// The tags of the base profile, and the whole song twice.
+const BASE: &str = "tagtype: Title
+tagtype: Artist
+tagtype: Album
+tagtype: Date
+tagtype: Genre
+tagtype: Comment
 file: b.wav
 Title: Bee
 Artist: Zo\u{eb}
@@ -233,17 +271,19 @@ const CHANGES: &[(bool, &str, &str)] = &[
     (
         true,
         "Artist AlbumArtist Title Name Composer Performer",
-        "tagtype: Title\ntagtype: Artist\nfile: b.wav\nTitle: Bee\nArtist: Zo\u{eb}\nTime: 2\nduration: 2.000\n\
+        "tagtype: Title\ntagtype: Artist\ntagtype: AlbumArtist\ntagtype: Composer\n\
+         file: b.wav\nTitle: Bee\nArtist: Zo\u{eb}\nTime: 2\nduration: 2.000\n\
          file: b.wav\nTitle: Bee\nArtist: Zo\u{eb}\nTime: 2\nduration: 2.000\n",
     ),
     (
         false,
         "genre ALBUM comment AlbumSort title",
-        "tagtype: Artist\ntagtype: Date\nfile: b.wav\nArtist: Zo\u{eb}\nTime: 2\nduration: 2.000\n\
+        "tagtype: Artist\ntagtype: Date\ntagtype: AlbumArtist\ntagtype: Track\ntagtype: Disc\n\
+         tagtype: Composer\nfile: b.wav\nArtist: Zo\u{eb}\nTime: 2\nduration: 2.000\n\
          file: b.wav\nArtist: Zo\u{eb}\nTime: 2\nduration: 2.000\n",
     ),
-    (true, "AlbumArtist ArtistSort AlbumSort", NONE),
-    (false, "AlbumArtist ArtistSort AlbumSort", ALL),
+    (true, "AlbumArtistSort ArtistSort AlbumSort", NONE),
+    (false, "AlbumArtistSort ArtistSort AlbumSort", ALL),
 ];
 
 #[test]
@@ -253,11 +293,20 @@ fn sets_and_their_songs(rt: HostRuntime) -> Result<(), Fail> {
     let alloc = rt.alloc();
     wants(
         all_told(alloc),
-        "+----- -+++++ true true\n-+---- +-++++ true true\n--+--- ++-+++ true true\n\
-         ---+-- +++-++ true true\n----+- ++++-+ true true\n-----+ +++++- true true\n",
+        "+--------- -+++++++++ true true\n\
+         -+-------- +-++++++++ true true\n\
+         --+------- ++-+++++++ true true\n\
+         ---+------ +++-++++++ true true\n\
+         ----+----- ++++-+++++ true true\n\
+         -----+---- +++++-++++ true true\n\
+         ------+--- ++++++-+++ true true\n\
+         -------+-- +++++++-++ true true\n\
+         --------+- ++++++++-+ true true\n\
+         ---------+ +++++++++- true true\n",
     )?;
     wants(whole_told(alloc), WHOLE)?;
     wants(bee_told(alloc, TagSet::all()), ALL)?;
+    wants(bee_told(alloc, TagSet::base()), BASE)?;
     wants(bee_told(alloc, TagSet::empty()), NONE)?;
     for (is_joined, words, wanted) in CHANGES {
         wants(changed_told(alloc, words, *is_joined), wanted)?;

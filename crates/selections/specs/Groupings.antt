@@ -108,7 +108,7 @@ unfoldable pub known_counting_of : List (List ℕ) → Result Counting Misread
 known_counting_of [] = Err WrongNumber
 known_counting_of (word ∷ words) = counted_of (word ∷ words)
 
--- one of the six among the known tags
+-- a tag of songs among the known tags
 abbrev pub known_as : TagName → KnownTag
 known_as base.Title = known.Title
 known_as base.Artist = known.Artist
@@ -116,6 +116,10 @@ known_as base.Album = known.Album
 known_as base.Date = known.Date
 known_as base.Genre = known.Genre
 known_as base.Comment = known.Comment
+known_as base.AlbumArtist = known.AlbumArtist
+known_as base.Track = known.Track
+known_as base.Disc = known.Disc
+known_as base.Composer = known.Composer
 
 -- TAG [FILTER], as the base profile has it
 abbrev pub base_grouping_of : List (List ℕ) → Result Grouping Misread

@@ -40,7 +40,7 @@ pub fn counting(alloc: Global, everyday: bool, words: &[String]) -> Result<Count
     }
 }
 
-/// A tag of the six, and FILTER or nothing.
+/// A tag of the base profile, and FILTER or nothing.
 fn base_grouping(alloc: Global, words: &[String]) -> Result<Grouping, Misread>
     ensures { Gives result (base_grouping_of (map string_bytes words.now)) }
 {
@@ -50,7 +50,7 @@ fn base_grouping(alloc: Global, words: &[String]) -> Result<Grouping, Misread>
     Ok(Grouping { tags, wanted })
 }
 
-/// One of the six among the known tags.
+/// A tag of songs among the known tags.
 fn known_as(name: TagName) -> KnownTag
     ensures { result ≡ known_as_lem name }
 {
@@ -61,6 +61,10 @@ fn known_as(name: TagName) -> KnownTag
         TagName::Date => KnownTag::Date,
         TagName::Genre => KnownTag::Genre,
         TagName::Comment => KnownTag::Comment,
+        TagName::AlbumArtist => KnownTag::AlbumArtist,
+        TagName::Track => KnownTag::Track,
+        TagName::Disc => KnownTag::Disc,
+        TagName::Composer => KnownTag::Composer,
     }
 }
 

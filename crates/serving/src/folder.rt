@@ -27,10 +27,16 @@ pub(crate) struct Found {
     pub(crate) told: String,
 }
 
-/// The songs of a folder. A long scan shows on a terminal how far it is.
-pub(crate) fn songs_of(rt: &HostRuntime, folder: &str, rate: &Rate) -> Result<Found, DaemonFault> {
+/// The songs of a folder, with the tags of the everyday profile or of the base profile. A long scan shows on a
+/// terminal how far it is.
+pub(crate) fn songs_of(
+    rt: &HostRuntime,
+    folder: &str,
+    rate: &Rate,
+    everyday: bool,
+) -> Result<Found, DaemonFault> {
     let mut progress = Progress::new(rt, rt.stderr().is_terminal());
-    let scanned = songs_watched(rt, rt.alloc(), folder, rate, &mut progress);
+    let scanned = songs_watched(rt, rt.alloc(), folder, rate, everyday, &mut progress);
     progress.end();
     scanned
 }
@@ -40,12 +46,19 @@ fn songs_watched<R: Files + AllocGlobal + Clone + Drop, W: Watcher>(
     alloc: Global,
     folder: &str,
     rate: &Rate,
+    everyday: bool,
     watcher: &mut W,
 ) -> Result<Found, DaemonFault>
 where
     R::File: ReadSeek + Drop,
 {
-    match scan(alloc, &mut SystemDisk::new(rt, folder), rate, watcher) {
+    match scan(
+        alloc,
+        &mut SystemDisk::new(rt, folder),
+        rate,
+        everyday,
+        watcher,
+    ) {
         Ok(scanned) => {
             let told = told_of(rt, alloc, folder, &scanned)?;
             match Db::of_songs(alloc, scanned.songs) {
@@ -74,9 +87,9 @@ where
 {
     if scanned.songs.is_empty() {
         if let Some(rate) = rate_of_first(rt, alloc, folder, scanned)? {
-            // The scan at that rate says how many files are songs at it.
+            // The scan at that rate says how many files are songs at it, whatever their tags are.
             let mut disk = SystemDisk::new(rt, folder);
-            if let Ok(other) = scan(alloc, &mut disk, &rate, &mut Unwatched) {
+            if let Ok(other) = scan(alloc, &mut disk, &rate, false, &mut Unwatched) {
                 return rate_text(
                     alloc,
                     other.songs.len(),
@@ -134,7 +147,7 @@ where
     let Ok(file) = fs::open(rt, path) else {
         return Ok(false);
     };
-    let content = content_of(alloc, &mut Counting::new(file), rate)?;
+    let content = content_of(alloc, &mut Counting::new(file), rate, false)?;
     Ok(matches!(content, Content::Song(_, _)))
 }
 
@@ -144,15 +157,21 @@ pub(crate) struct FolderScanner<R: Files + Drop> {
     rt: R,
     folder: String,
     rate: Rate,
+    everyday: bool,
 }
 
 impl<R: Files + Drop> FolderScanner<R> {
     ghost use Rattle.std.specs.Prelude.{◌≡◌};
 
-    pub(crate) fn new(rt: R, folder: String, rate: Rate) -> FolderScanner<R>
-        ensures { (result.folder ≡ folder) × (result.rate ≡ rate) }
+    pub(crate) fn new(rt: R, folder: String, rate: Rate, everyday: bool) -> FolderScanner<R>
+        ensures { (result.folder ≡ folder) × (result.rate ≡ rate) × (result.everyday ≡ everyday) }
     {
-        FolderScanner { rt, folder, rate }
+        FolderScanner {
+            rt,
+            folder,
+            rate,
+            everyday,
+        }
     }
 }
 
@@ -167,6 +186,7 @@ where
             alloc,
             self.folder.as_str(),
             &self.rate,
+            self.everyday,
             &mut Unwatched,
         );
         let time = milliseconds_since(&self.rt, start);

@@ -36,9 +36,10 @@ pub(crate) fn gear_of<R: Threads + Wait + Clock + Copy + Send + 'static>(
     settings: &Settings,
 ) -> Result<FileGear<R>, AllocError>
     requires { vec_len settings.now.outputs ≤ 8 }
-    // Clients have the folder of the music scanned again, at its rate.
+    // Clients have the folder of the music scanned again, at its rate and in the profile of the settings.
     ensures folder { IfOk result (λ gear. string_bytes gear.scanner.folder ≡ string_bytes settings.now.music) }
     ensures rate { IfOk result (λ gear. gear.scanner.rate ≡ settings.now.rate) }
+    ensures everyday { IfOk result (λ gear. gear.scanner.everyday ≡ settings.now.everyday) }
     ensures writers { IfOk result (λ gear. vec_len gear.writers ≡ vec_len settings.now.outputs) }
     ensures patient { IfOk result (λ gear. map is_some gear.patient.items ≡ map (λ o. is_some o.patience) settings.now.outputs.items) }
 {
@@ -49,7 +50,7 @@ pub(crate) fn gear_of<R: Threads + Wait + Clock + Copy + Send + 'static>(
     Ok(Gear {
         writers,
         source: Folder::new(host, played),
-        scanner: FolderScanner::new(host, scanned, settings.rate.copied()),
+        scanner: FolderScanner::new(host, scanned, settings.rate.copied(), settings.everyday),
         patient,
     })
 }

@@ -89,7 +89,12 @@ fn found_for(
     settings: &Settings,
     launch: Launch,
 ) -> Result<Found, DaemonFault> {
-    let found = songs_of(host, settings.music.as_str(), &settings.rate)?;
+    let found = songs_of(
+        host,
+        settings.music.as_str(),
+        &settings.rate,
+        settings.everyday,
+    )?;
     Ok(match launch.purpose {
         Purpose::Serve => started(host.alloc(), settings, launch.version, found),
         Purpose::Check => found,

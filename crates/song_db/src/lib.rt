@@ -12,5 +12,6 @@ pub use rate::Rate;
 pub use shared_db::SharedDb;
 pub use shared_song::SharedSong;
 pub use song_lines::{
-    duration, first_tag, length_of, push_length, push_song, rounded, texts_and_length_are_the_song,
+    duration, first_tag, length_of, push_length, push_song, push_tag, rounded,
+    texts_and_length_are_the_song,
 };

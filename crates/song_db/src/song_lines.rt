@@ -60,8 +60,8 @@ fn push_tags(answer: &mut Answer, tags: &[Tag]) -> Result<(), AllocError>
     Ok(())
 }
 
-/// The line of the first tag of a name, if there is one.
-fn push_tag(answer: &mut Answer, name: TagName, tags: &[Tag]) -> Result<(), AllocError>
+/// Appends the line of the first tag of a name, if there is one.
+pub fn push_tag(answer: &mut Answer, name: TagName, tags: &[Tag]) -> Result<(), AllocError>
     ensures { OnOk result (answer.new ≡ answer.old ++ tag_line name tags.now) }
 {
     match first_tag(tags, name) {

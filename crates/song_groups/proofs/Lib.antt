@@ -3,6 +3,7 @@ pub mod Rows
 pub mod Runs
 pub mod References
 pub mod Shared
+pub mod Leading
 pub mod Orders
 pub mod GroupLists
 pub mod TupleLists

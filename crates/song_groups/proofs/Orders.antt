@@ -1,21 +1,24 @@
--- Songs by the text of a column: a list has one order.
-use Rattle.std.proofs.Common.{◌≡◌, ◌∙◌, ℕ, Bool, true, false, ◌||◌, List, [], ◌∷◌, reverse, Option, refl, sym, ap, Bor}
+-- Songs by their keys: a list has one order.
+use Rattle.std.proofs.Common.{◌≡◌, ◌∙◌, ℕ, Bool, true, false, ◌||◌, cond, List, [], ◌∷◌, map, reverse, Option, refl, sym, ap, subst, Bor}
 use Rattle.std.specs.Prelude.{IsPermutation, not, ◌&&◌}
+use Rattle.std.specs.Bool.{Decides}
 use Rattle.std.specs.List.{list_any, AllByRecursion}
 use Rattle.std.specs.List.Sorted.{IsStrictlySortedBy, IsSortedBy, IsStableBy, ties}
-use Rattle.std.specs.Ordering.{eq_by_cmp, is_lt, flip_args}
+use Rattle.std.specs.Ordering.{eq_by_cmp, is_lt, flip_args, ordering_reverse}
 use Rattle.std.specs.declared.cmp.Ordering.{Ordering}
-use Rattle.std.specs.Cmp.{IsTotalOrder, IsStrictWeakOrder, eq_by_cmp_equiv}
-use Rattle.std.specs.Cmp.Lexicographic.{nat_list_cmp_total, texts_ties}
+use Rattle.std.specs.declared.cmp.Ordering.TheVariants.{Less, Equal, Greater}
+use Rattle.std.specs.Cmp.{IsTotalOrder, IsStrictWeakOrder, Equal-is, both_ways, eq_by_cmp_equiv, tied_itself}
+use Rattle.std.specs.Cmp.Lexicographic.{nat_list_cmp_total}
 use Rattle.std.specs.FinMap.{IsAntisymmetric, nat_cmp-IsAntisymmetric, slice_cmp-IsAntisymmetric}
-use Rattle.std.proofs.lemmas.Cmp.{back_total}
+use Rattle.std.proofs.lemmas.Bool.{eq-eqb, eqb-true}
+use Rattle.std.proofs.lemmas.Cmp.{back_total, nat_cmp_total}
 use Rattle.std.proofs.lemmas.List.MinMax.{ranks_by}
 use Rattle.std.proofs.lemmas.List.Sorted.{IsPermutation-map, IsPermutation-reverse, list_any-IsPermutation}
+use lib.Pointwise.{bytes_decides}
 use Rattle.mpd_text.specs.Songs.Song.{SongData}
 use Rattle.mpd_text.specs.declared.songs.song.TagName.{TagName}
-use Rattle.mpd_text.specs.Texts.{by_bytes, ascending}
-use Rattle.song_groups.specs.Columns.{text_in, texts_in, has_text, with_text}
-use Rattle.song_groups.specs.Order.{by_text, ordered, IsStablyOrdered}
+use Rattle.mpd_text.specs.Texts.{by_bytes}
+use Rattle.song_groups.specs.Order.{Key, Text, Number, by_keys, same_key, goes_by_number, text_key, number_key, sort_key, in_order, with_key, ascending_keys, ordered, ordered_by, IsStablyOrdered, IsStablyOrderedBy}
 use Rattle.song_groups.proofs.Once.{among, among-once, once-rises}
 use Rattle.song_groups.proofs.Rows.{each-behind, each_one, turned, rows, rows_same, each_text, each_among, rises_from, in_rows}
 use Rattle.song_groups.proofs.References.{behind, filter-behind, filter_alike, sorted-behind, tied}
@@ -26,84 +29,161 @@ bytes = nat_list_cmp_total
 pub bytes_apart : IsAntisymmetric by_bytes
 bytes_apart = slice_cmp-IsAntisymmetric nat_cmp-IsAntisymmetric
 
-falls : IsTotalOrder (flip_args by_bytes)
-falls = back_total bytes
+-- ---- keys have a total order
 
-falls_apart : IsAntisymmetric (flip_args by_bytes)
-falls_apart a b e = sym (bytes_apart b a e)
+turned_round : (a b : Key) → by_keys a b ≡ ordering_reverse (by_keys b a)
+turned_round (Text a) (Text b) = bytes.antisymm a b
+turned_round (Text a) (Number n) = refl
+turned_round (Number m) (Text b) = refl
+turned_round (Number m) (Number n) = nat_cmp_total.antisymm m n
 
-ascending-rises : (texts : List (List ℕ)) → IsStrictlySortedBy by_bytes (ascending texts)
-unfolding ascending
-ascending-rises texts = once-rises by_bytes texts
+one_after_another : (a b c : Key) → by_keys a b ≡ Less → by_keys b c ≡ Less → by_keys a c ≡ Less
+one_after_another (Text a) (Text b) (Text c) h k = bytes.trans a b c h k
+one_after_another (Text a) (Text b) (Number n) h k = cc
+one_after_another (Text a) (Number n) c h k = cc
+one_after_another (Number m) b (Text c) h k = refl
+one_after_another (Number m) (Text b) (Number n) h k = cc
+one_after_another (Number m) (Number n) (Number o) h k = nat_cmp_total.trans m n o h k
 
-ascending-has : (texts : List (List ℕ)) (q : List ℕ) → among by_bytes q (ascending texts) ≡ among by_bytes q texts
-unfolding ascending
-ascending-has texts q = among-once bytes bytes_apart texts q
+alike : (a b c : Key) → by_keys a b ≡ Equal → by_keys a c ≡ by_keys b c
+alike (Text a) (Text b) (Text c) h = bytes.congr a b c h
+alike (Text a) (Text b) (Number n) h = refl
+alike (Text a) (Number n) c h = cc
+alike (Number m) (Text b) c h = cc
+alike (Number m) (Number n) (Text c) h = refl
+alike (Number m) (Number n) (Number o) h = nat_cmp_total.congr m n o h
 
-any_alike : (p q : List ℕ → Bool) → ((t : List ℕ) → p t ≡ q t) → (ts : List (List ℕ)) → list_any p ts ≡ list_any q ts
+all_keys : IsTotalOrder by_keys
+all_keys = record { antisymm = turned_round; trans = one_after_another; congr = alike }
+
+keys_apart : IsAntisymmetric by_keys
+keys_apart (Text a) (Text b) e = ap Text (bytes_apart a b e)
+keys_apart (Text a) (Number n) e = cc
+keys_apart (Number m) (Text b) e = cc
+keys_apart (Number m) (Number n) e = ap Number (nat_cmp-IsAntisymmetric m n e)
+
+falls : IsTotalOrder (flip_args by_keys)
+falls = back_total all_keys
+
+falls_apart : IsAntisymmetric (flip_args by_keys)
+falls_apart a b e = sym (keys_apart b a e)
+
+-- two keys are one by the test where they are
+text_in_it : List ℕ → Key → List ℕ
+text_in_it other (Text a) = a
+text_in_it other (Number n) = other
+
+number_in_it : ℕ → Key → ℕ
+number_in_it other (Text a) = other
+number_in_it other (Number n) = n
+
+is_text : Key → Bool
+is_text (Text a) = true
+is_text (Number n) = false
+
+decides : (a b : Key) → Decides (same_key a b) (a ≡ b)
+unfolding text_in_it number_in_it is_text
+decides (Text a) (Text b) = ((λ e. ap Text ((bytes_decides a b).0 e)), (λ e. (bytes_decides a b).1 (ap (text_in_it a) e)))
+decides (Text a) (Number n) = ((λ e. cc), (λ e. let p : true ≡ false = ap is_text e in cc))
+decides (Number m) (Text b) = ((λ e. cc), (λ e. let p : false ≡ true = ap is_text e in cc))
+decides (Number m) (Number n) = ((λ e. ap Number (eqb-true m n e)), (λ e. eq-eqb m n (ap (number_in_it m) e)))
+
+-- and where they tie
+keys_tie : (a b : Key) → same_key a b ≡ eq_by_cmp by_keys a b
+keys_tie a b =
+    both_ways (same_key a b) (eq_by_cmp by_keys a b)
+    (λ e. ap (eq_by_cmp by_keys a) (sym ((decides a b).0 e)) ∙ (Equal-is (by_keys a a)).1 (tied_itself all_keys a))
+    (λ e. (decides a b).1 (keys_apart a b ((Equal-is (by_keys a b)).0 e)))
+
+-- ---- the keys of some songs, each once
+
+ascending-rises : (ks : List Key) → IsStrictlySortedBy by_keys (ascending_keys ks)
+unfolding ascending_keys
+ascending-rises ks = once-rises by_keys ks
+
+ascending-has : (ks : List Key) (q : Key) → among by_keys q (ascending_keys ks) ≡ among by_keys q ks
+unfolding ascending_keys
+ascending-has ks q = among-once all_keys keys_apart ks q
+
+any_alike : (p q : Key → Bool) → ((k : Key) → p k ≡ q k) → (ks : List Key) → list_any p ks ≡ list_any q ks
 any_alike p q h [] = refl
-any_alike p q h (t ∷ ts) = ap (λ (b : Bool). b || list_any p ts) (h t) ∙ ap (λ (b : Bool). q t || b) (any_alike p q h ts)
+any_alike p q h (k ∷ ks) = ap (λ (b : Bool). b || list_any p ks) (h k) ∙ ap (λ (b : Bool). q k || b) (any_alike p q h ks)
 
--- a text ties with another in both orders
-either_way : (q t : List ℕ) → eq_by_cmp (flip_args by_bytes) q t ≡ eq_by_cmp by_bytes q t
-either_way q t = (eq_by_cmp_equiv bytes).symm t q
+-- a key ties with another in both orders
+either_way : (q k : Key) → eq_by_cmp (flip_args by_keys) q k ≡ eq_by_cmp by_keys q k
+either_way q k = (eq_by_cmp_equiv all_keys).symm k q
 
-falling-has : (texts : List (List ℕ)) (q : List ℕ) → among (flip_args by_bytes) q (reverse (ascending texts)) ≡ among (flip_args by_bytes) q texts
-falling-has texts q =
-    any_alike (eq_by_cmp (flip_args by_bytes) q) (eq_by_cmp by_bytes q) (either_way q) (reverse (ascending texts))
-    ∙ sym (list_any-IsPermutation (eq_by_cmp by_bytes q) (ascending texts) (reverse (ascending texts)) (IsPermutation-reverse (ascending texts)))
-    ∙ ascending-has texts q
-    ∙ sym (any_alike (eq_by_cmp (flip_args by_bytes) q) (eq_by_cmp by_bytes q) (either_way q) texts)
+falling-has : (ks : List Key) (q : Key) → among (flip_args by_keys) q (reverse (ascending_keys ks)) ≡ among (flip_args by_keys) q ks
+falling-has ks q =
+    any_alike (eq_by_cmp (flip_args by_keys) q) (eq_by_cmp by_keys q) (either_way q) (reverse (ascending_keys ks))
+    ∙ sym (list_any-IsPermutation (eq_by_cmp by_keys q) (ascending_keys ks) (reverse (ascending_keys ks)) (IsPermutation-reverse (ascending_keys ks)))
+    ∙ ascending-has ks q
+    ∙ sym (any_alike (eq_by_cmp (flip_args by_keys) q) (eq_by_cmp by_keys q) (either_way q) ks)
 
-module _ (by : Option TagName) (songs sorted : List SongData) where
-  module _ {R : List ℕ → List ℕ → Ordering} (order : IsTotalOrder R) (apart : IsAntisymmetric R) (texts : List (List ℕ)) where
-    one_list : IsStrictlySortedBy R texts → ((q : List ℕ) → among R q texts ≡ among R q (texts_in by songs)) → IsPermutation songs sorted
-        → IsSortedBy (λ a b. is_lt (R (text_in by a) (text_in by b))) sorted → ((song : SongData) → with_text by (text_in by song) sorted ≡ with_text by (text_in by song) songs)
-        → sorted ≡ rows (text_in by) texts songs
+-- ---- one order
+
+module _ (key : SongData → Key) (songs sorted : List SongData) where
+  module _ {R : Key → Key → Ordering} (order : IsTotalOrder R) (apart : IsAntisymmetric R) (ks : List Key) where
+    one_list : IsStrictlySortedBy R ks → ((q : Key) → among R q ks ≡ among R q (map key songs)) → IsPermutation songs sorted
+        → IsSortedBy (λ a b. is_lt (R (key a) (key b))) sorted → ((song : SongData) → with_key key (key song) sorted ≡ with_key key (key song) songs)
+        → sorted ≡ rows key same_key decides ks songs
     one_list strict has moved up same =
-        sym (in_rows (text_in by) order apart texts sorted strict there (rises_from (text_in by) order apart sorted up))
-        ∙ rows_same (text_in by) texts sorted songs (each_among (text_in by) order apart (λ t. with_text by t sorted ≡ with_text by t songs) texts
-        (λ t in_texts. each_text (text_in by) (λ u. with_text by u sorted ≡ with_text by u songs) R apart songs (each_one (λ song. with_text by (text_in by song) sorted ≡ with_text by (text_in by song) songs) same songs) t (sym (has t) ∙ in_texts)))
+        sym (in_rows key same_key decides order apart ks sorted strict there (rises_from key same_key decides order apart sorted up))
+        ∙ rows_same key same_key decides ks sorted songs (each_among key same_key decides order apart (λ k. with_key key k sorted ≡ with_key key k songs) ks
+        (λ k in_keys. each_text key same_key decides (λ u. with_key key u sorted ≡ with_key key u songs) R apart songs (each_one (λ song. with_key key (key song) sorted ≡ with_key key (key song) songs) same songs) k (sym (has k) ∙ in_keys)))
       where
-        there : AllByRecursion (λ song. among R (text_in by song) texts ≡ true) sorted
+        there : AllByRecursion (λ song. among R (key song) ks ≡ true) sorted
         there =
-            each-behind (λ t. among R t texts ≡ true) (text_in by) sorted
-            (each_among (text_in by) order apart (λ t. among R t texts ≡ true) (texts_in by sorted)
-            (λ t in_sorted. has t ∙ list_any-IsPermutation (eq_by_cmp R t) (texts_in by songs) (texts_in by sorted) (IsPermutation-map (text_in by) songs sorted moved) ∙ in_sorted))
+            each-behind (λ k. among R k ks ≡ true) key sorted
+            (each_among key same_key decides order apart (λ k. among R k ks ≡ true) (map key sorted)
+            (λ k in_sorted. has k ∙ list_any-IsPermutation (eq_by_cmp R k) (map key songs) (map key sorted) (IsPermutation-map key songs sorted moved) ∙ in_sorted))
+
+one_order_by : (key : SongData → Key) (falling : Bool) (songs sorted : List SongData) → IsStablyOrderedBy key falling songs sorted → sorted ≡ ordered_by key falling songs
+one_order_by key false songs sorted r =
+    one_list key songs sorted all_keys keys_apart (ascending_keys (map key songs)) (ascending-rises (map key songs)) (ascending-has (map key songs)) r.permutation r.order r.ties
+one_order_by key true songs sorted r =
+    one_list key songs sorted falls falls_apart (reverse (ascending_keys (map key songs))) (turned by_keys (ascending_keys (map key songs)) (ascending-rises (map key songs))) (falling-has (map key songs)) r.permutation r.order r.ties
 
 pub one_order : (by : Option TagName) (falling : Bool) (songs sorted : List SongData) → IsStablyOrdered by falling songs sorted → sorted ≡ ordered by falling songs
-one_order by false songs sorted r =
-    one_list by songs sorted bytes bytes_apart (ascending (texts_in by songs)) (ascending-rises (texts_in by songs)) (ascending-has (texts_in by songs)) r.permutation r.order r.ties
-one_order by true songs sorted r =
-    one_list by songs sorted falls falls_apart (reverse (ascending (texts_in by songs))) (turned by_bytes (ascending (texts_in by songs)) (ascending-rises (texts_in by songs))) (falling-has (texts_in by songs)) r.permutation r.order r.ties
+one_order by falling songs sorted r = one_order_by (sort_key by) falling songs sorted r
+
+-- by the keys of a tag: its numbers or its texts
+pub by_numbers : (by : Option TagName) (falling : Bool) (songs sorted : List SongData) → goes_by_number by ≡ true → IsStablyOrderedBy (number_key by) falling songs sorted → IsStablyOrdered by falling songs sorted
+unfolding sort_key
+by_numbers by falling songs sorted e r = subst (λ (b : Bool). IsStablyOrderedBy (cond b (number_key by) (text_key by)) falling songs sorted) (sym e) r
+
+pub by_texts : (by : Option TagName) (falling : Bool) (songs sorted : List SongData) → goes_by_number by ≡ false → IsStablyOrderedBy (text_key by) falling songs sorted → IsStablyOrdered by falling songs sorted
+unfolding sort_key
+by_texts by falling songs sorted e r = subst (λ (b : Bool). IsStablyOrderedBy (cond b (number_key by) (text_key by)) falling songs sorted) (sym e) r
 
 -- ---- what a stable sort of references leaves
 
 -- the test by which they are sorted
-abbrev pub before : Option TagName → Bool → Bor SongData → Bor SongData → Bool
-before by falling a b = is_lt (by_text by falling a.now b.now)
+abbrev pub before : (SongData → Key) → Bool → Bor SongData → Bor SongData → Bool
+before key falling a b = is_lt (in_order key falling a.now b.now)
 
-pub weak : (by : Option TagName) (falling : Bool) → IsStrictWeakOrder (before by falling)
-weak by false = ranks_by bytes (λ (r : Bor SongData). text_in by r.now)
-weak by true = ranks_by falls (λ (r : Bor SongData). text_in by r.now)
+pub weak : (key : SongData → Key) (falling : Bool) → IsStrictWeakOrder (before key falling)
+weak key false = ranks_by all_keys (λ (r : Bor SongData). key r.now)
+weak key true = ranks_by falls (λ (r : Bor SongData). key r.now)
 
--- songs that tie have one text
-tied_text : (by : Option TagName) (falling : Bool) (song other : SongData) → has_text by (text_in by song) other ≡ not (is_lt (by_text by falling song other)) && not (is_lt (by_text by falling other song))
-tied_text by false song other =
-    texts_ties (text_in by other) (text_in by song)
-    ∙ (eq_by_cmp_equiv bytes).symm (text_in by other) (text_in by song)
-    ∙ sym (tied (by_bytes (text_in by song) (text_in by other)) (by_bytes (text_in by other) (text_in by song)) (bytes.antisymm (text_in by other) (text_in by song)))
-tied_text by true song other =
-    texts_ties (text_in by other) (text_in by song)
-    ∙ sym (tied (by_bytes (text_in by other) (text_in by song)) (by_bytes (text_in by song) (text_in by other)) (bytes.antisymm (text_in by song) (text_in by other)))
+-- songs that tie have one key
+tied_key : (key : SongData → Key) (falling : Bool) (song other : SongData) → same_key (key other) (key song) ≡ not (is_lt (in_order key falling song other)) && not (is_lt (in_order key falling other song))
+tied_key key false song other =
+    keys_tie (key other) (key song)
+    ∙ (eq_by_cmp_equiv all_keys).symm (key other) (key song)
+    ∙ sym (tied (by_keys (key song) (key other)) (by_keys (key other) (key song)) (turned_round (key other) (key song)))
+tied_key key true song other =
+    keys_tie (key other) (key song)
+    ∙ sym (tied (by_keys (key other) (key song)) (by_keys (key song) (key other)) (turned_round (key song) (key other)))
 
-pub stable_from : (by : Option TagName) (falling : Bool) (old new : List (Bor SongData)) → IsPermutation old new → IsSortedBy (before by falling) new → IsStableBy (before by falling) old new → IsStablyOrdered by falling (behind old) (behind new)
-stable_from by falling old new moved up stable = record {
+pub stable_from : (key : SongData → Key) (falling : Bool) (old new : List (Bor SongData)) → IsPermutation old new → IsSortedBy (before key falling) new → IsStableBy (before key falling) old new → IsStablyOrderedBy key falling (behind old) (behind new)
+stable_from key falling old new moved up stable = record {
   permutation = IsPermutation-map (λ r. r.now) old new moved;
-  order = sorted-behind (λ a b. is_lt (by_text by falling a b)) new up;
+  order = sorted-behind (λ a b. is_lt (in_order key falling a b)) new up;
   ties = λ song.
       let it : Bor SongData = record { ref_ptr = (0, 0); now = song } in
-      filter-behind (has_text by (text_in by song)) new
-      ∙ ap behind (filter_alike (λ (r : Bor SongData). has_text by (text_in by song) r.now) (ties (before by falling) it) (λ r. tied_text by falling song r.now) new ∙ stable it ∙ sym (filter_alike (λ (r : Bor SongData). has_text by (text_in by song) r.now) (ties (before by falling) it) (λ r. tied_text by falling song r.now) old))
-      ∙ sym (filter-behind (has_text by (text_in by song)) old);
+      let has : SongData → Bool = λ other. same_key (key other) (key song) in
+      filter-behind has new
+      ∙ ap behind (filter_alike (λ (r : Bor SongData). has r.now) (ties (before key falling) it) (λ r. tied_key key falling song r.now) new ∙ stable it ∙ sym (filter_alike (λ (r : Bor SongData). has r.now) (ties (before key falling) it) (λ r. tied_key key falling song r.now) old))
+      ∙ sym (filter-behind has old);
 }

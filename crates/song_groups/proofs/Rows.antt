@@ -1,7 +1,6 @@
--- Lists in rows: the elements of one text in the order that they have, then those of the next text.
+-- Lists in rows: the elements of one key in the order that they have, then those of the next key.
 use Rattle.std.proofs.Common.{◌≡◌, ◌∙◌, ℕ, suc, ◌+◌, ◌<◌, Bool, true, false, cond, ◌||◌, List, [], ◌∷◌, ◌++◌, map, reverse, length, get_or, refl, sym, ap, subst, inl, inr, arith}
-use Rattle.std.specs.Prelude.{nat_eq}
-use lib.Pointwise.{pointwise, bytes_decides}
+use Rattle.std.specs.Bool.{Decides}
 use Rattle.std.specs.List.{filter, flat_map, list_any, sum_by, AllByRecursion}
 use Rattle.std.specs.List.Sorted.{IsStrictlySortedBy, IsSortedBy}
 use Rattle.std.specs.Ordering.{eq_by_cmp, is_lt, flip_args, ordering_reverse}
@@ -65,53 +64,53 @@ turned R (x ∷ xs) h =
 
 -- ---- rows
 
-module _ {X : Type 0} (key : X → List ℕ) where
-  abbrev pub has : List ℕ → X → Bool
-  has text x = pointwise nat_eq (key x) text
+module _ {X K : Type 0} (key : X → K) (is_one : K → K → Bool) (decides : (a b : K) → Decides (is_one a b) (a ≡ b)) where
+  abbrev pub has : K → X → Bool
+  has text x = is_one (key x) text
 
-  abbrev pub row : List ℕ → List X → List X
+  abbrev pub row : K → List X → List X
   row text xs = filter (has text) xs
 
-  abbrev pub rows : List (List ℕ) → List X → List X
+  abbrev pub rows : List K → List X → List X
   rows texts xs = flat_map (λ text. row text xs) texts
 
-  lacks : (x : X) (text : List ℕ) → (key x ≡ text → ⊥) → has text x ≡ false
-  lacks x text h = is_false (has text x) (λ e. h ((bytes_decides (key x) text).0 e))
+  lacks : (x : X) (text : K) → (key x ≡ text → ⊥) → has text x ≡ false
+  lacks x text h = is_false (has text x) (λ e. h ((decides (key x) text).0 e))
 
   -- an element stands in no row of another text
-  skip : (y : X) (texts : List (List ℕ)) (ys : List X) → AllByRecursion (λ text. key y ≡ text → ⊥) texts → rows texts (y ∷ ys) ≡ rows texts ys
+  skip : (y : X) (texts : List K) (ys : List X) → AllByRecursion (λ text. key y ≡ text → ⊥) texts → rows texts (y ∷ ys) ≡ rows texts ys
   skip y [] ys h = refl
   skip y (t ∷ ts) ys h =
       ap (λ (b : Bool). cond b (y ∷ row t ys) (row t ys) ++ rows ts (y ∷ ys)) (lacks y t h.0)
       ∙ ap (λ (rest : List X). row t ys ++ rest) (skip y ts ys h.1)
 
-  pub row-none : (text : List ℕ) (ys : List X) → AllByRecursion (λ y. key y ≡ text → ⊥) ys → row text ys ≡ []
+  pub row-none : (text : K) (ys : List X) → AllByRecursion (λ y. key y ≡ text → ⊥) ys → row text ys ≡ []
   row-none t [] h = refl
   row-none t (y ∷ ys) h = ap (λ (b : Bool). cond b (y ∷ row t ys) (row t ys)) (lacks y t h.0) ∙ row-none t ys h.1
 
   -- rows of equal lists by their texts
-  pub rows_same : (texts : List (List ℕ)) (xs ys : List X) → AllByRecursion (λ text. row text xs ≡ row text ys) texts → rows texts xs ≡ rows texts ys
+  pub rows_same : (texts : List K) (xs ys : List X) → AllByRecursion (λ text. row text xs ≡ row text ys) texts → rows texts xs ≡ rows texts ys
   rows_same [] xs ys h = refl
   rows_same (t ∷ ts) xs ys h = ap (λ (front : List X). front ++ rows ts xs) h.0 ∙ ap (λ (rest : List X). row t ys ++ rest) (rows_same ts xs ys h.1)
 
-  rows-none : (texts : List (List ℕ)) → rows texts [] ≡ []
+  rows-none : (texts : List K) → rows texts [] ≡ []
   rows-none [] = refl
   rows-none (t ∷ ts) = rows-none ts
 
   -- what is true of each text of an element is true of each text of the list
-  pub each_text : (P : List ℕ → Type 0) (R : List ℕ → List ℕ → Ordering) → IsAntisymmetric R → (xs : List X) → AllByRecursion (λ x. P (key x)) xs → (text : List ℕ) → list_any (eq_by_cmp R text) (map key xs) ≡ true → P text
+  pub each_text : (P : K → Type 0) (R : K → K → Ordering) → IsAntisymmetric R → (xs : List X) → AllByRecursion (λ x. P (key x)) xs → (text : K) → list_any (eq_by_cmp R text) (map key xs) ≡ true → P text
   each_text P R apart [] h text there = cc
   each_text P R apart (x ∷ xs) h text there = elim (cases_Bool (eq_by_cmp R text (key x))) [
     | inl e ↦ subst P (sym (apart text (key x) ((Equal-is (R text (key x))).0 e))) h.0
     | inr e ↦ each_text P R apart xs h.1 text (ap (λ (b : Bool). b || list_any (eq_by_cmp R text) (map key xs)) (sym e) ∙ there)
   ]
 
-  module _ {R : List ℕ → List ℕ → Ordering} (order : IsTotalOrder R) (apart : IsAntisymmetric R) where
-    pub not_less : (a b : List ℕ) → R a b ≡ Less → a ≡ b → ⊥
+  module _ {R : K → K → Ordering} (order : IsTotalOrder R) (apart : IsAntisymmetric R) where
+    pub not_less : (a b : K) → R a b ≡ Less → a ≡ b → ⊥
     not_less a b l e = let q : R a b ≡ Equal = ap (R a) (sym e) ∙ tied_itself order a in cc
 
     -- what is not before b is after all that is before b
-    less_on : (a b x : List ℕ) → R a b ≡ Less → is_lt (R x b) ≡ false → R a x ≡ Less
+    less_on : (a b x : K) → R a b ≡ Less → is_lt (R x b) ≡ false → R a x ≡ Less
     less_on a b x l h = by_case (R b x) refl
       where
         by_case : (r : Ordering) → R b x ≡ r → R a x ≡ Less
@@ -121,10 +120,10 @@ module _ {X : Type 0} (key : X → List ℕ) where
             let q : R x b ≡ Less = order.antisymm x b ∙ ap ordering_reverse e in
             let p : true ≡ false = sym (ap is_lt q) ∙ h in cc
 
-    other : (a b : List ℕ) → pointwise nat_eq a b ≡ false → eq_by_cmp R a b ≡ false
-    other a b e = is_false (eq_by_cmp R a b) (λ h. let q : pointwise nat_eq a b ≡ true = (bytes_decides a b).1 (apart a b ((Equal-is (R a b)).0 h)) in cc)
+    other : (a b : K) → is_one a b ≡ false → eq_by_cmp R a b ≡ false
+    other a b e = is_false (eq_by_cmp R a b) (λ h. let q : is_one a b ≡ true = (decides a b).1 (apart a b ((Equal-is (R a b)).0 h)) in cc)
 
-    at_one : (P : List ℕ → Type 0) (text : List ℕ) (texts : List (List ℕ)) → list_any (eq_by_cmp R text) texts ≡ true → AllByRecursion P texts → P text
+    at_one : (P : K → Type 0) (text : K) (texts : List K) → list_any (eq_by_cmp R text) texts ≡ true → AllByRecursion P texts → P text
     at_one P text [] there h = cc
     at_one P text (t ∷ ts) there h = elim (cases_Bool (eq_by_cmp R text t)) [
       | inl e ↦ subst P (sym (apart text t ((Equal-is (R text t)).0 e))) h.0
@@ -132,7 +131,7 @@ module _ {X : Type 0} (key : X → List ℕ) where
     ]
 
     -- what holds of each text of a list by the test
-    pub each_among : (P : List ℕ → Type 0) (texts : List (List ℕ)) → ((text : List ℕ) → list_any (eq_by_cmp R text) texts ≡ true → P text) → AllByRecursion P texts
+    pub each_among : (P : K → Type 0) (texts : List K) → ((text : K) → list_any (eq_by_cmp R text) texts ≡ true → P text) → AllByRecursion P texts
     each_among P [] h = tt
     each_among P (t ∷ ts) h = (
       h t (ap (λ (b : Bool). b || list_any (eq_by_cmp R t) ts) ((Equal-is (R t t)).1 (tied_itself order t))),
@@ -144,12 +143,12 @@ module _ {X : Type 0} (key : X → List ℕ) where
         or_later false b e = e
 
     -- an element that none of the others comes before stands before all rows of the others
-    place : (texts : List (List ℕ)) (y : X) (ys : List X) → IsStrictlySortedBy R texts → list_any (eq_by_cmp R (key y)) texts ≡ true → AllByRecursion (λ x. is_lt (R (key x) (key y)) ≡ false) ys → rows texts (y ∷ ys) ≡ y ∷ rows texts ys
+    place : (texts : List K) (y : X) (ys : List X) → IsStrictlySortedBy R texts → list_any (eq_by_cmp R (key y)) texts ≡ true → AllByRecursion (λ x. is_lt (R (key x) (key y)) ≡ false) ys → rows texts (y ∷ ys) ≡ y ∷ rows texts ys
     unfolding IsStrictlySortedBy
     place [] y ys up there above = cc
     place (t ∷ ts) y ys up there above = elim (cases_Bool (has t y)) [
       | inl e ↦
-          let same : key y ≡ t = (bytes_decides (key y) t).0 e in
+          let same : key y ≡ t = (decides (key y) t).0 e in
           ap (λ (b : Bool). cond b (y ∷ row t ys) (row t ys) ++ rows ts (y ∷ ys)) e
           ∙ ap (λ (rest : List X). (y ∷ row t ys) ++ rest) (skip y ts ys (each (λ u. R t u ≡ Less) (λ u. key y ≡ u → ⊥) (λ u l k. not_less t u l (sym same ∙ k)) ts up.0))
       | inr e ↦
@@ -163,10 +162,10 @@ module _ {X : Type 0} (key : X → List ℕ) where
     ]
 
     -- each element counts in one row
-    abbrev long : List X → List ℕ → ℕ
+    abbrev long : List X → K → ℕ
     long ys text = length (row text ys)
 
-    counts_skip : (y : X) (texts : List (List ℕ)) (ys : List X) → AllByRecursion (λ text. key y ≡ text → ⊥) texts → sum_by (long (y ∷ ys)) texts ≡ sum_by (long ys) texts
+    counts_skip : (y : X) (texts : List K) (ys : List X) → AllByRecursion (λ text. key y ≡ text → ⊥) texts → sum_by (long (y ∷ ys)) texts ≡ sum_by (long ys) texts
     counts_skip y [] ys h = refl
     counts_skip y (t ∷ ts) ys h =
         sum_by-cons (long (y ∷ ys)) t ts
@@ -174,7 +173,7 @@ module _ {X : Type 0} (key : X → List ℕ) where
         ∙ ap (λ n. length (row t ys) + n) (counts_skip y ts ys h.1)
         ∙ sym (sum_by-cons (long ys) t ts)
 
-    counts_one : (texts : List (List ℕ)) (y : X) (ys : List X) → IsStrictlySortedBy R texts → list_any (eq_by_cmp R (key y)) texts ≡ true → sum_by (long (y ∷ ys)) texts ≡ suc (sum_by (long ys) texts)
+    counts_one : (texts : List K) (y : X) (ys : List X) → IsStrictlySortedBy R texts → list_any (eq_by_cmp R (key y)) texts ≡ true → sum_by (long (y ∷ ys)) texts ≡ suc (sum_by (long ys) texts)
     unfolding IsStrictlySortedBy
     counts_one [] y ys up there = cc
     counts_one (t ∷ ts) y ys up there =
@@ -182,7 +181,7 @@ module _ {X : Type 0} (key : X → List ℕ) where
         let less : sum_by (long ys) (t ∷ ts) ≡ length (row t ys) + sum_by (long ys) ts = sum_by-cons (long ys) t ts in
         elim (cases_Bool (has t y)) [
           | inl e ↦
-              let same : key y ≡ t = (bytes_decides (key y) t).0 e in
+              let same : key y ≡ t = (decides (key y) t).0 e in
               let front : length (row t (y ∷ ys)) ≡ suc (length (row t ys)) = ap (λ (b : Bool). length (cond b (y ∷ row t ys) (row t ys))) e in
               let back : sum_by (long (y ∷ ys)) ts ≡ sum_by (long ys) ts = counts_skip y ts ys (each (λ u. R t u ≡ Less) (λ u. key y ≡ u → ⊥) (λ u l k. not_less t u l (sym same ∙ k)) ts up.0) in
               omega arith
@@ -193,14 +192,14 @@ module _ {X : Type 0} (key : X → List ℕ) where
               omega arith
         ]
 
-    counts_none : (texts : List (List ℕ)) → sum_by (long []) texts ≡ 0
+    counts_none : (texts : List K) → sum_by (long []) texts ≡ 0
     counts_none [] = refl
     counts_none (t ∷ ts) =
         let more : sum_by (long []) (t ∷ ts) ≡ 0 + sum_by (long []) ts = sum_by-cons (long []) t ts in
         let rest : sum_by (long []) ts ≡ 0 = counts_none ts in
         omega arith
 
-    pub counts_all : (texts : List (List ℕ)) (ys : List X) → IsStrictlySortedBy R texts → AllByRecursion (λ y. list_any (eq_by_cmp R (key y)) texts ≡ true) ys → sum_by (λ t. length (row t ys)) texts ≡ length ys
+    pub counts_all : (texts : List K) (ys : List X) → IsStrictlySortedBy R texts → AllByRecursion (λ y. list_any (eq_by_cmp R (key y)) texts ≡ true) ys → sum_by (λ t. length (row t ys)) texts ≡ length ys
     counts_all ts [] up there = counts_none ts
     counts_all ts (y ∷ ys) up there = counts_one ts y ys up there.0 ∙ ap suc (counts_all ts ys up there.1)
 
@@ -219,6 +218,6 @@ module _ {X : Type 0} (key : X → List ℕ) where
     )
 
     -- a list that rises is its rows, in the order of all its texts
-    pub in_rows : (texts : List (List ℕ)) (ys : List X) → IsStrictlySortedBy R texts → AllByRecursion (λ y. list_any (eq_by_cmp R (key y)) texts ≡ true) ys → Rises ys → rows texts ys ≡ ys
+    pub in_rows : (texts : List K) (ys : List X) → IsStrictlySortedBy R texts → AllByRecursion (λ y. list_any (eq_by_cmp R (key y)) texts ≡ true) ys → Rises ys → rows texts ys ≡ ys
     in_rows ts [] up there rises = rows-none ts
     in_rows ts (y ∷ ys) up there rises = place ts y ys up there.0 rises.0 ∙ ap (λ (rest : List X). y ∷ rest) (in_rows ts ys up there.1 rises.1)

@@ -4,8 +4,8 @@ use Rattle.std.specs.Prelude.{ℕ, Bool, List, [], map, nat_eq, Option, Some, No
 use Rattle.std.specs.List.{filter}
 use lib.Pointwise.{pointwise}
 use Rattle.mpd_text.specs.Songs.Song.{SongData}
+use Rattle.mpd_text.specs.Songs.Tags.{text_of_tag}
 use Rattle.mpd_text.specs.declared.songs.song.TagName.{TagName}
-use Rattle.filters.specs.Truth.{text_of_tag}
 
 -- the text that a song has in a column: that of a tag, or the empty one in a column that no song has
 abbrev pub text_in : Option TagName → SongData → List ℕ

@@ -1,4 +1,5 @@
 pub mod Columns
+pub mod Numbers
 pub mod Order
 pub mod Tuples
 pub mod Counts

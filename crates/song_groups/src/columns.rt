@@ -2,8 +2,7 @@
 ghost use Rattle.std.specs.Prelude.{◌≡◌};
 ghost use Rattle.song_groups.specs.Columns.{text_in as text_in_lem};
 
-use mpd_text::{Song, TagName};
-use song_search::text_of_tag;
+use mpd_text::{Song, TagName, text_of_tag};
 
 /// The text that a song has in a column: that of a tag, or the empty one in a column that no song has.
 pub(crate) fn text_in(song: &Song, column: Option<TagName>) -> &str

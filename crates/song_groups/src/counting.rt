@@ -6,11 +6,11 @@ ghost use Rattle.mpd_text.specs.declared.songs.song.TagName.{TagName};
 ghost use Rattle.song_db.specs.Lines.{millis};
 ghost use Rattle.song_search.specs.Answers.{tag_texts as tag_texts_lem};
 ghost use Rattle.mpd_text.specs.Texts.{ascending, values_now};
-ghost use Rattle.song_groups.specs.Order.{by_text};
+ghost use Rattle.song_groups.specs.Order.{in_order, text_key};
 ghost use Rattle.song_groups.specs.Counts.{count_of as count_of_lem, groups, groups_now, group_lines, lines_of_groups, CountsEachOnce};
 
 use crate::columns::text_in;
-use crate::sorting::order;
+use crate::sorting::order_by_text;
 use mpd_text::{Answer, Song, TagName, sort_once};
 use song_db::{Rate, SharedSong};
 use song_search::{Count, millis_of};
@@ -41,7 +41,7 @@ pub fn count_groups<'a>(
     ensures { IfOk result (λ found. groups_now found.items ≡ groups column rate.now (values_now songs.now)) }
 {
     let mut ordered = Vec::from_slice(alloc, songs)?;
-    order(&mut ordered, column, false)?;
+    order_by_text(&mut ordered, column, false)?;
     count_ordered(alloc, &ordered, column, rate)
 }
 
@@ -52,7 +52,7 @@ fn count_ordered<'a>(
     column: Option<TagName>,
     rate: &Rate,
 ) -> Result<Vec<Group<'a>>, AllocError>
-    requires { IsSorted (by_text column false) (values_now songs.now) }
+    requires { IsSorted (in_order (text_key column) false) (values_now songs.now) }
     ensures { IfOk result (λ found. groups_now found.items ≡ groups column rate.now (values_now songs.now)) }
 {
     let mut found = Vec::new(alloc);

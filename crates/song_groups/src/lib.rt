@@ -4,6 +4,7 @@
 mod columns;
 mod counting;
 mod grouping;
+mod numbers;
 mod sorting;
 
 pub use counting::{Group, count_groups, distinct, each_song_counts_once, push_counts};

@@ -9,15 +9,15 @@ use Rattle.std.proofs.lemmas.Bool.Decides.{same_from_decides, Decides-not, Decid
 use Rattle.std.proofs.lemmas.Bool.{or_cases, or_left, or_right}
 use lib.Pointwise.{pointwise}
 use Rattle.mpd_text.specs.Songs.Song.{SongData, TagData}
-use Rattle.mpd_text.specs.Songs.Tags.{tag_names}
+use Rattle.mpd_text.specs.Songs.Tags.{tag_names, base_tag_names, text_of_tag}
 use Rattle.mpd_text.specs.declared.songs.song.TagName.{TagName}
 use Rattle.filters.specs.declared.expression.Field.{Field}
-use Rattle.filters.specs.declared.expression.Field.TheVariants.{Tag, NoTag, File, Any}
+use Rattle.filters.specs.declared.expression.Field.TheVariants.{Tag, NoTag, File, Any, AnyKnown}
 use Rattle.filters.specs.declared.expression.Test.{Test}
 use Rattle.filters.specs.declared.expression.Test.TheVariants.{Equals, Differs, Contains}
 use Rattle.filters.specs.declared.matching.Case.{Case}
 use Rattle.filters.specs.Expressions.{Expression, Compare, Under, Negation, Both}
-use Rattle.filters.specs.Truth.{folded, text_of_tag, SomeTag, HasIt, Compares, Holds}
+use Rattle.filters.specs.Truth.{folded, SomeTag, HasIt, Compares, Holds}
 use Rattle.song_search.specs.Truth.{includes, has_it, compares, meets}
 use Rattle.song_search.proofs.Fronts.{begins_from, begins_rest, under-Decides}
 
@@ -54,7 +54,8 @@ module _ (passes : List ℕ → Bool) (P : List ℕ → Type 0) (each : (text : 
   has-Decides (Tag name) song = each (text_of_tag name song.tags)
   has-Decides NoTag song = each []
   has-Decides File song = each song.uri
-  has-Decides Any song = some-Decides tag_names song.tags
+  has-Decides Any song = some-Decides base_tag_names song.tags
+  has-Decides AnyKnown song = some-Decides tag_names song.tags
 
 same-Decides : (case : Case) (wanted text : List ℕ) → Decides (pointwise nat_eq (folded case text) (folded case wanted)) (folded case text ≡ folded case wanted)
 same-Decides case wanted text = bytes_decides (folded case text) (folded case wanted)

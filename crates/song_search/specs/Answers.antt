@@ -2,11 +2,11 @@
 use Rattle.std.specs.Prelude.{ℕ, ◌/◌, nat_lt, List, length, map}
 use Rattle.std.specs.List.{filter, sum_by}
 use Rattle.mpd_text.specs.Songs.Song.{SongData}
+use Rattle.mpd_text.specs.Songs.Tags.{text_of_tag}
 use Rattle.mpd_text.specs.declared.songs.song.TagName.{TagName}
 use Rattle.filters.specs.declared.matching.Case.{Case}
 use Rattle.filters.specs.declared.matching.Case.TheVariants.{Heeded}
 use Rattle.filters.specs.Expressions.{Expression}
-use Rattle.filters.specs.Truth.{text_of_tag}
 use Rattle.song_db.specs.Lines.{millis}
 use Rattle.song_search.specs.Truth.{meets}
 use Rattle.mpd_text.specs.Texts.{ascending}

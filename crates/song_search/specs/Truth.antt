@@ -4,14 +4,14 @@ use Rattle.std.specs.Prelude.{ℕ, Bool, not, ◌&&◌, ◌||◌, List, [], ◌�
 use Rattle.std.specs.List.{list_any, starts_with}
 use lib.Pointwise.{pointwise}
 use Rattle.mpd_text.specs.Songs.Song.{SongData}
-use Rattle.mpd_text.specs.Songs.Tags.{tag_names}
+use Rattle.mpd_text.specs.Songs.Tags.{tag_names, base_tag_names, text_of_tag}
 use Rattle.filters.specs.declared.expression.Field.{Field}
-use Rattle.filters.specs.declared.expression.Field.TheVariants.{Tag, NoTag, File, Any}
+use Rattle.filters.specs.declared.expression.Field.TheVariants.{Tag, NoTag, File, Any, AnyKnown}
 use Rattle.filters.specs.declared.expression.Test.{Test}
 use Rattle.filters.specs.declared.expression.Test.TheVariants.{Equals, Differs, Contains}
 use Rattle.filters.specs.declared.matching.Case.{Case}
 use Rattle.filters.specs.Expressions.{Expression, Compare, Under, Negation, Both}
-use Rattle.filters.specs.Truth.{folded, text_of_tag}
+use Rattle.filters.specs.Truth.{folded}
 
 -- what the URIs under a folder begin with: the folder and a slash, or nothing for the empty folder, which is
 -- the whole library
@@ -28,12 +28,13 @@ abbrev pub includes : List ℕ → List ℕ → Bool
 includes wanted [] = starts_with nat_eq [] wanted
 includes wanted (b ∷ bs) = starts_with nat_eq (b ∷ bs) wanted || includes wanted bs
 
--- whether what is compared passes: of `any` it is enough that one tag does
+-- whether what is compared passes: of several tags it is enough that one does
 abbrev pub has_it : (List ℕ → Bool) → Field → SongData → Bool
 has_it passes (Tag name) song = passes (text_of_tag name song.tags)
 has_it passes NoTag song = passes []
 has_it passes File song = passes song.uri
-has_it passes Any song = list_any (λ name. passes (text_of_tag name song.tags)) tag_names
+has_it passes Any song = list_any (λ name. passes (text_of_tag name song.tags)) base_tag_names
+has_it passes AnyKnown song = list_any (λ name. passes (text_of_tag name song.tags)) tag_names
 
 abbrev pub compares : Case → Test → List ℕ → Field → SongData → Bool
 compares case Equals wanted field song = has_it (λ text. pointwise nat_eq (folded case text) (folded case wanted)) field song

@@ -6,4 +6,4 @@ mod folders;
 mod search;
 
 pub use folders::{Listing, is_folder, list_folder, under};
-pub use search::{Count, counted, does_meet, find, meets_is_truth, millis_of, text_of_tag};
+pub use search::{Count, counted, does_meet, find, meets_is_truth, millis_of};

@@ -2,7 +2,7 @@
 ghost use Rattle.std.specs.Prelude.{◌≡◌, ◌↔◌, ◌≤◌, ◌^◌, IfOk, IsTrue, length};
 ghost use Rattle.mpd_text.specs.Songs.Song.{SongData};
 ghost use Rattle.filters.specs.Expressions.{Expression};
-ghost use Rattle.filters.specs.Truth.{Holds, text_of_tag as text_of_tag_lem};
+ghost use Rattle.filters.specs.Truth.{Holds};
 ghost use Rattle.filters.specs.declared.matching.Case.TheVariants.{Heeded};
 ghost use Rattle.song_db.specs.Lines.{millis};
 ghost use Rattle.song_search.specs.Truth.{meets};
@@ -10,7 +10,7 @@ ghost use Rattle.song_search.specs.Answers.{found, playtime};
 ghost use Rattle.mpd_text.specs.Texts.{values_now};
 
 use filters::{Case, Filter};
-use mpd_text::{Song, Tag, TagName};
+use mpd_text::Song;
 use song_db::{Db, Rate, SharedSong};
 use std::alloc::{AllocError, Global};
 
@@ -55,18 +55,6 @@ fn is_met(song: &Song, filter: &Filter) -> bool
         Ok(met) => met,
         Err(_) => unreachable!(),
     }
-}
-
-/// The text of the first tag of a name; empty where there is none.
-pub fn text_of_tag(tags: &[Tag], name: TagName) -> &str
-    ensures { result.now ≡ text_of_tag_lem name tags.now }
-{
-    for tag in tags {
-        if tag.name() == name {
-            return tag.text();
-        }
-    }
-    ""
 }
 
 /// How many songs there are, and how many whole seconds they play.

@@ -8,7 +8,7 @@ use Rattle.known_tags.specs.Lines.{tagtype_lines}
 use Rattle.known_tags.specs.Sets.{disabled, enabled}
 use Rattle.mpd_command.specs.Names.{all_names, is_forbidden, is_there}
 use Rattle.mpd_text.specs.Answers.Answer.{pair_line}
-use Rattle.mpd_text.specs.Songs.Tags.{tag_names}
+use Rattle.mpd_text.specs.Songs.Tags.{base_tag_names, tag_names}
 use Rattle.mpd_text.specs.declared.songs.song.TagName.{TagName}
 use Rattle.transitions.specs.Answers.{Answer, shut, succeeds}
 use Rattle.transitions.specs.CommandResults.{closes_client, ends_daemon, only}
@@ -21,9 +21,14 @@ use Rattle.mpd_command.specs.declared.connection.ConnectionCommand.TheVariants a
 abbrev pub ping : Asked → Answer
 ping asked = succeeds asked.stand (codes "")
 
--- the names of the tags that the client is shown, a line each, in their order
-abbrev pub tag_types : Asked → Answer
-tag_types asked = succeeds asked.stand (tagtype_lines asked.tags)
+-- the tags that a client is shown: in the everyday profile those that it chose, and in the base profile the six
+abbrev pub types_shown : Bool → List TagName → List TagName
+types_shown true tags = tags
+types_shown false tags = base_tag_names
+
+-- their names, a line each, in their order
+abbrev pub tag_types : Asked → Bool → Answer
+tag_types asked everyday = succeeds asked.stand (tagtype_lines (types_shown everyday asked.tags))
 
 -- what a command that chooses tags makes of those that its client is shown
 abbrev pub choice_of : ConnectionCommand → Option (List TagName → List TagName)
@@ -90,7 +95,7 @@ result_of asked connection.ListMounts = only (mounts asked)
 result_of asked connection.NoTags = only shut
 result_of asked (connection.NotCommands set) = only (not_commands asked set)
 result_of asked connection.Ping = only (ping asked)
-result_of asked connection.TagTypes = only (tag_types asked)
+result_of asked (connection.TagTypes everyday) = only (tag_types asked everyday)
 result_of asked connection.UrlHandlers = only (url_handlers asked)
 result_of asked (connection.WithTags named) = only shut
 result_of asked (connection.WithoutTags named) = only shut

@@ -7,7 +7,7 @@ ghost use Rattle.transitions.specs.Answers.{Responds, stays};
 ghost use Rattle.transitions.specs.Transitions.{IsDecidedBy};
 ghost use Rattle.status_commands.specs.Connection.{command_line, command_lines, command_lines_among, commands as commands_lem, decoder_lines, decoders as decoders_lem, mount_lines, mounts as mounts_lem, not_commands as not_commands_lem, ping as ping_lem, result_of, tag_types as tag_types_lem, type_lines, url_handlers as url_handlers_lem, wave_lines};
 
-use known_tags::push_tagtypes;
+use known_tags::{TagSet, push_tagtypes};
 use mpd_command::{CommandSet, ConnectionCommand, is_forbidden, is_there, names};
 use mpd_text::Answer;
 use std::alloc::{AllocError, Global};
@@ -31,7 +31,7 @@ pub fn run(alloc: Global, asked: Asked, command: &ConnectionCommand) -> Result<T
         ConnectionCommand::NoTags => Ok(Transition::only(shut(alloc))),
         ConnectionCommand::NotCommands(set) => Ok(Transition::only(not_commands(alloc, asked, *set)?)),
         ConnectionCommand::Ping => Ok(Transition::only(ping(alloc, asked)?)),
-        ConnectionCommand::TagTypes => Ok(Transition::only(tag_types(alloc, asked)?)),
+        ConnectionCommand::TagTypes(everyday) => Ok(Transition::only(tag_types(alloc, asked, *everyday)?)),
         ConnectionCommand::UrlHandlers => Ok(Transition::only(url_handlers(alloc, asked)?)),
         ConnectionCommand::WithTags(_) => Ok(Transition::only(shut(alloc))),
         ConnectionCommand::WithoutTags(_) => Ok(Transition::only(shut(alloc))),
@@ -44,12 +44,14 @@ fn ping(alloc: Global, asked: Asked) -> Result<Response, AllocError>
     succeeds(alloc, asked)
 }
 
-/// The tags that the client is shown.
-fn tag_types(alloc: Global, asked: Asked) -> Result<Response, AllocError>
-    ensures { Responds result (stays (tag_types_lem asked)) }
+/// The tags that the client is shown: those that it chose, or the six of the base profile, where it cannot
+/// choose.
+fn tag_types(alloc: Global, asked: Asked, everyday: bool) -> Result<Response, AllocError>
+    ensures { Responds result (stays (tag_types_lem asked everyday)) }
 {
+    let tags = if everyday { asked.tags } else { TagSet::base() };
     let mut answer = Answer::new(alloc);
-    push_tagtypes(&mut answer, asked.tags)?;
+    push_tagtypes(&mut answer, tags)?;
     shows(asked, answer)
 }
 

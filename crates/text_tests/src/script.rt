@@ -37,7 +37,7 @@ fn heads(rt: HostRuntime) -> Result<(), Fail> {
 
 /// Adds what a step says, or that it is bad.
 pub fn add_step(told: &mut Told, alloc: Global, rest: &str) {
-    match Step::of_line(alloc, rest) {
+    match Step::of_line(alloc, false, rest) {
         Ok(Some(step)) => add_said(told, &step),
         Ok(None) => told.add("bad"),
         Err(_) => told.fail(),

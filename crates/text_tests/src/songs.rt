@@ -1,5 +1,5 @@
 //! Songs and tags.
-use mpd_text::{Song, TAG_NAMES, Tag, TagName};
+use mpd_text::{BASE_TAG_NAMES, Song, TAG_NAMES, Tag, TagName, text_of_tag};
 use std::alloc::{AllocError, Global};
 use std::test::Fail;
 use wanted::{Told, wants, wants_made};
@@ -56,16 +56,51 @@ fn longest(alloc: Global) -> Result<String, AllocError> {
     let uri = "u".repeat(alloc, 1_024)?;
     let text = "x".repeat(alloc, 1_024)?;
     format!(in alloc;
-        "{uri} 4294967295|Title={text}|Artist={text}|Album={text}|Date={text}|Genre={text}|Comment={text}"
+        "{uri} 4294967295|Title={text}|Artist={text}|Album={text}|Date={text}|Genre={text}|Comment={text}\
+         |AlbumArtist={text}|Track={text}|Disc={text}|Composer={text}"
     )
 }
 
-fn names_in_order(alloc: Global) -> Result<String, AllocError> {
+fn names_in_order(alloc: Global, names: &[TagName]) -> Result<String, AllocError> {
     let mut told = Told::new(alloc);
-    for name in TAG_NAMES.iter() {
+    for name in names {
         told.add(format_args!("{}|", name.text()));
     }
     told.into_text()
+}
+
+/// The text that is read of each tag of a song with these tags, a bar after each.
+fn texts_read(alloc: Global, given: &[(TagName, &str)]) -> Result<String, AllocError> {
+    let mut tags = Vec::new(alloc);
+    for (name, text) in given {
+        tags.push(Tag::new(*name, String::from_str(alloc, text)?))?;
+    }
+    let mut told = Told::new(alloc);
+    for name in TAG_NAMES.iter() {
+        told.add(format_args!("{}|", text_of_tag(&tags, *name)));
+    }
+    told.into_text()
+}
+
+/// The first of two titles is read; without an artist of the album that is the artist.
+#[test]
+fn texts_of_tags(rt: HostRuntime) -> Result<(), Fail> {
+    let titles = &[
+        (TagName::Artist, "Ann"),
+        (TagName::Title, "One"),
+        (TagName::Title, "Two"),
+        (TagName::Track, "10/12"),
+    ];
+    wants(texts_read(rt.alloc(), titles), "One|Ann|||||Ann|10/12|||")?;
+    let various = &[
+        (TagName::Composer, "Bach"),
+        (TagName::Artist, "Bob"),
+        (TagName::AlbumArtist, "Various"),
+        (TagName::Disc, "2"),
+    ];
+    wants(texts_read(rt.alloc(), various), "|Bob|||||Various||2|Bach|")?;
+    let alone = &[(TagName::AlbumArtist, "Various")];
+    wants(texts_read(rt.alloc(), alone), "||||||Various||||")
 }
 
 /// A song and one that is refused, the longest texts, and the order of tags.
@@ -77,7 +112,11 @@ fn songs_and_tags(rt: HostRuntime) -> Result<(), Fail> {
     wants(refused, "a newline")?;
     wants_made(longest_told(rt.alloc()), longest(rt.alloc()))?;
     wants(
-        names_in_order(rt.alloc()),
+        names_in_order(rt.alloc(), &TAG_NAMES),
+        "Title|Artist|Album|Date|Genre|Comment|AlbumArtist|Track|Disc|Composer|",
+    )?;
+    wants(
+        names_in_order(rt.alloc(), &BASE_TAG_NAMES),
         "Title|Artist|Album|Date|Genre|Comment|",
     )
 }

@@ -8,7 +8,7 @@ use Rattle.std.proofs.lemmas.Str.{is_utf8-from_IsUtf8, IsUtf8-from_is_utf8}
 use Rattle.std.specs.List.{prefix_len, position_or_len, position, list_all}
 use Rattle.std.specs.Str.{is_utf8, IsUtf8}
 use Rattle.wave.specs.Texts.{text_of, counts}
-use Rattle.wave.specs.Found.{text_in}
+use Rattle.wave.specs.Found.{base_text}
 use Rattle.wave.proofs.Filling.{by_lt}
 
 pub and_false : (a : Bool) → (a && false) ≡ false
@@ -58,37 +58,37 @@ prefix_of_start p zero xs = omega arith
 prefix_of_start p (suc k) [] = omega arith
 prefix_of_start p (suc k) (x ∷ xs) = prefix_step (p x) k _ _ (prefix_of_start p k xs)
 
-too_long : (text : List ℕ) → 1024 < length text → counts text ≡ false
+pub too_long : (text : List ℕ) → 1024 < length text → counts text ≡ false
 too_long text h =
     let e : nat_le (length text) 1024 ≡ false = grind (arith, nat_tests) in
     ap (λ b. nat_le 1 (length text) && b && list_all (λ byte. nat_le 32 byte) text && is_utf8 text) e ∙ ap (λ b. b && list_all (λ byte. nat_le 32 byte) text && is_utf8 text) (and_false (nat_le 1 (length text)))
 
-pub text_is : (content text : List ℕ) → counts text ≡ true → text ≡ text_of content → text_in content ≡ Some text
+pub text_is : (content text : List ℕ) → counts text ≡ true → text ≡ text_of content → base_text content ≡ Some text
 text_is content text e f =
     let b : counts (text_of content) ≡ true = ap counts (sym f) ∙ e in
     ap (λ t. cond t (Some (text_of content)) None) b ∙ ap (λ t. Some t) (sym f)
 
-pub no_text_is : (content text : List ℕ) → counts text ≡ false → text ≡ text_of content → text_in content ≡ None
+pub no_text_is : (content text : List ℕ) → counts text ≡ false → text ≡ text_of content → base_text content ≡ None
 no_text_is content text e f =
     let b : counts (text_of content) ≡ false = ap counts (sym f) ∙ e in
     ap (λ t. cond t (Some (text_of content)) None) b
 
-length_of_text : (content : List ℕ) → length (text_of content) ≡ position_or_len (λ byte. byte == 0) content
+pub length_of_text : (content : List ℕ) → length (text_of content) ≡ position_or_len (λ byte. byte == 0) content
 length_of_text content = length-prefix_len (λ byte. not (byte == 0)) content
 
-start_of_text : (content : List ℕ) (k : ℕ) → text_of (take k content) ≡ take (min k (position_or_len (λ byte. byte == 0) content)) content
+pub start_of_text : (content : List ℕ) (k : ℕ) → text_of (take k content) ≡ take (min k (position_or_len (λ byte. byte == 0) content)) content
 start_of_text content k =
     let n = position_or_len (λ byte. byte == 0) content in
     ap (λ m. take m (take k content)) (prefix_of_start (λ byte. not (byte == 0)) k content) ∙ take-take (min k n) k content (omega arith)
 
-short_start : (k n : ℕ) (content : List ℕ) → n < k → take (min k n) content ≡ take n content
+pub short_start : (k n : ℕ) (content : List ℕ) → n < k → take (min k n) content ≡ take n content
 short_start k n content h = ap (λ m. take m content) (omega arith)
 
-long_start : (k n : ℕ) (content : List ℕ) → k ≤ n → n ≤ length content → 1024 < k → 1024 < length (take (min k n) content)
+pub long_start : (k n : ℕ) (content : List ℕ) → k ≤ n → n ≤ length content → 1024 < k → 1024 < length (take (min k n) content)
 long_start k n content h l g = simp length-take (omega arith)
 
-pub text_of_start : (content : List ℕ) → text_in (take 1025 content) ≡ text_in content
-text_of_start content =
+pub base_of_start : (content : List ℕ) → base_text (take 1025 content) ≡ base_text content
+base_of_start content =
     let n = position_or_len (λ byte. byte == 0) content in
     by_lt n 1025
     (λ short. ap (λ text. cond (counts text) (Some text) None) (start_of_text content 1025 ∙ short_start 1025 n content short))

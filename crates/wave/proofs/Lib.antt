@@ -1,9 +1,12 @@
 pub mod ChunkLaws
+pub mod EverydayTexts
 pub mod Filling
 pub mod Found
 pub mod FrameLaws
 pub mod Known
 pub mod Meanings
 pub mod Sounds
+pub mod Tags
 pub mod Starts
+pub mod Id3Chunks
 pub mod Items

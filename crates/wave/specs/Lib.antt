@@ -1,6 +1,7 @@
 pub mod Chunks
 pub mod Formats
 pub mod Texts
+pub mod Everyday
 pub mod Waves
 pub mod Parts
 pub mod Devices

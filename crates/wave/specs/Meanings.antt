@@ -1,11 +1,11 @@
 -- What a head says of the bytes that it was read from.
-use Rattle.std.specs.Prelude.{◌≡◌, ℕ, ◌*◌, List, length, take, drop, Option, IfSome, Result, Ok, Err, IfOk, ℤ}
+use Rattle.std.specs.Prelude.{◌≡◌, ℕ, ◌*◌, Bool, List, length, take, drop, Option, IfSome, Result, Ok, Err, IfOk, ℤ}
 use Rattle.std.specs.Global.{Vec}
 use Rattle.wave.specs.declared.fault.WaveFault.{WaveFault}
 use Rattle.wave.specs.declared.head.Head.{Head}
 use Rattle.wave.specs.Formats.{block, frames_of}
 use Rattle.wave.specs.Chunks.{Chunk}
-use Rattle.wave.specs.Texts.{items, tags_of}
+use Rattle.wave.specs.Everyday.{file_tags}
 use Rattle.wave.specs.Waves.{Wave, with_tags, sound_of}
 use Rattle.wave.specs.Heads.{Refuses}
 
@@ -28,6 +28,6 @@ MeansWave bytes (Ok head) meaning = (meaning ≡ Ok (wave_in bytes head)) × (le
 MeansWave bytes (Err fault) meaning = Refuses fault meaning
 
 -- the same of the chunks after the first twelve bytes
-abbrev pub MeansChunks : ℕ → List ℕ → List Chunk → Result Head WaveFault → Type 0
-MeansChunks rate bytes parts (Ok head) = MeansWave bytes (Ok head) (with_tags (tags_of (items parts)) (sound_of rate parts))
-MeansChunks rate bytes parts (Err fault) = Refuses fault (sound_of rate parts)
+abbrev pub MeansChunks : Bool → ℕ → List ℕ → List Chunk → Result Head WaveFault → Type 0
+MeansChunks everyday rate bytes parts (Ok head) = MeansWave bytes (Ok head) (with_tags (file_tags everyday parts) (sound_of rate parts))
+MeansChunks everyday rate bytes parts (Err fault) = Refuses fault (sound_of rate parts)

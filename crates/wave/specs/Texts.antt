@@ -1,12 +1,12 @@
--- The texts of a file (Multimedia Programming Interface and Data Specifications 1.0, INFO List Chunk). Which
--- texts are skipped is this profile's.
-use Rattle.std.specs.Prelude.{◌≡◌, ℕ, List, [], ◌∷◌, length, take, drop, Bool, true, false, ◌&&◌, ◌==◌, nat_le, if◌then◌else◌, Option, Some, None, MatchOption, codes}
+-- The texts of a file in the base profile (Multimedia Programming Interface and Data Specifications 1.0, INFO
+-- List Chunk). Which texts are skipped is this profile's.
+use Rattle.std.specs.Prelude.{◌≡◌, ℕ, List, [], ◌∷◌, length, take, drop, Bool, true, false, ◌&&◌, ◌==◌, nat_le, if◌then◌else◌, Option, Some, None, codes}
 use Rattle.std.specs.List.{flat_map, filter_map, list_all, before_first}
 use Rattle.std.specs.Str.{is_utf8, bytes_eq}
 use Rattle.mpd_text.specs.Songs.Song.{TagData}
-use Rattle.mpd_text.specs.Songs.Tags.{tag_names, tag_with}
+use Rattle.mpd_text.specs.Songs.Tags.{base_tag_names, tag_with}
 use Rattle.mpd_text.specs.declared.songs.song.TagName.{TagName}
-use Rattle.mpd_text.specs.declared.songs.song.TagName.TheVariants.{Title, Artist, Album, Date, Genre, Comment}
+use Rattle.mpd_text.specs.declared.songs.song.TagName.TheVariants.{Title, Artist, Album, Date, Genre, Comment, AlbumArtist, Track, Disc, Composer}
 use Rattle.wave.specs.Chunks.{Chunk, chunks}
 
 -- nothing of the content is cut off
@@ -21,7 +21,8 @@ is_info chunk = bytes_eq chunk.name (codes "LIST") && is_whole chunk && bytes_eq
 abbrev pub items : List Chunk → List Chunk
 items parts = flat_map (λ part. if is_info part then chunks (drop 4 part.content) else []) parts
 
--- the name of the chunks that hold a tag's texts
+-- The name of the chunks that hold a tag's texts. It is empty, as no chunk's is, where no chunk of a list holds
+-- them. The base profile asks for its own tags alone.
 abbrev pub identifier : TagName → List ℕ
 identifier Title = codes "INAM"
 identifier Artist = codes "IART"
@@ -29,12 +30,10 @@ identifier Album = codes "IPRD"
 identifier Date = codes "ICRD"
 identifier Genre = codes "IGNR"
 identifier Comment = codes "ICMT"
-
--- the tag whose texts lie in chunks of this name; none where no tag's do
-abbrev pub IsTagOf : List ℕ → Option TagName → Type 0
-IsTagOf name found = MatchOption found
-    ((tag : TagName) → bytes_eq name (identifier tag) ≡ false)
-    (λ tag. bytes_eq name (identifier tag) ≡ true)
+identifier AlbumArtist = []
+identifier Track = codes "ITRK"
+identifier Disc = []
+identifier Composer = codes "IMUS"
 
 -- a text ends at its first zero byte, or with the content
 abbrev pub text_of : List ℕ → List ℕ
@@ -57,6 +56,6 @@ abbrev pub first_text : TagName → List Chunk → Option (List ℕ)
 first_text name [] = None
 first_text name (item ∷ more) = if gives name item then Some (text_of item.content) else first_text name more
 
--- the tags that the chunks of lists give, in the order of answers
+-- the tags of the base profile that the chunks of lists give, in the order of answers
 abbrev pub tags_of : List Chunk → List TagData
-tags_of found = filter_map (λ name. tag_with name (first_text name found)) tag_names
+tags_of found = filter_map (λ name. tag_with name (first_text name found)) base_tag_names

@@ -8,7 +8,8 @@ use Rattle.wave.specs.declared.fault.WaveFault.TheVariants.{NotRiff, NoFormat, U
 use Rattle.wave.specs.declared.format.Layout.{Layout}
 use Rattle.wave.specs.Chunks.{Chunk, chunks}
 use Rattle.wave.specs.Formats.{layout_of, frames_of}
-use Rattle.wave.specs.Texts.{is_whole, items, tags_of}
+use Rattle.wave.specs.Texts.{is_whole}
+use Rattle.wave.specs.Everyday.{file_tags}
 
 abbrev pub is_riff : List ℕ → Bool
 is_riff bytes = nat_le 12 (length bytes) && bytes_eq (take 4 bytes) (codes "RIFF") && bytes_eq (slice_range bytes 8 12) (codes "WAVE")
@@ -57,7 +58,7 @@ abbrev pub with_tags : List TagData → Result Sound WaveFault → Result Wave W
 with_tags tags (Ok sound) = Ok (record { layout = sound.layout; tags = tags; frames = frames_of sound.layout sound.samples })
 with_tags tags (Err fault) = Err fault
 
--- what the bytes mean at this rate, or the first refusal
-unfoldable pub wave_of : ℕ → List ℕ → Result Wave WaveFault
-wave_of rate bytes =
-    if is_riff (take 12 bytes) then with_tags (tags_of (items (chunks (drop 12 bytes)))) (sound_of rate (chunks (drop 12 bytes))) else Err NotRiff
+-- what the bytes mean at this rate, in the everyday profile or in the base profile; or the first refusal
+unfoldable pub wave_of : Bool → ℕ → List ℕ → Result Wave WaveFault
+wave_of everyday rate bytes =
+    if is_riff (take 12 bytes) then with_tags (file_tags everyday (chunks (drop 12 bytes))) (sound_of rate (chunks (drop 12 bytes))) else Err NotRiff

@@ -3,9 +3,11 @@
 
 mod device;
 mod fault;
+mod first_texts;
 mod format;
 mod found_chunk;
 mod head;
+mod id3;
 mod reader;
 mod reading;
 mod samples;

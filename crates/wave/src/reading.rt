@@ -1,7 +1,8 @@
 //! Heads, read from files.
-ghost use Rattle.std.specs.Prelude.{length, ◌≡◌, ◌≤◌, ◌+◌, ◌/◌, ◌^◌, ◌<◌, take, IfSome, IfOk, OnErr, IsErrOf};
+ghost use Rattle.std.specs.Prelude.{length, ◌≡◌, ◌≤◌, ◌+◌, ◌/◌, ◌^◌, ◌<◌, take, IfSome, IfOk, IfErr, OnErr, IsErrOf};
 ghost use Rattle.counted_devices.specs.CallCounts.{NoFewer};
-ghost use Rattle.wave.specs.Devices.{Ends, KeepsTo, ReadFaultHasCause};
+ghost use Rattle.wave.specs.Devices.{Ends, KeepsTo, IsOutside, ReadFaultHasCause};
+ghost use Rattle.wave.specs.Everyday.{file_tags};
 ghost use Rattle.wave.specs.Formats.{block};
 ghost use Rattle.wave.specs.Waves.{is_riff, wave_of};
 ghost use Rattle.wave.specs.Meanings.{MeansWave, MeansChunks};
@@ -10,6 +11,7 @@ ghost use Rattle.wave.specs.Parts.{file_chunks};
 use crate::device::{last_call, read_at, size};
 use crate::fault::{Unread, WaveFault};
 use crate::head::Head;
+use crate::id3::read_id3;
 use crate::samples::{Samples, find_samples};
 use crate::texts::read_texts;
 use counted_devices::Media;
@@ -20,9 +22,18 @@ use std::alloc::Global;
 ///
 /// The whole file is walked through, chunk by chunk, since tags may come after the data. The refusals are
 /// those of the bytes, in the order of [`WaveFault`]; `ReadFault` and `NoMemory` say nothing of them.
-pub fn read_head<M: Media>(alloc: Global, media: &mut M, rate: u32) -> Result<Head, WaveFault>
+///
+/// In the base profile there are at most the first six tags, of the lists of texts. In the everyday profile
+/// there are all ten: a text of a list that is not UTF-8 is read as Windows-1252, and the texts of an ID3v2 tag,
+/// in the first chunk `id3 ` or `ID3 `, go before those of the lists.
+pub fn read_head<M: Media>(
+    alloc: Global,
+    media: &mut M,
+    rate: u32,
+    everyday: bool,
+) -> Result<Head, WaveFault>
     // The head is what the whole bytes mean, and each refusal is the one that they mean.
-    ensures value { IfSome (M.all_bytes media.old) (λ bytes. MeansWave bytes result (wave_of rate bytes)) }
+    ensures value { IfSome (M.all_bytes media.old) (λ bytes. MeansWave bytes result (wave_of everyday rate bytes)) }
     // A fault of the device comes only where it failed, or was called too often, or its count is at its
     // greatest value.
     ensures read_fault { ReadFaultHasCause (M.call_counts media.old) (M.call_counts media.new) result }
@@ -35,7 +46,7 @@ pub fn read_head<M: Media>(alloc: Global, media: &mut M, rate: u32) -> Result<He
     if !is_riff_at(media, limit)? {
         return Err(WaveFault::NotRiff);
     }
-    head_of_chunks(alloc, media, limit, end, rate)
+    head_of_chunks(alloc, media, limit, end, rate, everyday)
 }
 
 /// Reads the head from the chunks after the first twelve bytes, of a file of this many bytes.
@@ -45,18 +56,43 @@ fn head_of_chunks<M: Media>(
     limit: u64,
     end: u64,
     rate: u32,
+    everyday: bool,
 ) -> Result<Head, WaveFault>
     requires { IfSome (M.all_bytes media.old) (λ bytes. end ≤ length bytes) }
-    ensures value { IfSome (M.all_bytes media.old) (λ bytes. MeansChunks rate bytes (file_chunks bytes end) result) }
+    ensures value { IfSome (M.all_bytes media.old) (λ bytes.
+        MeansChunks everyday rate bytes (file_chunks bytes end) result) }
     ensures ends { IsErrOf result WaveFault.ReadFault → Ends limit (M.call_counts media.old) (M.call_counts media.new) }
     ensures stays { M.all_bytes media.new ≡ M.all_bytes media.old }
     ensures keeps { KeepsTo limit (M.call_counts media.old) (M.call_counts media.new) }
     ensures calm { NoFewer (M.call_counts media.old) (M.call_counts media.new) }
 {
     let samples = find_samples(media, limit, end, rate)?;
-    let texts = read_texts(alloc, media, limit, end)?;
-    let tags = texts.into_tags(alloc)?;
+    let tags = read_tags(alloc, media, limit, end, everyday)?;
     Ok(head_of(samples, tags))
+}
+
+/// Reads the tags, of a file of this many bytes.
+fn read_tags<M: Media>(
+    alloc: Global,
+    media: &mut M,
+    limit: u64,
+    end: u64,
+    everyday: bool,
+) -> Result<Vec<Tag>, WaveFault>
+    requires { IfSome (M.all_bytes media.old) (λ bytes. end ≤ length bytes) }
+    ensures value { IfSome (M.all_bytes media.old) (λ bytes. IfOk result (λ tags.
+        tags.items ≡ file_tags everyday (file_chunks bytes end))) }
+    ensures fault { IfErr result (IsOutside limit (M.call_counts media.old) (M.call_counts media.new)) }
+    ensures stays { M.all_bytes media.new ≡ M.all_bytes media.old }
+    ensures keeps { KeepsTo limit (M.call_counts media.old) (M.call_counts media.new) }
+    ensures calm { NoFewer (M.call_counts media.old) (M.call_counts media.new) }
+{
+    let texts = read_texts(alloc, media, limit, end, everyday)?;
+    if !everyday {
+        return Ok(texts.into_base_tags(alloc)?);
+    }
+    let id3 = read_id3(alloc, media, limit, end)?;
+    Ok(texts.into_everyday_tags(alloc, id3)?)
 }
 
 /// Whether the device begins as a RIFF WAVE file does.

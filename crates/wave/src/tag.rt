@@ -1,38 +1,71 @@
-//! Texts, and the tags that they give.
-ghost use Rattle.std.specs.Prelude.{◌≡◌, ◌==◌, ◌++◌, Some, None, false, IfOk, OnOk, MatchOption, nat_le};
-ghost use Rattle.wave.specs.Texts.{IsTagOf, text_of, counts, CountsAs};
-ghost use Rattle.mpd_text.specs.Songs.Tags.{tag_with};
+//! The names of the items of lists, and the texts that they hold.
+ghost use Rattle.std.specs.Prelude.{◌≡◌, ◌==◌, Some, None, false, IfOk, MatchOption, nat_le};
 ghost use Rattle.std.specs.List.{list_all, position};
-ghost use Rattle.wave.specs.Found.{text_in, no_texts, put, listed, shown};
+ghost use Rattle.wave.specs.Texts.{text_of, counts, CountsAs};
+ghost use Rattle.wave.specs.Everyday.{spelled, everyday_text};
+ghost use Rattle.wave.specs.Found.{IsNameOf, base_text, text_in};
 
-use mpd_text::{Tag, TagName, Text};
+use id3_tags::windows_1252;
+use mpd_text::Text;
 use std::alloc::{AllocError, Global};
 use std::str;
 
 /// The greatest length of a text, in bytes. A longer text is skipped.
 pub const MAX_TEXT: usize = 1_024;
 
-/// The tag whose texts lie in chunks of this name.
-pub(crate) fn tag_of(name: [u8; 4]) -> Option<TagName>
-    ensures { IsTagOf name result }
+/// The names of the items of lists that hold texts of tags.
+#[derive(Clone, Copy)]
+pub(crate) enum ItemName {
+    /// `INAM`, a title.
+    Inam,
+    /// `IART`, an artist.
+    Iart,
+    /// `IPRD`, an album.
+    Iprd,
+    /// `ICRD`, a date.
+    Icrd,
+    /// `IGNR`, a genre.
+    Ignr,
+    /// `ICMT`, a comment.
+    Icmt,
+    /// `ITRK`, the number of a track. The everyday profile alone has it, and those that follow.
+    Itrk,
+    /// `IPRT`, the number of a track where there is no `ITRK`.
+    Iprt,
+    /// `IMUS`, a composer.
+    Imus,
+}
+
+/// The name that these bytes are.
+pub(crate) fn name_of(bytes: [u8; 4]) -> Option<ItemName>
+    ensures { IsNameOf bytes result }
 {
-    if name == *b"INAM" {
-        return Some(TagName::Title);
+    if bytes == *b"INAM" {
+        return Some(ItemName::Inam);
     }
-    if name == *b"IART" {
-        return Some(TagName::Artist);
+    if bytes == *b"IART" {
+        return Some(ItemName::Iart);
     }
-    if name == *b"IPRD" {
-        return Some(TagName::Album);
+    if bytes == *b"IPRD" {
+        return Some(ItemName::Iprd);
     }
-    if name == *b"ICRD" {
-        return Some(TagName::Date);
+    if bytes == *b"ICRD" {
+        return Some(ItemName::Icrd);
     }
-    if name == *b"IGNR" {
-        return Some(TagName::Genre);
+    if bytes == *b"IGNR" {
+        return Some(ItemName::Ignr);
     }
-    if name == *b"ICMT" {
-        return Some(TagName::Comment);
+    if bytes == *b"ICMT" {
+        return Some(ItemName::Icmt);
+    }
+    if bytes == *b"ITRK" {
+        return Some(ItemName::Itrk);
+    }
+    if bytes == *b"IPRT" {
+        return Some(ItemName::Iprt);
+    }
+    if bytes == *b"IMUS" {
+        return Some(ItemName::Imus);
     }
     None
 }
@@ -66,83 +99,56 @@ fn counted(bytes: &[u8]) -> Option<&str>
     }
 }
 
-/// The text of a content, if it is not skipped.
-pub(crate) fn text_in(content: &[u8]) -> Option<&str>
-    ensures { MatchOption result (text_in content.now ≡ None) (λ text. text_in content.now ≡ Some text.now) }
-{
-    counted(up_to_zero(content))
-}
-
 fn has_no_control(text: &[u8]) -> bool
     ensures { result ≡ list_all (λ byte. nat_le 32 byte) text.now }
 {
     text.iter().all(|byte| *byte >= b' ')
 }
 
-/// The first text of each tag.
-#[derive(Drop)]
-pub(crate) struct Texts {
-    title: Option<Text>,
-    artist: Option<Text>,
-    album: Option<Text>,
-    date: Option<Text>,
-    genre: Option<Text>,
-    comment: Option<Text>,
-}
-
-impl Texts {
-    ghost use Rattle.wave.specs.Found.{no_texts, put, listed};
-
-    /// No text of any tag.
-    pub(crate) fn none() -> Texts
-        ensures { result ≡ no_texts }
-    {
-        Texts {
-            title: None,
-            artist: None,
-            album: None,
-            date: None,
-            genre: None,
-            comment: None,
-        }
-    }
-
-    /// These with one more, which counts only where there is none of its tag.
-    pub(crate) fn with(mut self, tag: TagName, text: Text) -> Texts
-        ensures { result ≡ put tag text self }
-    {
-        match tag {
-            TagName::Title => self.title = self.title.or(Some(text)),
-            TagName::Artist => self.artist = self.artist.or(Some(text)),
-            TagName::Album => self.album = self.album.or(Some(text)),
-            TagName::Date => self.date = self.date.or(Some(text)),
-            TagName::Genre => self.genre = self.genre.or(Some(text)),
-            TagName::Comment => self.comment = self.comment.or(Some(text)),
-        }
-        self
-    }
-
-    /// The tags of these texts, in the order of answers.
-    pub(crate) fn into_tags(self, alloc: Global) -> Result<Vec<Tag>, AllocError>
-        ensures { IfOk result (λ tags. tags.items ≡ listed self) }
-    {
-        let mut tags = Vec::new(alloc);
-        add(&mut tags, TagName::Title, self.title)?;
-        add(&mut tags, TagName::Artist, self.artist)?;
-        add(&mut tags, TagName::Album, self.album)?;
-        add(&mut tags, TagName::Date, self.date)?;
-        add(&mut tags, TagName::Genre, self.genre)?;
-        add(&mut tags, TagName::Comment, self.comment)?;
-        Ok(tags)
-    }
-}
-
-/// Appends the tag with this text, if there is one.
-fn add(tags: &mut Vec<Tag>, name: TagName, text: Option<Text>) -> Result<(), AllocError>
-    ensures { OnOk result (tags.new.items ≡ tags.old.items ++ shown (tag_with name text)) }
+/// The text of a content in the base profile, if it is not skipped.
+fn base_text(content: &[u8]) -> Option<&str>
+    ensures { MatchOption result (base_text content.now ≡ None) (λ text. base_text content.now ≡ Some text.now) }
 {
-    if let Some(text) = text {
-        tags.push(Tag::new(name, text.into_string()))?;
+    counted(up_to_zero(content))
+}
+
+/// The text that bytes spell in UTF-8, or else in Windows-1252.
+fn spelled(alloc: Global, bytes: &[u8]) -> Result<Option<Text>, AllocError>
+    ensures { IfOk result (λ text. text ≡ spelled bytes.now) }
+{
+    match str::from_utf8(bytes) {
+        Ok(text) => Ok(Some(Text::new(alloc, text)?)),
+        Err(_) => windows_1252(alloc, bytes),
     }
-    Ok(())
+}
+
+/// The text of a content in the everyday profile, if it is not skipped.
+#[tactic(auto, unfolding(crate::specs::Everyday::everyday_text))]
+fn everyday_text(alloc: Global, content: &[u8]) -> Result<Option<Text>, AllocError>
+    ensures { IfOk result (λ text. text ≡ everyday_text content.now) }
+{
+    let Some(text) = spelled(alloc, up_to_zero(content))? else {
+        return Ok(None);
+    };
+    if counted(text.as_str().as_bytes()).is_none() {
+        return Ok(None);
+    }
+    Ok(Some(text))
+}
+
+/// The text of a content, if it is not skipped.
+pub(crate) fn text_in(
+    alloc: Global,
+    content: &[u8],
+    everyday: bool,
+) -> Result<Option<Text>, AllocError>
+    ensures { IfOk result (λ text. text ≡ text_in everyday content.now) }
+{
+    if everyday {
+        return everyday_text(alloc, content);
+    }
+    match base_text(content) {
+        Some(text) => Ok(Some(Text::new(alloc, text)?)),
+        None => Ok(None),
+    }
 }

@@ -1,30 +1,31 @@
 //! The texts in the lists of a file.
-ghost use Rattle.std.specs.Prelude.{◌≡◌, ◌==◌, ◌&&◌, nat_le, codes, ◌≤◌, ◌<◌, ◌^◌, ◌+◌, List, ◌++◌, true, length, IfSome, IfOk, IfErr, OnErr};
+ghost use Rattle.std.specs.Prelude.{◌≡◌, ◌==◌, ◌&&◌, nat_le, codes, ◌≤◌, ◌<◌, ◌^◌, ◌+◌, true, length, IfSome, IfOk, IfErr, OnErr};
 ghost use Rattle.std.specs.Str.{bytes_eq};
 ghost use Rattle.counted_devices.specs.CallCounts.{NoFewer};
-ghost use Rattle.wave.specs.Chunks.{Chunk};
 ghost use Rattle.wave.specs.Texts.{is_info};
 ghost use Rattle.wave.specs.Devices.{GivesOfBytes, Ends, KeepsTo, IsOutside};
 ghost use Rattle.wave.specs.Parts.{content_of, chunk_of, chunks_within};
-ghost use Rattle.wave.specs.Found.{text_in, joined, file_texts, TakesItem};
+ghost use Rattle.wave.specs.Found.{text_in, file_texts, TakesItem, TakesItems};
 
 use crate::device::read_at;
 use crate::fault::{Unread, WaveFault};
+use crate::first_texts::Texts;
 use crate::found_chunk::{FoundChunk, chunk_at};
-use crate::tag::{MAX_TEXT, Texts, tag_of, text_in};
+use crate::tag::{MAX_TEXT, name_of, text_in};
 use counted_devices::Media;
 use mpd_text::Text;
 use std::alloc::Global;
 
-/// The first text of each tag, of all lists of a file of this many bytes.
+/// The first text of each name of items, of all lists of a file of this many bytes.
 pub(crate) fn read_texts<M: Media>(
     alloc: Global,
     media: &mut M,
     limit: u64,
     end: u64,
+    everyday: bool,
 ) -> Result<Texts, WaveFault>
     requires { IfSome (M.all_bytes media.old) (λ bytes. end ≤ length bytes) }
-    ensures value { IfSome (M.all_bytes media.old) (λ bytes. IfOk result (λ texts. texts ≡ file_texts bytes end)) }
+    ensures value { IfSome (M.all_bytes media.old) (λ bytes. IfOk result (λ texts. texts ≡ file_texts everyday bytes end)) }
     ensures fault { IfErr result (IsOutside limit (M.call_counts media.old) (M.call_counts media.new)) }
     ensures stays { M.all_bytes media.new ≡ M.all_bytes media.old }
     ensures keeps { KeepsTo limit (M.call_counts media.old) (M.call_counts media.new) }
@@ -34,7 +35,7 @@ pub(crate) fn read_texts<M: Media>(
     let mut at = 12;
     while let Some(part) = chunk_at(media, limit, at, end)? {
         if is_list(media, limit, part)? {
-            texts = read_list(alloc, media, limit, part, texts)?;
+            texts = read_list(alloc, media, limit, part, texts, everyday)?;
         }
         at = part.next;
     }
@@ -73,12 +74,13 @@ fn read_list<M: Media>(
     limit: u64,
     list: FoundChunk,
     mut texts: Texts,
+    everyday: bool,
 ) -> Result<Texts, WaveFault>
     requires long { 4 ≤ list.len }
     requires within { IfSome (M.all_bytes media.old) (λ bytes. list.place + list.len ≤ length bytes) }
     requires fits { list.place + list.len < 2 ^ 64 }
-    ensures value { IfSome (M.all_bytes media.old) (λ bytes. IfOk result (λ next. (more : List Chunk) →
-        joined next more ≡ joined texts (chunks_within bytes (list.place + 4) (list.place + list.len) ++ more))) }
+    ensures value { IfSome (M.all_bytes media.old) (λ bytes. IfOk result
+        (TakesItems everyday texts (chunks_within bytes (list.place + 4) (list.place + list.len)))) }
     ensures fault { IfErr result (IsOutside limit (M.call_counts media.old) (M.call_counts media.new)) }
     ensures stays { M.all_bytes media.new ≡ M.all_bytes media.old }
     ensures keeps { KeepsTo limit (M.call_counts media.old) (M.call_counts media.new) }
@@ -87,7 +89,7 @@ fn read_list<M: Media>(
     let end = list.place + list.len;
     let mut at = list.place + 4;
     while let Some(item) = chunk_at(media, limit, at, end)? {
-        texts = take_item(alloc, media, limit, item, texts)?;
+        texts = take_item(alloc, media, limit, item, texts, everyday)?;
         at = item.next;
     }
     Ok(texts)
@@ -100,22 +102,23 @@ fn take_item<M: Media>(
     limit: u64,
     item: FoundChunk,
     texts: Texts,
+    everyday: bool,
 ) -> Result<Texts, WaveFault>
     requires { IfSome (M.all_bytes media.old) (λ bytes. length (content_of bytes item) ≡ item.len) }
-    ensures value { IfSome (M.all_bytes media.old) (λ bytes. IfOk result (TakesItem texts (chunk_of bytes item))) }
+    ensures value { IfSome (M.all_bytes media.old) (λ bytes. IfOk result (TakesItem everyday texts (chunk_of bytes item))) }
     ensures fault { IfErr result (IsOutside limit (M.call_counts media.old) (M.call_counts media.new)) }
     ensures stays { M.all_bytes media.new ≡ M.all_bytes media.old }
     ensures keeps { KeepsTo limit (M.call_counts media.old) (M.call_counts media.new) }
     ensures calm { NoFewer (M.call_counts media.old) (M.call_counts media.new) }
 {
-    let Some(tag) = tag_of(item.name) else {
+    let Some(name) = name_of(item.name) else {
         return Ok(texts);
     };
     if !item.is_whole() {
         return Ok(texts);
     }
-    match text_at(alloc, media, limit, item)? {
-        Some(text) => Ok(texts.with(tag, text)),
+    match text_at(alloc, media, limit, item, everyday)? {
+        Some(text) => Ok(texts.with(name, text)),
         None => Ok(texts),
     }
 }
@@ -126,8 +129,9 @@ fn text_at<M: Media>(
     media: &mut M,
     limit: u64,
     item: FoundChunk,
+    everyday: bool,
 ) -> Result<Option<Text>, WaveFault>
-    ensures value { GivesOfBytes (M.all_bytes media.old) (λ bytes. text_in (content_of bytes item)) result }
+    ensures value { GivesOfBytes (M.all_bytes media.old) (λ bytes. text_in everyday (content_of bytes item)) result }
     ensures fault { IfErr result (IsOutside limit (M.call_counts media.old) (M.call_counts media.new)) }
     ensures stays { M.all_bytes media.new ≡ M.all_bytes media.old }
     ensures keeps { KeepsTo limit (M.call_counts media.old) (M.call_counts media.new) }
@@ -135,8 +139,5 @@ fn text_at<M: Media>(
 {
     let mut content = [0u8; MAX_TEXT + 1];
     let n = read_at(media, limit, item.place, &mut content)?;
-    match text_in(&content[..n.min(item.len as usize)]) {
-        Some(text) => Ok(Some(Text::new(alloc, text)?)),
-        None => Ok(None),
-    }
+    Ok(text_in(alloc, &content[..n.min(item.len as usize)], everyday)?)
 }

@@ -4,7 +4,8 @@ ghost use Rattle.std.specs.String.{string_bytes};
 
 use std::marker::Model;
 
-/// The tags that a song may have, in the order in which answers show them (MPD protocol reference, Tags).
+/// The tags that a song may have, in the order in which answers show them (MPD protocol reference, Tags). The
+/// base profile has the first six alone.
 #[derive(Clone, Copy, Debug, PartialEq, Eq)]
 pub enum TagName {
     /// Shown as `Title`.
@@ -19,6 +20,14 @@ pub enum TagName {
     Genre,
     /// Shown as `Comment`.
     Comment,
+    /// Shown as `AlbumArtist`.
+    AlbumArtist,
+    /// Shown as `Track`.
+    Track,
+    /// Shown as `Disc`.
+    Disc,
+    /// Shown as `Composer`.
+    Composer,
 }
 
 /// A tag with its text. A clause sees the pair of them.

@@ -25,8 +25,16 @@ unreachable-requires-in_default-get_str c =
 pub returns : goal.returns
 returns c name is =
     let one = c.get_one.ensures.value (without_minus c.requires.text) (one_text-rows (found_of c.args.matches.now) (codes "rate") ∙ c.requires.rate) in
-    let read = is_read _ (λ bs r. ParsesUnsigned 32 10 bs r × ExplainsUnsignedError 10 bs r × HasUnsignedDigitsIfOk bs r) (λ u x g. g.0) c.requires.text c.get_one.result one c.requires.range in (
-      is,
-      rate_said c.requires.text c.get_one.result c.new.result c.in-Some.frames c.in-Some-new.rate _ read c.in-Some.is c.new.ensures c.in-Some-new.is c.requires.rate,
-      sym (first_value-rows (found_of c.args.matches.now) (codes "folder")) ∙ sym c.get_str.ensures ∙ ap (option_map (λ s. s.now)) c.in-Some-get_str.is,
+    let read = is_read _ (λ bs r. ParsesUnsigned 32 10 bs r × ExplainsUnsignedError 10 bs r × HasUnsignedDigitsIfOk bs r) (λ u x g. g.0) c.requires.text c.get_one.result one c.requires.range in
+    let flag = one_text-rows (found_of c.args.matches.now) (codes "everyday") in (
+      (
+        is,
+        rate_said c.requires.text c.get_one.result c.new.result c.in-Some.frames c.in-Some-new.rate _ read c.in-Some.is c.new.ensures c.in-Some-new.is c.requires.rate,
+        sym (first_value-rows (found_of c.args.matches.now) (codes "folder")) ∙ sym c.get_str.ensures ∙ ap (option_map (λ s. s.now)) c.in-Some-get_str.is,
+      ),
+      record {
+        none = λ e. c.get_flag.ensures.none (flag ∙ e);
+        set = λ e. c.get_flag.ensures.value (flag ∙ e);
+        left_out = λ e. c.get_flag.ensures.other (flag ∙ e);
+      },
     )

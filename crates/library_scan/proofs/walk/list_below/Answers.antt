@@ -6,7 +6,7 @@ use Rattle.library_scan.proofs.walk.list_below.Goals as goal
 
 pub returns-in_err-_is_listed-clause-over : goal.returns-in_err-_is_listed-clause-over
 returns-in_err-_is_listed-clause-over g c = λ tree known fault root.
-    too_large tree c.args.rate.now c.loop-uri.at c.as_str.result.now c.loop-uri.found (c.loop-uri.invariant.holds tree known root) (search rules)
+    too_large tree c.args.everyday c.args.rate.now c.loop-uri.at c.as_str.result.now c.loop-uri.found (c.loop-uri.invariant.holds tree known root) (search rules)
     (c.in_err-_is_listed.ensures.over tree (c.loop-uri.invariant.stays ∙ known) (search rules))
 
 pub overflow_add-at : goal.overflow_add-at
@@ -18,7 +18,7 @@ pub loop-uri-preserved : goal.loop-uri-preserved
 loop-uri-preserved g c = record {
   stays = c.list.ensures.stays ∙ c.loop-uri.invariant.stays;
   holds = λ tree known root.
-      listed tree c.args.rate.now c.loop-uri.at c.as_str.result.now c.loop-uri.found c.list.new.found (c.loop-uri.invariant.holds tree known root) (search rules)
+      listed tree c.args.everyday c.args.rate.now c.loop-uri.at c.as_str.result.now c.loop-uri.found c.list.new.found (c.loop-uri.invariant.holds tree known root) (search rules)
       (c.in_ok-_is_listed.ensures.adds tree (c.loop-uri.invariant.stays ∙ known));
   calm = fewer_on _ _ _ c.loop-uri.invariant.calm c.list.ensures.calm;
   unread = each_on _ _ _ _ _ _ c.loop-uri.invariant.calm c.list.ensures.calm c.loop-uri.invariant.unread c.in_ok-_is_listed.ensures.unread;
@@ -27,7 +27,7 @@ loop-uri-preserved g c = record {
 pub loop-uri-init : goal.loop-uri-init
 loop-uri-init g c = record {
   stays = search rules;
-  holds = λ tree known root. first_listed tree c.args.rate.now c.args.found.now root;
+  holds = λ tree known root. first_listed tree c.args.everyday c.args.rate.now c.args.found.now root;
   calm = search (rules, arith);
   unread = inl (omega arith);
 }

@@ -9,14 +9,14 @@ use Rattle.library_scan.proofs.walk.list_open.Goals as goal
 pub loop-entry-init : goal.loop-entry-init
 loop-entry-init g c = record {
   stays = search rules;
-  goes = λ tree known. begun tree c.args.rate.now c.args.uri.now _ _;
+  goes = λ tree known. begun tree c.args.everyday c.args.rate.now c.args.uri.now _ _;
   calm = search (rules, arith);
   unread = inl (omega arith);
 }
 
 pub returns-in_default-clause-adds : goal.returns-in_default-clause-adds
 returns-in_default-clause-adds g c = λ tree known.
-    ended tree c.args.rate.now c.args.uri.now (g.D.Disk.left c.loop-entry.disk) (g.D.Disk.left c.args.disk.now) c.args.found.now c.loop-entry.found (c.loop-entry.invariant.goes tree known)
+    ended tree c.args.everyday c.args.rate.now c.args.uri.now (g.D.Disk.left c.loop-entry.disk) (g.D.Disk.left c.args.disk.now) c.args.found.now c.loop-entry.found (c.loop-entry.invariant.goes tree known)
     (told_nothing _ (g.D.Disk.left c.next_entry.new.self) c.in_ok-entry.field-0 (c.in_ok-entry.ensures.tells tree (c.loop-entry.invariant.stays ∙ known)) c.in_default.is)
 
 pub returns-in_default-clause-unread : goal.returns-in_default-clause-unread
@@ -28,8 +28,8 @@ pub loop-entry-preserved-in-Name : goal.loop-entry-preserved-in-Name
 loop-entry-preserved-in-Name g c = record {
   stays = c.look_at.ensures.stays ∙ c.next_entry.ensures.stays ∙ c.loop-entry.invariant.stays;
   goes = λ tree known.
-      subst (λ left. Goes tree c.args.rate.now c.args.uri.now left (g.D.Disk.left c.args.disk.now) c.args.found.now c.look_at.new.found) (sym c.look_at.ensures.left)
-      (named tree c.args.rate.now c.args.uri.now (g.D.Disk.left c.loop-entry.disk) (g.D.Disk.left c.args.disk.now) (g.D.Disk.left c.next_entry.new.self) c.args.found.now c.loop-entry.found c.count_name.new.self c.look_at.new.found
+      subst (λ left. Goes tree c.args.everyday c.args.rate.now c.args.uri.now left (g.D.Disk.left c.args.disk.now) c.args.found.now c.look_at.new.found) (sym c.look_at.ensures.left)
+      (named tree c.args.everyday c.args.rate.now c.args.uri.now (g.D.Disk.left c.loop-entry.disk) (g.D.Disk.left c.args.disk.now) (g.D.Disk.left c.next_entry.new.self) c.args.found.now c.loop-entry.found c.count_name.new.self c.look_at.new.found
       (c.loop-entry.invariant.goes tree known)
       (record { songs = c.count_name.ensures.songs; refused = c.count_name.ensures.refused; folders = c.count_name.ensures.folders; names = c.in_ok-count_name.ensures.counts })
       c.as_str.result.now
@@ -47,7 +47,7 @@ pub loop-entry-preserved : goal.loop-entry-preserved
 loop-entry-preserved g c = record {
   stays = c.next_entry.ensures.stays ∙ c.loop-entry.invariant.stays;
   goes = λ tree known.
-      passed tree c.args.rate.now c.args.uri.now (g.D.Disk.left c.loop-entry.disk) (g.D.Disk.left c.args.disk.now) (g.D.Disk.left c.next_entry.new.self) c.args.found.now c.loop-entry.found c.count_name.new.self c.count_name.new.self
+      passed tree c.args.everyday c.args.rate.now c.args.uri.now (g.D.Disk.left c.loop-entry.disk) (g.D.Disk.left c.args.disk.now) (g.D.Disk.left c.next_entry.new.self) c.args.found.now c.loop-entry.found c.count_name.new.self c.count_name.new.self
       (c.loop-entry.invariant.goes tree known)
       (record { songs = c.count_name.ensures.songs; refused = c.count_name.ensures.refused; folders = c.count_name.ensures.folders; names = c.in_ok-count_name.ensures.counts })
       (told _ _ _ c.in_ok-entry.field-0 (c.in_ok-entry.ensures.tells tree (c.loop-entry.invariant.stays ∙ known)) (c.in-Some.is ∙ ap Some c.in-NotText.is));
@@ -59,7 +59,7 @@ loop-entry-preserved g c = record {
 
 pub returns-in-Broken-clause-adds : goal.returns-in-Broken-clause-adds
 returns-in-Broken-clause-adds g c = λ tree known.
-    broken tree c.args.rate.now c.args.uri.now (g.D.Disk.left c.loop-entry.disk) (g.D.Disk.left c.args.disk.now) (g.D.Disk.left c.next_entry.new.self) c.args.found.now c.loop-entry.found c.count_name.new.self c.count_name.new.self
+    broken tree c.args.everyday c.args.rate.now c.args.uri.now (g.D.Disk.left c.loop-entry.disk) (g.D.Disk.left c.args.disk.now) (g.D.Disk.left c.next_entry.new.self) c.args.found.now c.loop-entry.found c.count_name.new.self c.count_name.new.self
     (c.loop-entry.invariant.goes tree known)
     (record { songs = c.count_name.ensures.songs; refused = c.count_name.ensures.refused; folders = c.count_name.ensures.folders; names = c.in_ok-count_name.ensures.counts })
     (told _ _ _ c.in_ok-entry.field-0 (c.in_ok-entry.ensures.tells tree (c.loop-entry.invariant.stays ∙ known)) (c.in-Some.is ∙ ap Some c.in-Broken.is))

@@ -9,6 +9,6 @@ pub returns : goal.returns
 returns c =
     IfOk-weaker c.count_ordered.result _ _ (λ found e.
     e ∙ ap (λ (songs : List (Bor SongData)). groups c.args.column c.args.rate.now (map (λ s. s.now) songs)) c.deref.ensures.value
-    ∙ same_groups c.args.column c.args.rate.now _ _ c.in_ok-order.ensures.order
+    ∙ same_groups c.args.column c.args.rate.now _ _ c.in_ok-order_by_text.ensures.order
     ∙ ap (λ (songs : List (Bor SongData)). groups c.args.column c.args.rate.now (map (λ s. s.now) songs)) c.in_ok-ordered.ensures.items)
     c.count_ordered.ensures

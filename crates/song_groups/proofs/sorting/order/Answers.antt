@@ -1,15 +1,16 @@
 use Rattle.std.proofs.Common.{rules}
-use Rattle.std.proofs.lemmas.Fn.{always_returns_same}
 use Rattle.std.proofs.lemmas.Result.{on_ok_weaker}
-use Rattle.song_groups.proofs.Orders.{before, weak, stable_from, one_order}
+use Rattle.song_groups.proofs.Orders.{by_numbers, by_texts, one_order}
 use Rattle.song_groups.proofs.sorting.order.Goals as goal
 
-pub returns-clause-order : goal.returns-clause-order
-returns-clause-order c =
-    on_ok_weaker c.sort_by.result (λ sorted. stable_from c.args.by c.args.falling _ _ c.sort_by.ensures.permutation
-    (sorted (before c.args.by c.args.falling) (weak c.args.by c.args.falling) (always_returns_same _ _ _ (λ a r f called. search rules)))
-    (c.sort_by.ensures.stable (before c.args.by c.args.falling) (weak c.args.by c.args.falling) (always_returns_same _ _ _ (λ a r f called. search rules))))
-    c.sort_by.ensures.sorted
+pub returns-then-goes_by_number-clause-order : goal.returns-then-goes_by_number-clause-order
+returns-then-goes_by_number-clause-order c = on_ok_weaker c.order_by_number.result (by_numbers c.args.by c.args.falling _ _ (search rules)) c.order_by_number.ensures.order
 
-pub returns-clause-ok : goal.returns-clause-ok
-returns-clause-ok c = on_ok_weaker c.sort_by.result (λ r. one_order c.args.by c.args.falling _ _ r) (returns-clause-order c)
+pub returns-then-goes_by_number-clause-ok : goal.returns-then-goes_by_number-clause-ok
+returns-then-goes_by_number-clause-ok c = on_ok_weaker c.order_by_number.result (λ r. one_order c.args.by c.args.falling _ _ r) (returns-then-goes_by_number-clause-order c)
+
+pub returns-else-goes_by_number-clause-order : goal.returns-else-goes_by_number-clause-order
+returns-else-goes_by_number-clause-order c = on_ok_weaker c.order_by_text.result (by_texts c.args.by c.args.falling _ _ (search rules)) c.order_by_text.ensures.order
+
+pub returns-else-goes_by_number-clause-ok : goal.returns-else-goes_by_number-clause-ok
+returns-else-goes_by_number-clause-ok c = on_ok_weaker c.order_by_text.result (λ r. one_order c.args.by c.args.falling _ _ r) (returns-else-goes_by_number-clause-order c)

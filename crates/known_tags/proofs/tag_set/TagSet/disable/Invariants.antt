@@ -7,6 +7,6 @@ use Rattle.known_tags.proofs.tag_set.TagSet.disable.Given as goal
 abbrev pub invariant-loop-tag : goal.invariant-loop-tag
 invariant-loop-tag l =
     record {
-      small : l.bits < 64;
+      small : l.bits < 1024;
       rest : disabled (drop l.tag-index l.named) (members l.bits) ≡ disabled l.named (members l.initial.bits);
     }

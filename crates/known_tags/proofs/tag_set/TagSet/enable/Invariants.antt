@@ -7,6 +7,6 @@ use Rattle.known_tags.proofs.tag_set.TagSet.enable.Given as goal
 abbrev pub invariant-loop-tag : goal.invariant-loop-tag
 invariant-loop-tag l =
     record {
-      small : l.bits < 64;
+      small : l.bits < 1024;
       rest : enabled (drop l.tag-index l.named) (members l.bits) ≡ enabled l.named (members l.initial.bits);
     }

@@ -1,6 +1,6 @@
 use Rattle.std.proofs.Common.{◌∙◌, sym, ap}
 use Rattle.known_tags.specs.Sets.{is_all}
-use Rattle.known_tags.proofs.SixTags.{all-set, is_all-whole}
+use Rattle.known_tags.proofs.TenTags.{all-set, is_all-whole}
 use Rattle.known_tags.proofs.tag_set.TagSet.is_all.Goals as goal
 
 pub returns-clause-value : goal.returns-clause-value

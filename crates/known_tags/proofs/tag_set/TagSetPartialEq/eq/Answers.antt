@@ -1,5 +1,5 @@
 use Rattle.std.proofs.Common.{rules}
-use Rattle.known_tags.proofs.SixTags.{same-bits}
+use Rattle.known_tags.proofs.TenTags.{same-bits}
 use Rattle.known_tags.proofs.tag_set.TagSetPartialEq.eq.Goals as goal
 
 pub returns : goal.returns

@@ -1,7 +1,0 @@
-use Rattle.std.proofs.Common.{◌≡◌, drop}
-use Rattle.filters.specs.Truth.{text_of_tag}
-use Rattle.song_search.proofs.search.text_of_tag.Given as goal
-
--- no tag so far has the name
-abbrev pub invariant-loop-tag : goal.invariant-loop-tag
-invariant-loop-tag l = text_of_tag l.name (drop l.tag-index l.tags) ≡ text_of_tag l.name l.tags
