@@ -137,6 +137,7 @@ THEOREMS = [
     ('song_groups', 'order', 'order', 'song_groups/Order', 'IsStablyOrdered', 'song_groups: one_order'),
     ('library_scan', 'scan_disk', 'scan', 'library_scan/Trees', 'IsScanOf', ''),
     ('wave', 'read_head', 'value', 'wave/Waves', 'wave_of', 'wave: chunks_are_those_of_the_bytes'),
+    ('id3_tags', 'texts_of', '', 'id3_tags/Texts', 'id3_texts', 'id3_tags: frames_are_those_of_the_bytes'),
     ('pcm_mix', 'mix', '', 'pcm_mix/Blocks', 'block_of', ''),
     ('shelf_database', 'SqlShelf::over', 'opened', 'shelf_database/Opens', 'Opens', ''),
     ('settings', 'settings', 'taken', 'settings/Values', 'Says', 'settings: one_cause'),

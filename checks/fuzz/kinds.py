@@ -10,13 +10,16 @@ import time
 HERE = os.path.dirname(os.path.abspath(__file__))
 CHECKS = os.path.dirname(HERE)
 sys.path.insert(0, CHECKS)
+sys.path.append(os.path.join(CHECKS, 'model'))
 
 import rows
 from answers import REFUSAL, REMARK, Fault, check_answer_line, check_step_line, shapes_of
+from wave_tags import tags_of
 
 MARK = '9 ACK [5@0] {} unknown command "mark"'
 LIBRARY = ['! limit everyday 1', '! song a.wav 8000 Title=One Artist=Ann Date=2001', '! song b/c.wav 4000 "Title=It\'s \\"so\\"" Artist=Zo\u00eb',
-           '! song b/d.wav 12345 Artist=ann Album=First Genre=Folk', '! song e/f/g.wav 8 Title=One Comment=x']
+           '! song b/d.wav 12345 Artist=ann Album=First Genre=Folk Track=10/12 Disc=2 AlbumArtist=Various', '! song e/f/g.wav 8 Title=One Comment=x',
+           '! song e/h.wav 4000 Album=First Track=9 Composer=Eve']
 
 
 class Ended:
@@ -182,8 +185,9 @@ class Settings(Kind):
 
 
 class Wave(Kind):
-    """WAVE files, many in one folder, read by `scan`."""
+    """WAVE files, many in one folder, read by `scan`. It must show the tags that the model (checks/model) reads in them."""
     name, at_once, is_text, most_bytes = 'wave', 200, False, 4096
+    options, is_everyday = ['--rate', '8000'], False
     words = [b'RIFF', b'RIFX', b'RF64', b'WAVE', b'fmt ', b'data', b'LIST', b'INFO', b'INAM', b'IART', b'IPRD', b'ICRD', b'IGNR', b'ICMT', b'ITRK',
              b'id3 ', b'ID3', b'fact', b'ds64', b'JUNK', b'bext', b'wavl', b'slnt', b'\x01\0\x01\0', b'\x01\0\x02\0', b'\xfe\xff\x02\0',
              bytes.fromhex('0100000000001000800000aa00389b71')]
@@ -201,7 +205,7 @@ class Wave(Kind):
         for name, data in zip(names, inputs):
             write(os.path.join(songs, name), data)
         try:
-            ended = program.run(['scan', '--rate', '8000', 'songs'], folder)
+            ended = program.run(['scan', *self.options, 'songs'], folder)
         finally:
             shutil.rmtree(songs)
         found = self.found_in(ended)
@@ -209,6 +213,7 @@ class Wave(Kind):
             raise Fault('a file that is not there', repr(sorted(set(found) - set(names))[:3]))
         for name, data in zip(names, inputs):
             self.check_length(found.get(name, []), len(data))
+            self.check_tags(found.get(name, []), data)
         return [shapes_of(found.get(name, [])) | {self.size_of(found.get(name, []))} for name in names]
 
     def found_in(self, ended):
@@ -233,9 +238,39 @@ class Wave(Kind):
             if line.startswith('duration: ') and float(line.partition(': ')[2]) > size / 8000 + 0.001:
                 raise Fault('a song that is longer than its file', '%s of %d bytes' % (line, size))
 
+    def check_tags(self, lines, data):
+        """Checks the tags that are shown of a song: the lines between its name and its length."""
+        wanted = ['%s: %s' % pair for pair in tags_of(data, self.is_everyday).items()]
+        if len(lines) > 1 and lines[1:-2] != wanted:
+            raise Fault('other tags than the model reads', '%r, and not %r' % (lines[1:-2], wanted))
+
     def size_of(self, lines):
         """How long a song is, roughly."""
         return next(('length', int(8000 * float(line[10:])).bit_length()) for line in [*lines, 'duration: 0'] if line.startswith('duration: '))
+
+
+class Id3(Wave):
+    """WAVE files with an ID3v2 tag, read by `scan --everyday`."""
+    name, most_bytes = 'id3', 10000
+    options, is_everyday = ['--everyday', '--rate', '8000'], True
+    words = [*Wave.words, b'ID3 ', b'ID3\2\0\0', b'ID3\3\0\0', b'ID3\4\0\0', b'ID3\4\0\x80', b'ID3\4\0\x40', b'TT2', b'TP1', b'COM', b'TYE', b'TRK',
+             b'TIT2', b'TPE1', b'TALB', b'TPE2', b'TRCK', b'TPOS', b'TDRC', b'TYER', b'TCON', b'TCOM', b'COMM', b'APIC', b'TXXX', b'ITRK', b'IPRT',
+             b'IMUS', b'\0\0\0\1\0\0', b'\0\0\0\4\0\0\0abc', b'\0\0\0\2\0\1', b'\0\2', b'\0\3', b'\0\x40', b'\0\x80', b'\0\x0c', b'\x01\xff\xfe',
+             b'\x01\xfe\xff', b'\xff\0', b'\0\0\0', b'\xff\xfe\0\0\xff\xfe', b'\0\0\xfe\xff', b'\xd8\x34\xdd\x1e', b'\x34\xd8\x1e\xdd', b'\xdc\0',
+             b'\x03\xef\xbb\xbf', b'\x93\x94', b'\x81', b'A' * 1025]
+
+    def mend(self, draw, data):
+        """Often gives the last chunk, which is the tag, its right length, often in a file that is right otherwise; and sometimes the tag its
+        right size."""
+        begin, how = max(data.rfind(b'id3 '), data.rfind(b'ID3 ')), draw.randrange(4)
+        if begin < 12 or how == 0:
+            return super().mend(draw, data)
+        tag = data[begin + 8:]
+        if tag[:3] == b'ID3' and len(tag) >= 10 and draw.randrange(2):
+            tag = tag[:6] + bytes(len(tag) - 10 >> shift & 0x7f for shift in (21, 14, 7, 0)) + tag[10:]
+        chunk = data[begin:begin + 4] + len(tag).to_bytes(4, 'little') + tag + bytes(len(tag) % 2)
+        front = data[12:begin] if how == 1 else wave(b'\x80' * 40)[12:]
+        return b'RIFF\xff\xff\xff\xffWAVE' + (chunk + front if how == 2 else front + chunk)
 
 
 class Lines(Kind):

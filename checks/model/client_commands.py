@@ -2,7 +2,7 @@
 import re
 
 from commands import command, names
-from library import TAGS
+from library import EVERYDAY_TAGS
 from words import ARGUMENT, EXISTS, NOT_THERE, SYSTEM, Ack, bad_argument, bad_name, text
 from world import SUBSYSTEMS, Partition
 
@@ -35,7 +35,7 @@ def notcommands(speaker):
 
 @command('tagtypes')
 def tagtypes(speaker):
-    return ['tagtype: ' + tag for tag in TAGS if tag in speaker.client.tags]
+    return ['tagtype: ' + tag for tag in EVERYDAY_TAGS if tag in speaker.client.tags]
 
 
 def subsystem_names(known):

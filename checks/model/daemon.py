@@ -9,7 +9,7 @@ import queue_commands
 import shelf_commands
 from client_commands import Close
 from commands import Speaker, typed
-from library import TAGS
+from library import tags_of_songs
 from player import LimitReached
 from words import ARGUMENT, SYSTEM, Ack, NoCommand, words_of
 from world import GREATEST, SUBSYSTEMS, Client, World
@@ -94,7 +94,7 @@ class Daemon:
 
     def connect(self, number):
         def act(world):
-            world.clients[number] = Client(number, TAGS)
+            world.clients[number] = Client(number, tags_of_songs(world.everyday))
         return self.event(act)
 
     def disconnect(self, number):

@@ -2,7 +2,7 @@
 from client_commands import idle, subsystem_names, tagtypes
 from commands import WrongNumber, everyday
 from filters import found, is_filter
-from library import KNOWN_TAGS, RATE, TAGS, playtime, tag_named
+from library import EVERYDAY_TAGS, KNOWN_TAGS, RATE, playtime, tag_named
 from library_commands import (count_lines, cut, filter_words, folder_named, listall, lsinfo, meeting,
                               one_tag, song_lines)
 from playback_commands import play, playid
@@ -51,7 +51,7 @@ class Selection:
     def songs(self, speaker, blind):
         songs = meeting(speaker, self.words, blind)
         if self.tag is not None:
-            songs.sort(key=lambda song: song.text(self.tag), reverse=self.falling)
+            songs.sort(key=lambda song: song.key(self.tag), reverse=self.falling)
         return cut(songs, self.part)
 
 
@@ -245,9 +245,9 @@ def tagtypes_words(arguments):
 def choose_tags(speaker, action=None, chosen=()):
     if action is None:
         return tagtypes(speaker)
-    chosen = set(chosen) & set(TAGS)
+    chosen, every = set(chosen) & set(EVERYDAY_TAGS), set(EVERYDAY_TAGS)
     shown = speaker.client.tags
-    speaker.client.tags = {'clear': set(), 'all': set(TAGS), 'enable': shown | chosen, 'disable': shown - chosen}[action]
+    speaker.client.tags = {'clear': set(), 'all': every, 'enable': shown | chosen, 'disable': shown - chosen}[action]
     return []
 
 

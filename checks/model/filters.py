@@ -1,7 +1,7 @@
 """Filters: how they are read, at which byte a bad one goes wrong, and which songs they accept."""
 import re
 
-from library import KNOWN_TAGS, TAGS, ascii_lower, lies_under, tag_named
+from library import KNOWN_TAGS, TAGS, ascii_lower, lies_under, tag_named, tags_of_songs
 from words import ARGUMENT, Ack
 
 DEEPEST = 32
@@ -22,14 +22,14 @@ def texts_named(word, everyday):
 
 
 class Comparison:
-    """A text of the song has this relation to the given text; with the type `any`, at least one tag has it."""
+    """A text of the song has this relation to the given text; with the type `any`, at least one of these tags has it."""
 
-    def __init__(self, kind, relation, text):
-        self.kind, self.relation, self.text = kind, relation, text
+    def __init__(self, kind, relation, text, any_of):
+        self.kind, self.relation, self.text, self.any_of = kind, relation, text, any_of
 
     def holds(self, song, fold):
         if self.relation == '!=':
-            return not Comparison(self.kind, '==', self.text).holds(song, fold)
+            return not Comparison(self.kind, '==', self.text, self.any_of).holds(song, fold)
         wanted = fold(self.text)
         if self.relation == '==':
             return any(fold(text) == wanted for text in self.texts(song))
@@ -38,7 +38,7 @@ class Comparison:
     def texts(self, song):
         if self.kind == 'file':
             return [song.uri]
-        return [song.text(tag) for tag in (TAGS if self.kind == 'any' else [self.kind])]
+        return [song.text(tag) for tag in (self.any_of if self.kind == 'any' else [self.kind])]
 
 
 class Base:
@@ -71,7 +71,7 @@ class Reader:
     """Reads a filter from left to right. It reports the first character with which no filter could go on."""
 
     def __init__(self, text, everyday):
-        self.text, self.everyday = text, everyday
+        self.text, self.everyday, self.any_of = text, everyday, tags_of_songs(everyday)
         self.at = self.depth = 0
 
     def fault(self):
@@ -149,11 +149,11 @@ class Reader:
         if apart and self.next() == 'c':
             self.take('contains')
             self.some_spaces()
-            return Comparison(kind, 'contains', self.string())
+            return Comparison(kind, 'contains', self.string(), self.any_of)
         relation = '!=' if self.next() == '!' else '=='
         self.take(relation)
         self.spaces()
-        return Comparison(kind, relation, self.string())
+        return Comparison(kind, relation, self.string(), self.any_of)
 
     def string(self):
         """Reads a text in either kind of quotes; after a backslash any character stands for itself."""
@@ -182,7 +182,7 @@ def filter_of(words, everyday, relation):
         kind = texts_named(word, everyday)
         if kind is None:
             raise unknown_tag(word)
-        members.append(Base(text) if kind == 'base' else Comparison(kind, relation, text))
+        members.append(Base(text) if kind == 'base' else Comparison(kind, relation, text, tags_of_songs(everyday)))
     return All(members)
 
 

@@ -247,6 +247,8 @@ TOPICS = {
     'selections': ("""
         """, """
         4 find|search FILTER SORT? WINDOW?
+        2 find|search ALL_SONGS SORT WINDOW?
+        findadd ALL_SONGS SORT WINDOW? AT?
         4 findadd|searchadd FILTER SORT? WINDOW? AT?
         3 playlistfind|playlistsearch FILTER
         2 searchaddpl LIST FILTER SORT? WINDOW?

@@ -1,16 +1,29 @@
 """Songs, the folders that they are in, and the lines that show a song."""
+import re
 from dataclasses import dataclass
 
 RATE = 8000
+# The tags of songs without the everyday profile, and with it.
 TAGS = ('Title', 'Artist', 'Album', 'Date', 'Genre', 'Comment')
+EVERYDAY_TAGS = TAGS + ('AlbumArtist', 'Track', 'Disc', 'Composer')
 LONGEST_TEXT = 1024
 
-# The tags that the reference names; songs have texts only for those in TAGS.
+# The tags that the reference names; songs have texts only for those in EVERYDAY_TAGS.
 KNOWN_TAGS = ('Artist', 'ArtistSort', 'Album', 'AlbumSort', 'AlbumArtist', 'AlbumArtistSort', 'Title', 'Track', 'Name', 'Genre', 'Date',
               'OriginalDate', 'Composer', 'ComposerSort', 'Performer', 'Conductor', 'Work', 'Ensemble', 'Movement', 'MovementNumber',
               'Location', 'Grouping', 'Comment', 'Disc', 'Label', 'MUSICBRAINZ_ARTISTID', 'MUSICBRAINZ_ALBUMID',
               'MUSICBRAINZ_ALBUMARTISTID', 'MUSICBRAINZ_TRACKID', 'MUSICBRAINZ_RELEASETRACKID', 'MUSICBRAINZ_WORKID')
-READ_AS = {'ArtistSort': 'Artist', 'AlbumArtist': 'Artist', 'AlbumArtistSort': 'Artist', 'AlbumSort': 'Album'}
+READ_AS = {'ArtistSort': 'Artist', 'AlbumArtistSort': 'AlbumArtist', 'AlbumSort': 'Album'}
+# The tag that is read where a song does not have the first.
+FALLS_BACK = {'AlbumArtist': 'Artist'}
+# The tags that are sorted by the number at the beginning of their texts, and the greatest such number.
+BY_NUMBER = ('Track', 'Disc')
+GREATEST_IN_TEXT = 4294967295
+
+
+def tags_of_songs(everyday):
+    """The tags that songs have in this profile, in the order in which they are shown."""
+    return EVERYDAY_TAGS if everyday else TAGS
 
 
 def ascii_lower(word):
@@ -32,6 +45,11 @@ def tag_text(value):
     if not value or len(value.encode()) > LONGEST_TEXT or any(it < ' ' for it in value):
         return None
     return value
+
+
+def leading_number(text):
+    """The number that the first ASCII digits of a text are, or the greatest if it is above that; 0 if the text begins with none."""
+    return min(int(re.match('[0-9]*', text)[0] or '0'), GREATEST_IN_TEXT)
 
 
 def seconds(milliseconds):
@@ -58,12 +76,18 @@ class Song:
         return milliseconds_of(self.frames)
 
     def text(self, tag):
-        """The text of a known tag, which is empty if the song has none."""
-        return dict(self.tags).get(READ_AS.get(tag, tag), '')
+        """The text by which a song is found and sorted for a known tag; it is empty if the song has none."""
+        own, tag = dict(self.tags), READ_AS.get(tag, tag)
+        return own.get(tag) or own.get(FALLS_BACK.get(tag), '')
 
-    def lines(self, shown=TAGS):
-        """The lines that show the song, with only those of its tags that are in `shown`."""
-        tags = ['%s: %s' % (tag, self.text(tag)) for tag in TAGS if tag in shown and self.text(tag)]
+    def key(self, tag):
+        """What the song is sorted by for a known tag: the number with which the text begins, or the text itself."""
+        return leading_number(self.text(tag)) if tag in BY_NUMBER else self.text(tag)
+
+    def lines(self, shown=EVERYDAY_TAGS):
+        """The lines that show the song, with only those of its own tags that are in `shown`."""
+        own = dict(self.tags)
+        tags = ['%s: %s' % (tag, own[tag]) for tag in EVERYDAY_TAGS if tag in shown and tag in own]
         return ['file: ' + self.uri, *tags, 'Time: %d' % whole_seconds(self.milliseconds), 'duration: ' + seconds(self.milliseconds)]
 
 

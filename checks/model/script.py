@@ -1,6 +1,6 @@
 """A script: lines of clients, each with the client's number, and steps in place of the scanner, the decoder and the output."""
 from daemon import Daemon
-from library import TAGS, Song, tag_named, tag_text
+from library import Song, tag_named, tag_text, tags_of_songs
 from player import LimitReached
 from words import Ack, GREATEST_NUMBER, number, one_of, words_of
 from world import GREATEST
@@ -146,15 +146,15 @@ class Script:
     def collect_song(self, uri, frames, *values):
         if not 1 <= len(uri.encode()) <= LONGEST_URI or uri in self.songs or number(frames) == 0 or len(self.songs) == MOST_SONGS:
             raise Bad()
-        tags = {}
+        known, tags = tags_of_songs(self.everyday), {}
         for value in values:
             name, equals, text = value.partition('=')
-            tag = tag_named(name)
+            tag = tag_named(name, known)
             if not equals or tag is None:
                 raise Bad()
             if tag_text(text) is not None:
                 tags.setdefault(tag, tag_text(text))
-        self.songs[uri] = Song(uri, number(frames), tuple((tag, tags[tag]) for tag in TAGS if tag in tags))
+        self.songs[uri] = Song(uri, number(frames), tuple((tag, tags[tag]) for tag in known if tag in tags))
         return []
 
     def set_limit(self, name, value):

@@ -1,16 +1,18 @@
 """Values for random scripts: places, ids, URIs, filters and names, most of which make sense in the script so far.
 
 Each method whose name is in capital letters draws a random value of that name, which is one word or several."""
-from library import KNOWN_TAGS, TAGS
+from library import BY_NUMBER, EVERYDAY_TAGS, KNOWN_TAGS, TAGS, tags_of_songs
 from world import SUBSYSTEMS
 
 SONGS = ['a.wav', 'b.wav', 'c.wav', 'd', 'd/x.wav', 'd/y.wav', 'd/f/z.wav', 'e f.wav', 'é.wav', 'dd/x.wav', 'd//w.wav', "q'u.wav", 'B.WAV']
 FRAMES = [1, 3, 4, 4, 8, 100, 500, 1000, 1024, 1025, 2000, 2048, 4000, 8000, 9000, 16000, 24001, 90000]
 TEXTS = ['One', 'one', 'Two', 'Ann', 'Ann', 'Zoë', 'ZOË', "a'b", 'a"b', 'a\\b', 'straße', 'STRASSE', 'ﬁne', '10', '9', 'x y', 'İ', 'ab',
          'b']
+SMALL_NUMBERS = ['1', '2', '2', '9', '9/12', '10', '10/12', '010', '2b', '0', 'A1', '-3', ' 4', '٣', '']
+LARGE_NUMBERS = ['4294967294', '4294967295', '4294967296', '99999999999999999999', '00000000000004294967297', '5/6']
 ODD_WORDS = ['', 'x', '-1', '+1', '01', '2:1', '1:2:3', ':', ':3', '4294967296', '4294967295', '0x1', '1.5', 'é', 'oneshot', 'a b',
              'window', '(', '1 ', '٣', '-', '+', '"', "'", '\\', 'group', 'sort', 'position', 'x' * 300, '0' * 5000]
-OTHER_TAGS = [tag for tag in KNOWN_TAGS if tag not in TAGS]
+OTHER_TAGS = [tag for tag in KNOWN_TAGS if tag not in EVERYDAY_TAGS]
 STICKER_NAMES = ['r', 'r', 'q']
 
 
@@ -30,7 +32,8 @@ class Values:
         self.me = 1
         # One script uses few texts and tags, so that several songs have the same ones.
         self.texts = rng.sample(TEXTS, 4)
-        self.tags = rng.sample(TAGS, 3)
+        self.numbered = rng.sample(rng.choice([SMALL_NUMBERS, SMALL_NUMBERS, LARGE_NUMBERS]), 4)
+        self.base_tags, self.everyday_tags = rng.sample(TAGS, 3), [rng.choice(BY_NUMBER), *rng.sample(EVERYDAY_TAGS, 3)]
 
     @property
     def world(self):
@@ -39,6 +42,10 @@ class Values:
     @property
     def everyday(self):
         return self.script.everyday
+
+    @property
+    def tags(self):
+        return self.everyday_tags if self.everyday else self.base_tags
 
     def pick(self, *choices):
         return self.rng.choice(choices)
@@ -123,11 +130,11 @@ class Values:
         return self.pick('d', 'd/', 'd/f', '', '', '/', 'nosuch', 'a.wav/', 'd//', 'dd', 'a.wav//', 'D', *songs)
 
     def TAG(self):
-        tag = self.rng.choice(OTHER_TAGS if self.chance(0.05) else self.tags if self.chance(0.8) else TAGS)
+        tag = self.rng.choice(OTHER_TAGS if self.chance(0.05) else self.tags if self.chance(0.8) else EVERYDAY_TAGS)
         return self.pick(tag, tag, tag.lower(), tag.upper())
 
     def KNOWN_TAG(self):
-        others = [*TAGS, 'AlbumArtist', 'AlbumArtist', 'ArtistSort', 'AlbumSort', 'AlbumArtistSort', self.rng.choice(OTHER_TAGS), 'Nosuch']
+        others = [*EVERYDAY_TAGS, 'AlbumArtist', 'ArtistSort', 'AlbumSort', 'AlbumArtistSort', self.rng.choice(OTHER_TAGS), 'Nosuch']
         tag = self.rng.choice(self.tags if self.chance(0.6) else others)
         return self.pick(tag, tag, tag.lower(), tag.upper())
 
@@ -141,6 +148,14 @@ class Values:
         if self.chance(0.6):
             return self.rng.choice(songs or self.texts)
         return self.pick(*self.texts, *self.texts, self.rng.choice(TEXTS), '', 'a.wav', 'd', 'd/x.wav', 'd/', 'wav')
+
+    def SONG_TAG(self):
+        """A tag of a song, with its text; in the base profile it is sometimes one that only the other has."""
+        tag = self.rng.choice(self.tags if self.chance(0.8) else tags_of_songs(self.everyday))
+        if not self.everyday and self.chance(0.01):
+            tag = self.rng.choice(EVERYDAY_TAGS)
+        text = self.rng.choice(self.numbered if tag in BY_NUMBER and self.chance(0.8) else self.texts)
+        return '%s=%s' % (self.pick(tag, tag, tag, tag.lower()), text)
 
     def string(self):
         """A text as it is written in a filter."""
@@ -184,11 +199,15 @@ class Values:
             return [self.broken(expression) if self.chance(0.2) else expression]
         return [word for _ in range(self.pick(1, 1, 1, 2)) for word in (self.kind(), self.TEXT())]
 
+    def ALL_SONGS(self):
+        """A filter that all songs meet."""
+        return self.pick(["(base '')"], ["(file != 'nosuch')"], ['base', ''], ["(any != 'nobody')"])
+
     def WINDOW(self):
         return ['window', self.pick('0:1', '1:2', '0:0', '5:9', '0:9', '0:9', '2:1', '1:', '2')]
 
     def SORT(self):
-        return ['sort', self.pick('', '', '-') + self.KNOWN_TAG()]
+        return ['sort', self.pick('', '', '-') + (self.everyday_tags[0] if self.chance(0.4) else self.KNOWN_TAG())]
 
     def GROUP(self):
         return ['group', self.KNOWN_TAG()]

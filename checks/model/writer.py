@@ -69,6 +69,8 @@ class Writer:
             if self.chance(0.03 if set(near).isdisjoint(self.topics) else likely):
                 self.say('! limit %s %d' % (name, self.rng.randint(least, greatest)))
         if self.wants_everyday:
+            if self.chance(0.05):
+                self.write_song()
             self.say('! limit everyday 1')
         for _ in range(self.pick(2, 3, 3, 4, 5)):
             self.write_song()
@@ -78,7 +80,7 @@ class Writer:
                 self.say_words(self.value.me, self.words_of(form))
 
     def write_song(self):
-        tags = ['%s=%s' % (self.rng.choice(self.value.tags), self.rng.choice(self.value.texts)) for _ in range(self.pick(0, 1, 2, 2, 3))]
+        tags = [self.value.SONG_TAG() for _ in range(self.pick(0, 1, 2, 2, 3, *((4, 4, 6) if self.script.everyday else ())))]
         new = [uri for uri in SONGS if uri not in self.script.songs or self.chance(0.03)]
         if set(self.topics) <= {*SOUND, 'messages', 'idle'}:
             tags = []

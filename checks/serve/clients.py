@@ -1,6 +1,6 @@
 #!/usr/bin/env python3
-"""Runs real clients with the daemon: mpc, python3-mpd, ncmpc and ncmpcpp (both in tmux), and with --everyday also Cantata (in Xvfb, operated
-by xdotool); all are Debian's.
+"""Runs real clients with the daemon: mpc, python3-mpd, ncmpc and ncmpcpp (both in tmux), and with --everyday also mpd-sima and Cantata (in Xvfb,
+operated by xdotool); all are Debian's.
 
     checks/serve/clients.py [PROGRAM] [--everyday]
 
@@ -24,7 +24,8 @@ sys.dont_write_bytecode = True
 sys.path.append(os.path.dirname(os.path.dirname(os.path.abspath(__file__))))
 
 from command_table import table
-from daemon import Daemon, Pacer, Table, program_of, wave
+from daemon import Daemon, Pacer, Table, chunk, program_of, values, wave
+from sides import id3_tag
 
 # the commands that the daemon leaves out (see commands.txt), so that it refuses requests with them
 MISSING = {name for name, _ in table().missing} | {'clearmounts'}
@@ -143,13 +144,17 @@ class Steps:
 
 
 def put_music(folder):
-    songs = [('Air', 'Ann', 'First'), ('Bee', 'Ann', 'First'), ('Sea', 'Bob', 'Second'), ('Dew', 'Zoë', 'Second')]
-    for number, (title, artist, album) in enumerate(songs):
+    """Two albums. By disc and track, where clients know these, the songs of each have the opposite order of their files; the album of two
+    artists has one of its own. This stands in ID3v2 tags, which the base profile does not read."""
+    songs = [('Air', 'Ann', 'First', {'Disc': '2', 'Track': '1'}), ('Bee', 'Ann', 'First', {'Disc': '1', 'Track': '2'}),
+             ('Sea', 'Bob', 'Second', {'AlbumArtist': 'Various', 'Track': '10'}), ('Dew', 'Zoë', 'Second', {'AlbumArtist': 'Various', 'Track': '9/10'})]
+    for number, (title, artist, album, tags) in enumerate(songs):
         below = os.path.join(folder, album)
         os.makedirs(below, exist_ok=True)
         frames = [((number * 37 + i) % 200,) for i in range(441_00 * 2)]
+        info = [(b'INAM', title), (b'IART', artist), (b'IPRD', album), (b'ICRD', '2026'), (b'IGNR', 'Test')]
         with open(os.path.join(below, '%d.wav' % number), 'wb') as file:
-            file.write(wave(frames * 10, 1, 8, tags=[(b'INAM', title), (b'IART', artist), (b'IPRD', album), (b'ICRD', '2026'), (b'IGNR', 'Test')]))
+            file.write(wave(frames * 10, 1, 8, tags=info) + chunk(b'id3 ', id3_tag(tags)))
 
 
 def run_mpc(steps, port):
@@ -210,7 +215,9 @@ def run_mpc(steps, port):
     step(['channels'], lambda told: 'error' not in told)
     step(['stats'], lambda told: 'Artists' in told)
     if is_everyday:
-        step(['list', 'album', 'group', 'albumartist'], lambda told: told.split() == ['Ann', 'First', 'Bob', 'Second', 'Zoë', 'Second'])
+        step(['list', 'album', 'group', 'albumartist'], lambda told: told.split() == ['Ann', 'First', 'Various', 'Second'])
+        step(['find', 'albumartist', 'Various', 'track', '10'], lambda told: told.split() == ['Second/2.wav'])
+        step(['-f', '%file% %disc% %track%', 'ls', 'First'], lambda told: told.split() == ['First/0.wav', '2', '1', 'First/1.wav', '1', '2'])
         step(['volume', '-5'], lambda told: steps.becomes('volume', '40'))
         step(['seek', '50%'], lambda told: 9 <= float(steps.status('elapsed')) <= 13)
         step(['seekthrough', '-00:00:03'], lambda told: 5 <= float(steps.status('elapsed')) <= 11)
@@ -260,9 +267,11 @@ step('stats', client.stats, lambda found: 'songs' in found)
 if sys.argv[2:] == ['everyday']:
     files = lambda found: [entry['file'] for entry in found]
     step('list with groups', lambda: client.list('album', 'group', 'albumartist'),
-         lambda found: [(entry['albumartist'], entry['album']) for entry in found] == [('Ann', 'First'), ('Bob', 'Second'), ('Zoë', 'Second')])
+         lambda found: [(entry['albumartist'], entry['album']) for entry in found] == [('Ann', 'First'), ('Various', 'Second')])
     step('find, sorted', lambda: client.find('album', 'Second', 'sort', 'title'), lambda found: files(found) == ['Second/3.wav', 'Second/2.wav'])
     step('find, sorted in falling order, with a window', lambda: client.find('album', 'Second', 'sort', '-title', 'window', '1:2'), lambda found: files(found) == ['Second/3.wav'])
+    step('find, sorted by track', lambda: client.find('album', 'Second', 'sort', 'track'), lambda found: files(found) == ['Second/3.wav', 'Second/2.wav'])
+    step('find, sorted by disc', lambda: client.find('album', 'First', 'sort', 'disc'), lambda found: files(found) == ['First/1.wav', 'First/0.wav'])
     step('add at a position', lambda: (client.clear(), client.add('First'), client.add('Second/2.wav', 1), client.playlistinfo())[3],
          lambda found: files(found) == ['First/0.wav', 'Second/2.wav', 'First/1.wav'])
     step('findadd at a position', lambda: (client.findadd('title', 'Dew', 'position', '0'), client.playlistinfo())[1],
@@ -271,6 +280,8 @@ if sys.argv[2:] == ['everyday']:
     step('playlistsearch', lambda: client.playlistsearch('title', 'EA'), lambda found: files(found) == ['Second/2.wav'])
     step('searchaddpl', lambda: (client.searchaddpl('y', 'artist', 'zoë'), client.listplaylist('y'), client.rm('y'))[1], lambda found: found == ['Second/3.wav'])
     step('an album, as phones ask for it', lambda: client.find('albumartist', 'Ann', 'album', 'First'), lambda found: len(found) == 2)
+    step('an album of several artists', lambda: client.find('albumartist', 'Various', 'album', 'Second'),
+         lambda found: [entry['artist'] for entry in found] == ['Bob', 'Zoë'])
 step('stop, clear', lambda: (client.stop(), client.clear(), client.status())[2], lambda found: found['playlistlength'] == '0')
 '''
 
@@ -396,8 +407,9 @@ def run_ncmpcpp(steps, port, folder):
     steps.client.must('add First')
     config = os.path.join(folder, 'ncmpcpp')
     os.makedirs(config, exist_ok=True)
+    primary = 'album_artist' if is_everyday else 'artist'
     with open(os.path.join(config, 'config'), 'w') as file:
-        file.write('ncmpcpp_directory = %s\nlyrics_directory = %s\nmpd_crossfade_time = 2\n' % (config, config))
+        file.write('ncmpcpp_directory = %s\nlyrics_directory = %s\nmpd_crossfade_time = 2\nmedia_library_primary_tag = %s\n' % (config, config, primary))
     words = ['env', 'TERM=screen', 'HOME=' + folder, 'LANG=C.UTF-8', 'ncmpcpp', '-q', '-h', '127.0.0.1', '-p', str(port), '-c', os.path.join(config, 'config')]
     screen = Screen('ncmpcpp', words, folder)
     try:
@@ -407,7 +419,13 @@ def run_ncmpcpp(steps, port, folder):
         steps.step('ncmpcpp', 'seeks', float(steps.status('elapsed') or 0) >= 6, screen.text)
         add_by_keys(steps, screen, 'ncmpcpp', '2', '1')
         screen.press('4')
-        steps.step('ncmpcpp', 'the media library', screen.shows('Ann', 'Bob'), screen.text)
+        if is_everyday:
+            in_order = screen.shows('Ann', 'Various') and shows_in_order(screen, '02 - Bee', '01 - Air')
+            steps.step('ncmpcpp', 'the media library, by disc', in_order, screen.text)
+            screen.press('Down')
+            steps.step('ncmpcpp', 'an album of several artists, by track', shows_in_order(screen, '09 - Dew', '10 - Sea'), screen.text)
+        else:
+            steps.step('ncmpcpp', 'the media library', screen.shows('Ann', 'Bob'), screen.text)
         screen.press('3')
         for _ in range(11):
             screen.press('Down')
@@ -418,10 +436,47 @@ def run_ncmpcpp(steps, port, folder):
         screen.end()
 
 
-def run_cantata(steps, port, folder):
-    """Cantata: it shows its library, and a click on the first artist and then on `play` below the list plays that artist's songs."""
-    for line in ('stop', 'clear', 'random 0', 'single 0', 'consume 0'):
+def shows_in_order(screen, *texts):
+    """Whether the screen shows all these texts within a few seconds, each below the one before."""
+    return screen.shows(*texts) and sorted(texts, key=screen.text.index) == list(texts)
+
+
+def begin_anew(steps):
+    for line in ('stop', 'clear', 'repeat 0', 'random 0', 'single 0', 'consume 0'):
         steps.client.must(line)
+
+
+def run_sima(steps, port, folder):
+    """mpd-sima: adds songs before the queue ends. Here it chooses artists at random, since its other ways ask servers on the network."""
+    begin_anew(steps)
+    steps.client.must('add First/0.wav')
+    steps.client.must('play')
+    own = os.path.join(folder, 'sima')
+    config, log = os.path.join(own, 'config'), os.path.join(own, 'log')
+    os.mkdir(own)
+    with open(config, 'w') as file:
+        file.write('[MPD]\nhost = 127.0.0.1\nport = %d\n[sima]\ninternal = Random\nqueue_length = 1\nhistory_duration = 0\nmusicbrainzid = no\n'
+                   '[random]\nflavour = pure\ntrack_to_add = 1\n' % port)
+    with open(log, 'w') as file:
+        sima = subprocess.Popen(['mpd-sima', '-c', config, '--var-dir', own], stdout=file, stderr=file)
+
+    def told():
+        with open(log) as file:
+            return file.read()
+    try:
+        # It takes seconds to start.
+        added = any(steps.becomes('playlistlength', '2') for _ in range(6))
+        steps.step('mpd-sima', 'adds a song', added, told())
+        steps.client.must('next')
+        steps.step('mpd-sima', 'adds another one', steps.becomes('playlistlength', '3'), told())
+    finally:
+        sima.kill()
+        sima.wait()
+
+
+def run_cantata(steps, port, folder):
+    """Cantata: it shows its library, and a click on the first artist and then on `play` below the list plays that artist's songs, by disc."""
+    begin_anew(steps)
     home, run = os.path.join(folder, 'cantata'), os.path.join(folder, 'run')
     os.makedirs(os.path.join(home, '.config', 'cantata'))
     os.makedirs(run, mode=0o700)
@@ -444,6 +499,7 @@ def run_cantata(steps, port, folder):
         press(140, 78)
         press(367, 670)
         steps.step('cantata', "plays its library's first artist", steps.becomes('playlistlength', '2') and steps.becomes('state', 'play'))
+        steps.step('cantata', 'orders an album by disc and track', values(steps.client.must('playlistinfo'), 'Title') == ['Bee', 'Air'])
         press(55, 29)
         steps.step('cantata', 'pauses', steps.becomes('state', 'pause'))
         press(101, 29)
@@ -466,12 +522,14 @@ def main():
                         more='everyday = true' if is_everyday else '')
         proxy = Proxy(daemon.port)
         steps = Steps(table, daemon, proxy)
+        with_everyday = [(['mpd-sima'], lambda: run_sima(steps, proxy.port, folder)),
+                         (['cantata', 'Xvfb', 'xdotool', 'dbus-run-session'], lambda: run_cantata(steps, proxy.port, folder))]
         try:
             for needed, run in [(['mpc'], lambda: run_mpc(steps, proxy.port)), (['/usr/lib/python3/dist-packages/mpd'], lambda: run_library(steps, proxy.port)),
                                 (['ncmpc', 'tmux'], lambda: run_ncmpc(steps, proxy.port, folder)),
                                 (['ncmpc', 'mpc', 'tmux'], lambda: run_partitions(steps, proxy.port, folder)),
                                 (['ncmpcpp', 'tmux'], lambda: run_ncmpcpp(steps, proxy.port, folder)),
-                                *([(['cantata', 'Xvfb', 'xdotool', 'dbus-run-session'], lambda: run_cantata(steps, proxy.port, folder))] if is_everyday else [])]:
+                                *(with_everyday if is_everyday else [])]:
                 missing = [name for name in needed if not (shutil.which(name) or os.path.exists(name))]
                 if missing:
                     table.row(os.path.basename(needed[0]), 'left out', 'not installed: %s' % ', '.join(missing))

@@ -41,7 +41,7 @@ SHOWN = 3     # how many lines of an answer the page shows at most
 MOST = 8      # how many lines of a difference a transcript shows at most, before it says how many more there were
 LEAST = 200   # how many transcripts there must be at least
 ACK = re.compile(r'(\d ACK \[\d+@\d+\] \{\w*\}) .*')
-TAGS = ('Title', 'Artist', 'Album', 'Date', 'Genre', 'Comment')
+TAGS = ('Title', 'Artist', 'Album', 'Date', 'Genre', 'Comment', 'AlbumArtist', 'Track', 'Disc', 'Composer')
 OUTPUT = 'type "null"\nmixer_type "software"'
 
 Transcript = namedtuple('Transcript', 'name steps')

@@ -4,11 +4,12 @@ import re
 import struct
 import time
 
-from daemon import ANSWER, Client, quoted, values, wave
+from daemon import ANSWER, Client, chunk, quoted, values, wave
 
 RATE = 8000
-INFO = {'Title': b'INAM', 'Artist': b'IART', 'Album': b'IPRD', 'Date': b'ICRD', 'Genre': b'IGNR', 'Comment': b'ICMT'}
-# the URI of each song, its seconds of silence, and its tags
+INFO = {'Title': b'INAM', 'Artist': b'IART', 'Album': b'IPRD', 'Date': b'ICRD', 'Genre': b'IGNR', 'Comment': b'ICMT', 'Track': b'ITRK'}
+ID3 = {'Title': b'TIT2', 'Album': b'TALB', 'AlbumArtist': b'TPE2', 'Track': b'TRCK', 'Disc': b'TPOS', 'Composer': b'TCOM'}
+# the URI of each song, its seconds of silence, the tags of its list INFO, and if it has one, those of its ID3v2 tag
 SONGS = [
     ('Bare.wav', 20, {}),
     ('Brief.wav', 0.2, {'Title': 'Fly'}),
@@ -18,9 +19,9 @@ SONGS = [
     ('second/2.wav', 20.5, {'Title': 'Sea', 'Artist': 'Bob', 'Album': 'Second', 'Date': '1999', 'Genre': 'Jazz'}),
     ('second/3.wav', 10, {'Title': 'Dew', 'Artist': 'Zoë', 'Album': 'Second', 'Genre': 'Jazz'}),
     ('third/inner/4.wav', 20, {'Title': 'Elm', 'Artist': 'bob'}),
-    ('zoo/a.wav', 20, {'Title': 'Yak', 'Album': 'Two'}),
-    ('zoo/den/c.wav', 20, {'Title': 'Emu', 'Album': 'Two'}),
-    ('zoo/z.wav', 20, {'Title': 'Gnu', 'Album': 'One', 'Comment': 'live'}),
+    ('zoo/a.wav', 20, {}, {'Title': 'Yak', 'Album': 'Two', 'AlbumArtist': 'Various', 'Track': '10', 'Disc': '1', 'Composer': 'Eve'}),
+    ('zoo/den/c.wav', 20, {}, {'Title': 'Emu', 'Album': 'Two', 'AlbumArtist': 'Various', 'Track': '9', 'Disc': '1'}),
+    ('zoo/z.wav', 20, {'Title': 'Gnu', 'Album': 'One', 'Comment': 'live', 'Track': '1/2'}, {'Disc': '2'}),
 ]
 WAIT = 0.2    # how many seconds a waiting client is given until it gets its notice
 LATEST = 15   # how many seconds a transcript waits for a value of `status` at most
@@ -38,13 +39,19 @@ AT_THE_RESET = ['stop', 'clear', 'clearerror', 'setvol 100', 'crossfade 0', 'rep
 
 def put_library(folder):
     """Writes the songs."""
-    for uri, seconds, tags in SONGS:
+    for uri, seconds, tags, *id3 in SONGS:
         path = os.path.join(folder, uri)
         os.makedirs(os.path.dirname(path), exist_ok=True)
         size = int(4 * RATE * seconds)
         head = wave([], 2, 16, RATE, tags=[(INFO[tag], text) for tag, text in tags.items()])
         with open(path, 'wb') as file:
-            file.write(head[:-4] + struct.pack('<I', size) + bytes(size))
+            file.write(head[:-4] + struct.pack('<I', size) + bytes(size) + b''.join(chunk(b'id3 ', id3_tag(more)) for more in id3))
+
+
+def id3_tag(tags):
+    """An ID3v2.4 tag in UTF-8. Its sizes are so small that each fits into seven bits."""
+    frames = b''.join(ID3[tag] + bytes([0, 0, 0, len(text.encode()) + 1, 0, 0, 3]) + text.encode() for tag, text in tags.items())
+    return b'ID3\4\0\0\0\0' + bytes([len(frames) >> 7, len(frames) & 0x7f]) + frames
 
 
 class Speaker(Client):
@@ -122,7 +129,7 @@ class Side:
 
     def end(self):
         """Deletes the stickers, which `begin` does not do."""
-        for uri, _, _ in SONGS:
+        for uri, *_ in SONGS:
             self.owner.ask('sticker delete song ' + quoted(uri))
 
     def take_back(self, name):
