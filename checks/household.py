@@ -128,7 +128,7 @@ def check_fifos(rows, debian):
     seen = []
     for names in (('speakers', 'kitchen'), ('kitchen', 'a.b-c_1', 'living room'), ()):
         with open(settings, 'w') as file:
-            file.write(''.join('[[output]]\nname = "x"\n  path="/tmp/fifos/%s" # a room\n' % name for name in names)
+            file.write(''.join('[[output]]\nname = "%s"\n  path="/tmp/fifos/%s" # a room\n' % (name, name) for name in names)
                        + '# path = "/tmp/fifos/remark"\npath = "/tmp/elsewhere"\n')
         status, told = debian.run(SCRIPTS + 'fifos', '/tmp/fifos.toml', '/tmp/fifos')
         modes = {debian.owner('tmp/fifos/' + name)[2] for name in names}
