@@ -1,14 +1,13 @@
 //! The text that follows a frame's byte of encoding.
-ghost use Rattle.std.specs.Prelude.{◌≡◌, ◌==◌, Some, None, MatchOption, IfOk, nat_le};
-ghost use Rattle.std.specs.List.{position, list_all};
+ghost use Rattle.std.specs.Prelude.{◌≡◌, ◌==◌, Some, None, MatchOption, IfOk};
 ghost use Rattle.std.specs.Option.{option_map};
 ghost use Rattle.std.specs.Str.{encode_utf8_all};
-ghost use Rattle.id3_tags.specs.Encodings.{encoding_of, up_to_zero, utf8_in, characters, after_zero_byte, after_zero_unit, after_empty, counts, text_in};
+ghost use Rattle.id3_tags.specs.Encodings.{encoding_of, utf8_in, characters, after_zero_byte, after_zero_unit, after_empty, counts, text_in};
 ghost use Rattle.id3_tags.specs.Texts.{text_after, content_text};
 
 use crate::tag::from_place;
 use crate::utf16::{ByteOrder, after_mark, order_in, utf16_in};
-use mpd_text::Text;
+use mpd_text::{Text, has_no_control, up_to_zero};
 use std::alloc::{AllocError, Global};
 use std::str;
 
@@ -45,21 +44,6 @@ fn encoding_of(number: u8) -> Option<Encoding>
         2 => Some(Encoding::Utf16Be),
         3 => Some(Encoding::Utf8),
         _ => None,
-    }
-}
-
-fn first_zero(bytes: &[u8]) -> Option<usize>
-    ensures { result ≡ position (λ byte. byte == 0) bytes.now }
-{
-    bytes.iter().position(|byte| *byte == 0)
-}
-
-fn up_to_zero(bytes: &[u8]) -> &[u8]
-    ensures { result.now ≡ up_to_zero bytes.now }
-{
-    match first_zero(bytes) {
-        Some(len) => &bytes[..len],
-        None => bytes,
     }
 }
 
@@ -102,12 +86,6 @@ fn counts(text: &str) -> bool
 {
     let bytes = text.as_bytes();
     !bytes.is_empty() && bytes.len() <= MAX_TEXT && has_no_control(bytes)
-}
-
-fn has_no_control(text: &[u8]) -> bool
-    ensures { result ≡ list_all (λ byte. nat_le 32 byte) text.now }
-{
-    text.iter().all(|byte| *byte >= b' ')
 }
 
 /// The text, if it is well formed and not skipped.

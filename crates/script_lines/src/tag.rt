@@ -1,11 +1,11 @@
 //! The tags of a song, as a script writes them.
-ghost use Rattle.std.specs.Prelude.{◌≡◌, ◌<◌, IfOk, map, string_bytes, nat_le};
+ghost use Rattle.std.specs.Prelude.{◌≡◌, ◌<◌, IfOk, map, string_bytes};
 ghost use Rattle.std.specs.Str.{str_eq_ignore_ascii_case};
 ghost use Rattle.std.specs.List.{list_all};
 ghost use Rattle.script_lines.specs.Tags.{is_tag_of as is_tag_of_lem, is_tag as is_tag_lem, text_of as text_of_lem, counts as counts_lem, IsFirstText, tags_named as tags_named_lem, tags_of as tags_of_lem};
 
 use crate::cut::{cut, has};
-use mpd_text::{BASE_TAG_NAMES, TAG_NAMES, Tag, TagName};
+use mpd_text::{BASE_TAG_NAMES, TAG_NAMES, Tag, TagName, has_no_control};
 use std::alloc::{AllocError, Global};
 
 /// The greatest length of a tag's text, in bytes. A longer text is skipped.
@@ -49,12 +49,6 @@ fn counts(text: &str) -> bool
     ensures { result ≡ counts_lem text.now }
 {
     !text.is_empty() && text.len() <= MAX_TEXT && has_no_control(text.as_bytes())
-}
-
-fn has_no_control(text: &[u8]) -> bool
-    ensures { result ≡ list_all (λ b. nat_le 32 b) text.now }
-{
-    text.iter().all(|b| *b >= b' ')
 }
 
 fn first_text(words: &[String], name: TagName) -> Option<&str>

@@ -1,11 +1,11 @@
 -- Texts that count, and those that do not.
-use Rattle.std.proofs.Common.{ℕ, zero, suc, ◌+◌, ◌<◌, ◌≤◌, ◌≡◌, ◌==◌, ◌&&◌, List, [], ◌∷◌, length, take, min, Bool, true, false, not, cond, refl, sym, ap, ◌∙◌, arith, length-take, Some, None, nat_le, nat_lt}
+use Rattle.std.proofs.Common.{ℕ, zero, suc, ◌+◌, ◌<◌, ◌≤◌, ◌≡◌, ◌==◌, ◌&&◌, List, [], ◌∷◌, length, take, min, Bool, true, false, not, cond, refl, sym, ap, ◌∙◌, arith, length-take, Some, None, nat_le}
 use Rattle.std.proofs.lemmas.Bool.Decides.{nat_tests}
-use Rattle.std.proofs.lemmas.List.{take-take, take_all}
+use Rattle.std.proofs.lemmas.List.{take-take}
 use Rattle.std.proofs.lemmas.List.Folds.{length-prefix_len}
 use Rattle.std.proofs.lemmas.List.Sums.{prefix_len-le-length}
 use Rattle.std.proofs.lemmas.Str.{is_utf8-from_IsUtf8, IsUtf8-from_is_utf8}
-use Rattle.std.specs.List.{prefix_len, position_or_len, position, list_all}
+use Rattle.std.specs.List.{prefix_len, position_or_len, list_all}
 use Rattle.std.specs.Str.{is_utf8, IsUtf8}
 use Rattle.wave.specs.Texts.{text_of, counts}
 use Rattle.wave.specs.Found.{base_text}
@@ -14,22 +14,6 @@ use Rattle.wave.proofs.Filling.{by_lt}
 pub and_false : (a : Bool) → (a && false) ≡ false
 and_false true = refl
 and_false false = refl
-
--- a text up to its first zero byte
-zero_at : (n m : ℕ) (b : Bool) → Some n ≡ cond b (Some m) None → n ≡ m
-zero_at n m true e = cc
-zero_at n m false e = absurd cc
-
-pub up_to_zero_is : (content : List ℕ) (len : ℕ) → Some len ≡ position (λ byte. byte == 0) content → take len content ≡ text_of content
-up_to_zero_is content len e = ap (λ n. take n content) (zero_at len _ _ e)
-
-no_zero_in : (content : List ℕ) (n : ℕ) (b : Bool) → nat_lt n (length content) ≡ b → None ≡ cond b (Some n) None → content ≡ take n content
-no_zero_in content n true e f = absurd cc
-no_zero_in content n false e f =
-    let h : length content ≤ n = grind (arith, nat_tests) in sym (take_all n content h)
-
-pub no_zero_is : (content : List ℕ) → None ≡ position (λ byte. byte == 0) content → content ≡ text_of content
-no_zero_is content e = no_zero_in content (position_or_len (λ byte. byte == 0) content) _ refl e
 
 -- texts that count
 pub counts_if : (text : List ℕ) → 1 ≤ length text → length text ≤ 1024 → list_all (λ byte. nat_le 32 byte) text ≡ true → IsUtf8 text → counts text ≡ true

@@ -1,12 +1,11 @@
 //! The names of the items of lists, and the texts that they hold.
-ghost use Rattle.std.specs.Prelude.{◌≡◌, ◌==◌, Some, None, false, IfOk, MatchOption, nat_le};
-ghost use Rattle.std.specs.List.{list_all, position};
-ghost use Rattle.wave.specs.Texts.{text_of, counts, CountsAs};
+ghost use Rattle.std.specs.Prelude.{◌≡◌, Some, None, false, IfOk, MatchOption};
+ghost use Rattle.wave.specs.Texts.{counts, CountsAs};
 ghost use Rattle.wave.specs.Everyday.{spelled, everyday_text};
 ghost use Rattle.wave.specs.Found.{IsNameOf, base_text, text_in};
 
 use id3_tags::windows_1252;
-use mpd_text::Text;
+use mpd_text::{Text, has_no_control, up_to_zero};
 use std::alloc::{AllocError, Global};
 use std::str;
 
@@ -70,22 +69,6 @@ pub(crate) fn name_of(bytes: [u8; 4]) -> Option<ItemName>
     None
 }
 
-fn first_zero(content: &[u8]) -> Option<usize>
-    ensures { result ≡ position (λ byte. byte == 0) content.now }
-{
-    content.iter().position(|byte| *byte == 0)
-}
-
-/// A content up to its first zero byte.
-fn up_to_zero(content: &[u8]) -> &[u8]
-    ensures { result.now ≡ text_of content.now }
-{
-    match first_zero(content) {
-        Some(len) => &content[..len],
-        None => content,
-    }
-}
-
 /// The text of these bytes, if it is not skipped.
 fn counted(bytes: &[u8]) -> Option<&str>
     ensures { MatchOption result (counts bytes.now ≡ false) (λ text. CountsAs bytes.now text.now) }
@@ -97,12 +80,6 @@ fn counted(bytes: &[u8]) -> Option<&str>
         Ok(text) => Some(text),
         Err(_) => None,
     }
-}
-
-fn has_no_control(text: &[u8]) -> bool
-    ensures { result ≡ list_all (λ byte. nat_le 32 byte) text.now }
-{
-    text.iter().all(|byte| *byte >= b' ')
 }
 
 /// The text of a content in the base profile, if it is not skipped.
