@@ -272,7 +272,7 @@ def written_base_rows(text, made):
         commands = [command for rows in group.rows for command in rows]
         lines = ['(λ words there. %s)  -- %s' % (proof_of(it, predicate_of(group, base)), it.name) for it in commands]
         text = put(text, r'^%s : [^\n]*\nunfolding ([^\n]*)\n' % group.key, ' '.join(unfolded_here([group])))
-        text = put(text, r'^%s kill =\n(.*?⊙ tt)\n' % group.key, '    ' + '\n    ⊙ '.join(lines) + '\n    ⊙ tt')
+        text = put(text, r'^%s set =\n(.*?⊙ tt)\n' % group.key, '    ' + '\n    ⊙ '.join(lines) + '\n    ⊙ tt')
     return text
 
 

@@ -1,6 +1,6 @@
 #!/usr/bin/env python3
-"""Runs real clients with the daemon: mpc, python3-mpd, ncmpc and ncmpcpp (both in tmux), and with --everyday also mpd-sima and Cantata (in Xvfb,
-operated by xdotool); all are Debian's.
+"""Runs real clients with the daemon: mpc, python3-mpd, ncmpc and ncmpcpp (both in tmux), and with --everyday also Audio::MPD (in Perl), mpd-sima
+and Cantata (in Xvfb, operated by xdotool); all are Debian's.
 
     checks/serve/clients.py [PROGRAM] [--everyday]
 
@@ -266,6 +266,7 @@ step('an error', lambda: client.play(99), lambda found: False)
 step('stats', client.stats, lambda found: 'songs' in found)
 if sys.argv[2:] == ['everyday']:
     files = lambda found: [entry['file'] for entry in found]
+    step('uptime', client.stats, lambda found: found['uptime'].isdigit())
     step('list with groups', lambda: client.list('album', 'group', 'albumartist'),
          lambda found: [(entry['albumartist'], entry['album']) for entry in found] == [('Ann', 'First'), ('Various', 'Second')])
     step('find, sorted', lambda: client.find('album', 'Second', 'sort', 'title'), lambda found: files(found) == ['Second/3.wav', 'Second/2.wav'])
@@ -296,6 +297,32 @@ def run_library(steps, port):
         else:
             steps.step('python3-mpd', what, works == 'yes', told)
     steps.step('python3-mpd', 'all steps have been run', run.returncode == 0, run.stderr)
+
+
+AUDIO_MPD = r'''
+use strict; use warnings; use Audio::MPD;
+my $client = Audio::MPD->new(host => '127.0.0.1', port => shift);
+sub step { my ($what, $works, $told) = @_; print join("\t", $what, $works ? 'yes' : 'no', $told), "\n"; }
+step('version', $client->version eq '0.23.0', $client->version);
+my $stats = $client->stats;
+step('stats, with the uptime', $stats->uptime =~ /^\d+$/ && $stats->songs == 4, $stats->uptime . ' ' . $stats->songs);
+$client->playlist->clear; $client->playlist->add('First/0.wav'); $client->play(0);
+step('add, play, status', $client->status->state eq 'play', $client->status->state);
+step('current', $client->current->title eq 'Air', $client->current->title);
+my @songs = $client->collection->all_songs;
+step('all songs', @songs == 4, scalar(@songs));
+$client->stop; $client->playlist->clear;
+step('stop, clear', $client->status->playlistlength == 0, $client->status->playlistlength);
+'''
+
+
+def run_audio_mpd(steps, port):
+    """Audio::MPD, a library for Perl (libaudio-mpd-perl), which ends if `stats` has no `uptime`."""
+    run = subprocess.run(['perl', '-e', AUDIO_MPD, str(port)], capture_output=True, text=True, timeout=60)
+    for line in run.stdout.splitlines():
+        what, works, told = line.split('\t', 2)
+        steps.step('Audio::MPD', what, works == 'yes', told)
+    steps.step('Audio::MPD', 'all steps have been run', run.returncode == 0, run.stderr)
 
 
 class Screen:
@@ -522,7 +549,8 @@ def main():
                         more='everyday = true' if is_everyday else '')
         proxy = Proxy(daemon.port)
         steps = Steps(table, daemon, proxy)
-        with_everyday = [(['mpd-sima'], lambda: run_sima(steps, proxy.port, folder)),
+        with_everyday = [(['/usr/share/perl5/Audio/MPD.pm'], lambda: run_audio_mpd(steps, proxy.port)),
+                         (['mpd-sima'], lambda: run_sima(steps, proxy.port, folder)),
                          (['cantata', 'Xvfb', 'xdotool', 'dbus-run-session'], lambda: run_cantata(steps, proxy.port, folder))]
         try:
             for needed, run in [(['mpc'], lambda: run_mpc(steps, proxy.port)), (['/usr/lib/python3/dist-packages/mpd'], lambda: run_library(steps, proxy.port)),

@@ -20,6 +20,7 @@ use Rattle.mpd_command.specs.Stickers.{rows as stickers_rows}
 use Rattle.mpd_command.specs.Tables.{found, or_else, under}
 use Rattle.mpd_command.specs.declared.command.Command.{Command}
 use Rattle.mpd_command.specs.declared.command.Command.TheVariants as command
+use Rattle.mpd_command.specs.declared.command_set.CommandSet.{CommandSet}
 use Rattle.mpd_command.specs.declared.name.Name.{Name}
 use Rattle.mpd_command.specs.declared.request.Ack.{Ack}
 use Rattle.command_laws.specs.Base.{AsksForBase, BaseAsksForNoMore, IsBase, IsBaseConnection, IsBaseDatabase, IsBaseOption, IsBasePlaylist, IsBaseQueue, IsBaseStatus, base_set}
@@ -45,15 +46,15 @@ any-found (Ok None) = tt
 any-found (Ok (Some a)) = tt
 any-found (Err e) = tt
 
-command-found : (kill : Bool) (word : List ℕ) (words : List (List ℕ)) → is_there word (base_set kill) ≡ true → Finds IsBase (command_of (base_set kill) word words)
-command-found kill word words there =
-    either _ _ (lifted IsBaseConnection command.Connection _ (connection-found kill word words there) (λ a h. h))
-    (either _ _ (lifted IsBaseStatus command.Status _ (status-found kill word words there) (λ a h. h))
-    (either _ _ (lifted Any command.Playback _ (any-found (found (playback_rows (base_set kill)) word words)) (λ a h. tt))
-    (either _ _ (lifted IsBaseQueue command.Queue _ (queue-found kill word words there) (λ a h. h))
-    (either _ _ (lifted IsBaseOption command.Options _ (options-found kill word words there) (λ a h. h))
-    (either _ _ (lifted IsBaseDatabase command.Database _ (database-found kill word words there) (λ a h. h))
-    (either _ _ (lifted IsBasePlaylist command.Playlists _ (playlists-found kill word words there) (λ a h. h))
+command-found : (set : CommandSet) (word : List ℕ) (words : List (List ℕ)) → is_there word (base_set set) ≡ true → Finds IsBase (command_of (base_set set) word words)
+command-found set word words there =
+    either _ _ (lifted IsBaseConnection command.Connection _ (connection-found set word words there) (λ a h. h))
+    (either _ _ (lifted IsBaseStatus command.Status _ (status-found set word words there) (λ a h. h))
+    (either _ _ (lifted Any command.Playback _ (any-found (found (playback_rows (base_set set)) word words)) (λ a h. tt))
+    (either _ _ (lifted IsBaseQueue command.Queue _ (queue-found set word words there) (λ a h. h))
+    (either _ _ (lifted IsBaseOption command.Options _ (options-found set word words there) (λ a h. h))
+    (either _ _ (lifted IsBaseDatabase command.Database _ (database-found set word words there) (λ a h. h))
+    (either _ _ (lifted IsBasePlaylist command.Playlists _ (playlists-found set word words there) (λ a h. h))
     (either _ _ (lifted Any command.Stickers _ (any-found (found stickers_rows word words)) (λ a h. tt))
     (either _ _ (lifted Any command.Outputs _ (any-found (found outputs_rows word words)) (λ a h. tt))
     (either _ _ (lifted Any command.Messages _ (any-found (found messages_rows word words)) (λ a h. tt))
@@ -73,42 +74,42 @@ unfolding name_of
 named word name e = named-by _ (λ place. refl) word name (position (λ other. bytes_eq other word) all_names) refl e
 
 -- the command that words name
-abbrev Names : Bool → Result (Name × Command) Ack → Type 0
-Names kill (Ok named) = (is_there (text_of named.0) (base_set kill) ≡ true) × IsBase named.1
-Names kill (Err ack) = Unit {0}
+abbrev Names : CommandSet → Result (Name × Command) Ack → Type 0
+Names set (Ok named) = (is_there (text_of named.0) (base_set set) ≡ true) × IsBase named.1
+Names set (Err ack) = Unit {0}
 
-read-base : (kill : Bool) (name : Name) (word : List ℕ) (r : Result (Option Command) Misread) → is_there (text_of name) (base_set kill) ≡ true → Finds IsBase r → Names kill (read_as name word r)
-read-base kill name word (Ok (Some c)) there h = (there, h)
-read-base kill name word (Ok None) there h = tt
-read-base kill name word (Err e) there h = tt
+read-base : (set : CommandSet) (name : Name) (word : List ℕ) (r : Result (Option Command) Misread) → is_there (text_of name) (base_set set) ≡ true → Finds IsBase r → Names set (read_as name word r)
+read-base set name word (Ok (Some c)) there h = (there, h)
+read-base set name word (Ok None) there h = tt
+read-base set name word (Err e) there h = tt
 
-allowed : (kill b : Bool) (ack : Ack) (r : Result (Name × Command) Ack) → Names kill r → Names kill (cond b (Err ack) r)
-allowed kill true ack r h = tt
-allowed kill false ack r h = h
+allowed : (set : CommandSet) (b : Bool) (ack : Ack) (r : Result (Name × Command) Ack) → Names set r → Names set (cond b (Err ack) r)
+allowed set true ack r h = tt
+allowed set false ack r h = h
 
-by-name : (kill : Bool) (o : Option Name) (word : List ℕ) (words : List (List ℕ)) → name_of word ≡ o → is_there word (base_set kill) ≡ true → Names kill (of_name o word words (base_set kill))
-by-name kill None word words is there = tt
-by-name kill (Some name) word words is there =
-    allowed kill (is_forbidden word (base_set kill)) (record { number = Permission; command = Some name; text = codes "no permission for \"kill\"" })
-    (with_arguments (base_set kill) name word words)
-    (read-base kill name word (command_of (base_set kill) word words) (ap (λ w. is_there w (base_set kill)) (named word name is) ∙ there) (command-found kill word words there))
+by-name : (set : CommandSet) (o : Option Name) (word : List ℕ) (words : List (List ℕ)) → name_of word ≡ o → is_there word (base_set set) ≡ true → Names set (of_name o word words (base_set set))
+by-name set None word words is there = tt
+by-name set (Some name) word words is there =
+    allowed set (is_forbidden word (base_set set)) (record { number = Permission; command = Some name; text = codes "no permission for \"kill\"" })
+    (with_arguments (base_set set) name word words)
+    (read-base set name word (command_of (base_set set) word words) (ap (λ w. is_there w (base_set set)) (named word name is) ∙ there) (command-found set word words there))
 
-by-word : (kill : Bool) (b : Bool) (word : List ℕ) (words : List (List ℕ)) → is_there word (base_set kill) ≡ b → Names kill (of_name (cond b (name_of word) None) word words (base_set kill))
-by-word kill true word words there = by-name kill (name_of word) word words refl there
-by-word kill false word words there = tt
+by-word : (set : CommandSet) (b : Bool) (word : List ℕ) (words : List (List ℕ)) → is_there word (base_set set) ≡ b → Names set (of_name (cond b (name_of word) None) word words (base_set set))
+by-word set true word words there = by-name set (name_of word) word words refl there
+by-word set false word words there = tt
 
-by-words : (kill : Bool) (words : List (List ℕ)) → Names kill (named_of words (base_set kill))
-by-words kill [] = tt
-by-words kill (word ∷ words) = by-word kill (is_there word (base_set kill)) word words refl
+by-words : (set : CommandSet) (words : List (List ℕ)) → Names set (named_of words (base_set set))
+by-words set [] = tt
+by-words set (word ∷ words) = by-word set (is_there word (base_set set)) word words refl
 
-from-named : (kill : Bool) (r : Result (Name × Command) Ack) → Names kill r → AsksForBase kill (request_from r)
-from-named kill (Ok named) h = h
-from-named kill (Err ack) h = tt
+from-named : (set : CommandSet) (r : Result (Name × Command) Ack) → Names set r → AsksForBase set (request_from r)
+from-named set (Ok named) h = h
+from-named set (Err ack) h = tt
 
-from-words : (kill : Bool) (r : Result (List (List ℕ)) WordsFault) → AsksForBase kill (request_with r (base_set kill))
-from-words kill (Ok words) = from-named kill (named_of words (base_set kill)) (by-words kill words)
-from-words kill (Err fault) = tt
+from-words : (set : CommandSet) (r : Result (List (List ℕ)) WordsFault) → AsksForBase set (request_with r (base_set set))
+from-words set (Ok words) = from-named set (named_of words (base_set set)) (by-words set words)
+from-words set (Err fault) = tt
 
 pub asks_for_no_more : BaseAsksForNoMore
 unfolding request_of
-asks_for_no_more line kill = from-words kill (words_of line)
+asks_for_no_more line set = from-words set (words_of line)

@@ -31,6 +31,7 @@ use Rattle.mpd_command.specs.Options.{rows as options_rows, rows_from_replay_gai
 use Rattle.mpd_command.specs.Playlists.{rows as playlists_rows, rows_from_playlistadd}
 use Rattle.mpd_command.specs.Queue.{rows as queue_rows, rows_from_playlist, rows_from_prio}
 use Rattle.mpd_command.specs.Status.{rows as status_rows}
+use Rattle.mpd_command.specs.declared.command_set.CommandSet.{CommandSet}
 use Rattle.command_arguments.specs.declared.forms.Window.{Window}
 use Rattle.command_arguments.specs.declared.wanted.Wanted.{Wanted}
 use Rattle.command_laws.proofs.BaseFilters.{MayHave, Reads, alone, both-first, filter-base, from-read, mapped, one-filter-base}
@@ -43,9 +44,9 @@ Finds P (Ok (Some a)) = P a
 Finds P (Err e) = Unit {0}
 
 -- each row that is there reads so
-abbrev Rows : {A : Type 0} → (A → Type 0) → Bool → List (Row A) → Type 0
-Rows P kill [] = Unit {0}
-Rows P kill (row ∷ rows) = ((words : List (List ℕ)) → is_there row.0 (base_set kill) ≡ true → Reads P (row.1 words)) × Rows P kill rows
+abbrev Rows : {A : Type 0} → (A → Type 0) → CommandSet → List (Row A) → Type 0
+Rows P set [] = Unit {0}
+Rows P set (row ∷ rows) = ((words : List (List ℕ)) → is_there row.0 (base_set set) ≡ true → Reads P (row.1 words)) × Rows P set rows
 
 chosen : {A : Type 0} (P : A → Type 0) (b : Bool) (r : Result A Misread) (rest : Result (Option A) Misread)
     → (b ≡ true → Reads P r) → Finds P rest → Finds P (cond b (map_ok Some r) rest)
@@ -53,13 +54,13 @@ chosen P true (Ok a) rest h k = h refl
 chosen P true (Err e) rest h k = tt
 chosen P false r rest h k = k
 
-found-in : {A : Type 0} (P : A → Type 0) (kill : Bool) (rows : List (Row A)) → Rows P kill rows
-    → (word : List ℕ) (words : List (List ℕ)) → is_there word (base_set kill) ≡ true → Finds P (found rows word words)
-found-in P kill [] h word words there = tt
-found-in P kill (row ∷ rows) h word words there =
+found-in : {A : Type 0} (P : A → Type 0) (set : CommandSet) (rows : List (Row A)) → Rows P set rows
+    → (word : List ℕ) (words : List (List ℕ)) → is_there word (base_set set) ≡ true → Finds P (found rows word words)
+found-in P set [] h word words there = tt
+found-in P set (row ∷ rows) h word words there =
     chosen P (bytes_eq word row.0) (row.1 words) (found rows word words)
-    (λ same. h.0 words (ap (λ w. is_there w (base_set kill)) (sym ((bytes_eq-Decides word row.0).0 same)) ∙ there))
-    (found-in P kill rows h.1 word words there)
+    (λ same. h.0 words (ap (λ w. is_there w (base_set set)) (sym ((bytes_eq-Decides word row.0).0 same)) ∙ there))
+    (found-in P set rows h.1 word words there)
 
 -- a row, and those behind it
 infixr 5 ◌⊙◌
@@ -131,9 +132,9 @@ unfolding placed_selection_of
 adds test words = from-read IsBaseFilter IsAddition _ (filter_of Base test words) (filter-base test words) (λ wanted h. ((h, refl), refl, refl))
 
 -- the tables
-connection : (kill : Bool) → Rows IsBaseConnection kill (connection_rows (base_set kill))
+connection : (set : CommandSet) → Rows IsBaseConnection set (connection_rows (base_set set))
 unfolding connection_rows rows_from_notcommands
-connection kill =
+connection set =
     (λ words there. alone IsBaseConnection _ words tt)  -- close
     ⊙ (λ words there. alone IsBaseConnection _ words refl)  -- commands
     ⊙ (λ words there. none-there there)  -- decoders
@@ -145,9 +146,9 @@ connection kill =
     ⊙ (λ words there. none-there there)  -- urlhandlers
     ⊙ tt
 
-status : (kill : Bool) → Rows IsBaseStatus kill (status_rows (base_set kill))
+status : (set : CommandSet) → Rows IsBaseStatus set (status_rows (base_set set))
 unfolding status_rows
-status kill =
+status set =
     (λ words there. alone IsBaseStatus _ words tt)  -- clearerror
     ⊙ (λ words there. alone IsBaseStatus _ words tt)  -- currentsong
     ⊙ (λ words there. search mapped)  -- idle
@@ -159,9 +160,9 @@ status kill =
 abbrev AtEnd : Uri × Option Place → Type 0
 AtEnd p = p.1 ≡ None
 
-queue : (kill : Bool) → Rows IsBaseQueue kill (queue_rows (base_set kill))
+queue : (set : CommandSet) → Rows IsBaseQueue set (queue_rows (base_set set))
 unfolding queue_rows rows_from_playlist rows_from_prio
-queue kill =
+queue set =
     (λ words there. from-read AtEnd IsBaseQueue _ _ (mapped AtEnd _ (one_of forms.uri_of words) (λ uri. refl)) (λ p none. none))  -- add
     ⊙ (λ words there. search mapped)  -- addid
     ⊙ (λ words there. alone IsBaseQueue _ words tt)  -- clear
@@ -183,9 +184,9 @@ queue kill =
     ⊙ (λ words there. search mapped)  -- swapid
     ⊙ tt
 
-options : (kill : Bool) → Rows IsBaseOption kill options_rows
+options : (set : CommandSet) → Rows IsBaseOption set options_rows
 unfolding options_rows rows_from_replay_gain_mode
-options kill =
+options set =
     (λ words there. search mapped)  -- consume
     ⊙ (λ words there. search mapped)  -- crossfade
     ⊙ (λ words there. alone IsBaseOption _ words tt)  -- getvol
@@ -198,9 +199,9 @@ options kill =
     ⊙ (λ words there. none-there there)  -- volume
     ⊙ tt
 
-database : (kill : Bool) → Rows IsBaseDatabase kill (database_rows (base_set kill))
+database : (set : CommandSet) → Rows IsBaseDatabase set (database_rows (base_set set))
 unfolding database_rows rows_from_listall rows_from_rescan
-database kill =
+database set =
     (λ words there. none-there there)  -- albumart
     ⊙ (λ words there. from-read IsBaseCounting IsBaseDatabase _ _ (counts words) (λ counting h. h))  -- count
     ⊙ (λ words there. from-read IsBaseSelection IsBaseDatabase _ _ (selects Equals words) (λ selection h. h))  -- find
@@ -221,9 +222,9 @@ database kill =
 abbrev WithoutPlace : {A B : Type 0} → A × B × Option Place → Type 0
 WithoutPlace p = p.2 ≡ None
 
-playlists : (kill : Bool) → Rows IsBasePlaylist kill (playlists_rows (base_set kill))
+playlists : (set : CommandSet) → Rows IsBasePlaylist set (playlists_rows (base_set set))
 unfolding playlists_rows rows_from_playlistadd
-playlists kill =
+playlists set =
     (λ words there. search mapped)  -- listplaylist
     ⊙ (λ words there. search mapped)  -- listplaylistinfo
     ⊙ (λ words there. alone IsBasePlaylist _ words tt)  -- listplaylists
@@ -238,21 +239,21 @@ playlists kill =
     ⊙ tt
 
 -- what is found in them
-module _ (kill : Bool) (word : List ℕ) (words : List (List ℕ)) (there : is_there word (base_set kill) ≡ true) where
-  pub connection-found : Finds IsBaseConnection (found (connection_rows (base_set kill)) word words)
-  connection-found = found-in IsBaseConnection kill (connection_rows (base_set kill)) (connection kill) word words there
+module _ (set : CommandSet) (word : List ℕ) (words : List (List ℕ)) (there : is_there word (base_set set) ≡ true) where
+  pub connection-found : Finds IsBaseConnection (found (connection_rows (base_set set)) word words)
+  connection-found = found-in IsBaseConnection set (connection_rows (base_set set)) (connection set) word words there
 
-  pub status-found : Finds IsBaseStatus (found (status_rows (base_set kill)) word words)
-  status-found = found-in IsBaseStatus kill (status_rows (base_set kill)) (status kill) word words there
+  pub status-found : Finds IsBaseStatus (found (status_rows (base_set set)) word words)
+  status-found = found-in IsBaseStatus set (status_rows (base_set set)) (status set) word words there
 
-  pub queue-found : Finds IsBaseQueue (found (queue_rows (base_set kill)) word words)
-  queue-found = found-in IsBaseQueue kill (queue_rows (base_set kill)) (queue kill) word words there
+  pub queue-found : Finds IsBaseQueue (found (queue_rows (base_set set)) word words)
+  queue-found = found-in IsBaseQueue set (queue_rows (base_set set)) (queue set) word words there
 
   pub options-found : Finds IsBaseOption (found options_rows word words)
-  options-found = found-in IsBaseOption kill options_rows (options kill) word words there
+  options-found = found-in IsBaseOption set options_rows (options set) word words there
 
-  pub database-found : Finds IsBaseDatabase (found (database_rows (base_set kill)) word words)
-  database-found = found-in IsBaseDatabase kill (database_rows (base_set kill)) (database kill) word words there
+  pub database-found : Finds IsBaseDatabase (found (database_rows (base_set set)) word words)
+  database-found = found-in IsBaseDatabase set (database_rows (base_set set)) (database set) word words there
 
-  pub playlists-found : Finds IsBasePlaylist (found (playlists_rows (base_set kill)) word words)
-  playlists-found = found-in IsBasePlaylist kill (playlists_rows (base_set kill)) (playlists kill) word words there
+  pub playlists-found : Finds IsBasePlaylist (found (playlists_rows (base_set set)) word words)
+  playlists-found = found-in IsBasePlaylist set (playlists_rows (base_set set)) (playlists set) word words there

@@ -35,9 +35,9 @@ use Rattle.mpd_command.specs.declared.request.Request.TheVariants.{Run, Refused}
 use Rattle.mpd_command.specs.declared.status.StatusCommand.{StatusCommand}
 use Rattle.mpd_command.specs.declared.status.StatusCommand.TheVariants as status
 
--- the commands of the base profile, with `kill` or without
-abbrev pub base_set : Bool → CommandSet
-base_set kill = record { kill = kill; everyday = false }
+-- the same commands without those of the everyday profile
+abbrev pub base_set : CommandSet → CommandSet
+base_set set = record { kill = set.kill; everyday = false; uptime = set.uptime }
 
 -- a tag is one of the six of the base profile
 abbrev pub IsBaseTag : TagName → Type 0
@@ -110,7 +110,7 @@ IsBaseStatus status.ClearError = Unit {0}
 IsBaseStatus status.CurrentSong = Unit {0}
 IsBaseStatus (status.Idle named) = Unit {0}
 IsBaseStatus status.NoIdle = Unit {0}
-IsBaseStatus status.Stats = ⊥
+IsBaseStatus (status.Stats uptime) = ⊥
 IsBaseStatus (status.Status everyday) = everyday ≡ false
 
 -- `add` is given no place, and the songs of the queue are not listed by URI, found or searched
@@ -196,10 +196,10 @@ IsBase (command.Messages it) = Unit {0}
 IsBase (command.Partitions it) = Unit {0}
 
 -- a line asks for such a command under a name that is there in the base profile, or it is refused
-abbrev pub AsksForBase : Bool → Request → Type 0
-AsksForBase kill (Run name it) = (is_there (text_of name) (base_set kill) ≡ true) × IsBase it
-AsksForBase kill (Refused ack) = Unit {0}
+abbrev pub AsksForBase : CommandSet → Request → Type 0
+AsksForBase set (Run name it) = (is_there (text_of name) (base_set set) ≡ true) × IsBase it
+AsksForBase set (Refused ack) = Unit {0}
 
 -- in the base profile each line does
 abbrev pub BaseAsksForNoMore : Type 0
-BaseAsksForNoMore = (line : List ℕ) (kill : Bool) → AsksForBase kill (request_of line (base_set kill))
+BaseAsksForNoMore = (line : List ℕ) (set : CommandSet) → AsksForBase set (request_of line (base_set set))

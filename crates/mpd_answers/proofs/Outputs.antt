@@ -44,10 +44,12 @@ module _ {P : Type 0} (A : P → Asking → List ℕ → Next → P → Type 0) 
   joined a b c asked more output after o = (λ p. join a b c asked more output after o p, λ last next p. join_last a b c asked more last next output after o p)
 
   module _ (Grown : P → P → Type 0) (stays : (p : P) → Grown p p) (grows : (p q r : P) → Grown p q → Grown q r → Grown p r) where
-    pub one_over : (a b : P) (asked : List Asking) (output : List ℕ) → IsOutput A a asked output b → IsOutputOver A Grown a asked output b
-    one_over a b [] output (n, e) = (n, subst (λ (m : P). Grown a m) (sym e) (stays a))
-    one_over a b (r ∷ rs) output (ns, text, rest, mid, is, are, answers, others) =
-        (ns, text, rest, a, mid, is, are, stays a, answers, one_over mid b rs rest others)
+    module _ (B : P → Asking → List ℕ → Next → P → Type 0)
+        (each : (p : P) (one : Asking) (text : List ℕ) (next : Next) (q : P) → A p one text next q → B p one text next q) where
+      pub one_over : (a b : P) (asked : List Asking) (output : List ℕ) → IsOutput A a asked output b → IsOutputOver B Grown a asked output b
+      one_over a b [] output (n, e) = (n, subst (λ (m : P). Grown a m) (sym e) (stays a))
+      one_over a b (r ∷ rs) output (ns, text, rest, mid, is, are, (next, stays_open, answers), others) =
+          (ns, text, rest, a, mid, is, are, stays a, (next, stays_open, each a r text next mid answers), one_over mid b rs rest others)
 
     over_first : (a b c : P) (asked : List Asking) (notices output : List ℕ) → Grown a b → AreNotices notices → IsOutputOver A Grown b asked output c → IsOutputOver A Grown a asked (notices ++ output) c
     over_first a b c [] notices output h n (o, e) = (notices_join notices output n o, grows a b c h e)

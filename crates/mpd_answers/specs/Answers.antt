@@ -114,3 +114,12 @@ module _ {S : Type 0} (standing : S → Standing) (failed : S → S → Call →
   Answers before (Single line) text next after = RunsLine before line text next after ⊎ RefusesLine before line text next after
   Answers before (Whole list) text next after =
       RunsList before list text next after ⊎ (StopsList before list text next after ⊎ IsEmptyList before list text next after)
+
+-- the same client, who is told for how many seconds the daemon has been running
+abbrev pub at_uptime : Asker → Option ℕ → Asker
+at_uptime asker uptime = record asker { commands = record asker.commands { uptime = uptime } }
+
+-- An answer that is allowed at some time: `stats` shows for how long the daemon has been running.
+abbrev pub AnswersSometime : {S : Type 0} → (S → Standing) → (S → S → Call → Type 0) → Asker → Caller S → Asking → List ℕ → Next → Caller S → Type 0
+AnswersSometime standing failed asker before one text next after =
+    (uptime : Option ℕ) × Answers standing failed (at_uptime asker uptime) before one text next after

@@ -41,10 +41,12 @@ module _ {P : Type 0} (Answers : P → Asking → List ℕ → Next → P → Ty
       → (IsOutput q more then r → IsOutput p (asked ++ more) (output ++ then) r)
       × ((last : Asking) (next : Next) → IsLastOutput q more last next then r → IsLastOutput p (asked ++ more) last next (output ++ then) r)
 
-  -- What is written at once is written over many turns; and what is written in some turns, and then in
+-- A turn answers by `Answers`, and each of the turns by `Sometime`.
+module _ {P : Type 0} (Answers Sometime : P → Asking → List ℕ → Next → P → Type 0) where
+  -- What is written in one turn is written over many turns; and what is written in some turns, and then in
   -- others, is written in all.
   abbrev pub OutputsJoinOver : (P → P → Type 0) → Type 0
   OutputsJoinOver Grown =
-      ((p q : P) (asked : List Asking) (output : List ℕ) → IsOutput p asked output q → IsOutputOver Grown p asked output q)
-      × ((p q r s : P) (asked more : List Asking) (output then : List ℕ) → IsOutputOver Grown p asked output q → Grown q r → IsOutputOver Grown r more then s
-      → IsOutputOver Grown p (asked ++ more) (output ++ then) s)
+      ((p q : P) (asked : List Asking) (output : List ℕ) → IsOutput Answers p asked output q → IsOutputOver Sometime Grown p asked output q)
+      × ((p q r s : P) (asked more : List Asking) (output then : List ℕ) → IsOutputOver Sometime Grown p asked output q → Grown q r → IsOutputOver Sometime Grown r more then s
+      → IsOutputOver Sometime Grown p (asked ++ more) (output ++ then) s)

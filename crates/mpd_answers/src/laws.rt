@@ -1,6 +1,7 @@
 //! Laws of what is asked, and of what may be written for it. A caller that calls one may use it; each does
 //! nothing.
-ghost use Rattle.mpd_answers.specs.Answers.{Answers, HasGrown};
+ghost use Rattle.std.specs.Prelude.{ℕ, Option};
+ghost use Rattle.mpd_answers.specs.Answers.{Answers, AnswersSometime, HasGrown, at_uptime};
 ghost use Rattle.mpd_answers.specs.Output.{OutputsJoin, OutputsJoinOver};
 ghost use Rattle.mpd_answers.specs.Requests.{LinesAskFor, LinesInAnyCut};
 ghost use Rattle.mpd_answers.specs.declared.asker.Asker.{Asker};
@@ -24,7 +25,8 @@ pub fn outputs_join<S: Shelf>()
     ensures { (asker : Asker) → OutputsJoin (Answers S.standing S.failed asker) }
 {}
 
-/// What turns write one after the other is written over many turns, whoever is served between them.
+/// What turns write one after the other is written over many turns, whoever is served between them, and however much time passes.
 pub fn outputs_join_over<S: Shelf>()
-    ensures { (asker : Asker) → OutputsJoinOver (Answers S.standing S.failed asker) HasGrown }
+    ensures { (asker : Asker) (uptime : Option ℕ) → OutputsJoinOver
+        (Answers S.standing S.failed (at_uptime asker uptime)) (AnswersSometime S.standing S.failed asker) HasGrown }
 {}

@@ -1,5 +1,5 @@
 -- The names of commands, in their byte order.
-use Rattle.std.specs.Prelude.{ℕ, Bool, false, not, ◌&&◌, ◌||◌, List, [], ◌∷◌, ◌++◌, Option, codes, if◌then◌else◌, ◌-◌, map, position, slice_index, slice_index_or}
+use Rattle.std.specs.Prelude.{ℕ, Bool, false, not, ◌&&◌, ◌||◌, List, [], ◌∷◌, ◌++◌, Option, None, codes, if◌then◌else◌, ◌-◌, map, position, slice_index, slice_index_or}
 use Rattle.std.specs.Cmp.Lexicographic.{slice_cmp}
 use Rattle.std.specs.List.{list_any, prefix_len}
 use Rattle.std.specs.Option.{option_map}
@@ -32,9 +32,9 @@ abbrev pub sorted : List (List ℕ) → List (List ℕ)
 sorted [] = []
 sorted (name ∷ names) = inserted name (sorted names)
 
--- the commands without `kill` and the everyday profile
+-- the commands without `kill` and the everyday profile, where no time is measured
 abbrev pub fewest : CommandSet
-fewest = record { kill = false; everyday = false }
+fewest = record { kill = false; everyday = false; uptime = None }
 
 -- the names of all tables, in their byte order
 unfoldable pub all_names : List (List ℕ)

@@ -42,6 +42,6 @@ rows set =
     ∷ (codes "currentsong", none status.CurrentSong)
     ∷ (codes "idle", idle set.everyday status.Idle)
     ∷ (codes "noidle", none status.NoIdle)
-    ∷ (codes "stats", none status.Stats)
+    ∷ (codes "stats", none (status.Stats set.uptime))
     ∷ (codes "status", none (status.Status set.everyday))
     ∷ []

@@ -22,8 +22,9 @@ pub enum StatusCommand {
     Idle(Subsystems),
     /// `noidle`: waits no more.
     NoIdle,
-    /// `stats`: how much there is to play, and how long was played.
-    Stats,
+    /// `stats`: how much there is to play, and how long was played; in the daemon first how many seconds it
+    /// has been running.
+    Stats(Option<u64>),
     /// `status`: the state; in the everyday profile the time is in whole seconds too.
     Status(bool),
 }
@@ -39,7 +40,7 @@ pub(crate) fn read(alloc: Global, set: CommandSet, word: &str, words: &[String])
         "currentsong" => none(words, StatusCommand::CurrentSong)?,
         "idle" => StatusCommand::Idle(waited_for(alloc, set.everyday, words)?),
         "noidle" => none(words, StatusCommand::NoIdle)?,
-        "stats" => none(words, StatusCommand::Stats)?,
+        "stats" => none(words, StatusCommand::Stats(set.uptime))?,
         "status" => none(words, StatusCommand::Status(set.everyday))?,
         _ => return Ok(None),
     }))

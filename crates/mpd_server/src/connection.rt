@@ -30,7 +30,7 @@ impl Connection {
     }
 
     /// Gives the session its turn, and says what it came to. Where nothing came by the socket, it is not
-    /// read.
+    /// read. The daemon has been running for so many seconds, where that is known.
     pub(crate) fn turn<L: Ledgers, S: Shelf, R: Wait>(
         &mut self,
         rt: &R,
@@ -38,7 +38,9 @@ impl Connection {
         seat: &mut Seat<L>,
         shelf: &mut S,
         may_read: bool,
+        uptime: Option<u64>,
     ) -> Turn {
+        self.session.set_uptime(uptime);
         let mut reader = Counting::new(Inbox::new(&self.stream, may_read));
         let mut writer = Counting::new(&self.stream);
         let left = self

@@ -88,9 +88,10 @@ impl Slot {
         seat: &mut Seat<L>,
         shelf: &mut S,
         may_read: bool,
+        uptime: Option<u64>,
     ) -> Option<Turn> {
         match &mut self.connection {
-            Some(connection) => Some(connection.turn(rt, house, seat, shelf, may_read)),
+            Some(connection) => Some(connection.turn(rt, house, seat, shelf, may_read, uptime)),
             None => None,
         }
     }

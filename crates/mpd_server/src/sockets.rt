@@ -127,11 +127,12 @@ impl Server {
         shelf: &mut S,
         commands: CommandSet,
     ) -> Result<(), ServeFault> {
+        let start = Instant::now(rt).ok();
         for _ in rt.forever() {
             match self.rounds.next_step() {
                 Step::Sleep(most) => self.sleep(most)?,
                 Step::LetIn => self.let_in(rt, alloc, house, seat, commands),
-                Step::Visit(slot) => self.visit(rt, house, seat, shelf, slot),
+                Step::Visit(slot) => self.visit(rt, house, seat, shelf, slot, start),
                 Step::Ask => self.ask(rt, alloc, house),
                 Step::End => break,
             }
@@ -198,14 +199,17 @@ impl Server {
         seat: &mut Seat<L>,
         shelf: &mut S,
         number: usize,
+        start: Option<Instant>,
     )
         requires { number < 64 }
     {
         let Some(slot) = self.slots.get_mut(number) else {
             return;
         };
-        if let Some(turn) = slot.turn(rt, house, seat, shelf, self.rounds.may_read(number)) {
-            self.rounds.end_turn(number, turn, Instant::now(rt).ok());
+        let (may_read, now) = (self.rounds.may_read(number), Instant::now(rt).ok());
+        let uptime = seconds_between(start, now);
+        if let Some(turn) = slot.turn(rt, house, seat, shelf, may_read, uptime) {
+            self.rounds.end_turn(number, turn, now);
         }
         if self.rounds.owes_notice(number) && slot.tell(rt, house, seat) {
             self.rounds.tell(number);
@@ -220,6 +224,14 @@ impl Server {
         if let Ok(clients) = house.addressees(rt, alloc) {
             self.rounds.call(&clients);
         }
+    }
+}
+
+/// How many whole seconds there are between two times, where both are known.
+fn seconds_between(start: Option<Instant>, end: Option<Instant>) -> Option<u64> {
+    match (start, end) {
+        (Some(start), Some(end)) => Some(end.duration_since(start).as_secs()),
+        _ => None,
     }
 }
 

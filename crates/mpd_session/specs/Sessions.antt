@@ -6,7 +6,7 @@ use Rattle.mpd_text.specs.Lines.Split.{line_of, views}
 use Rattle.counted_devices.specs.declared.call_counts.CallCounts.{CallCounts}
 use Rattle.command_lists.specs.Lists.{LineData}
 use Rattle.counted_player.specs.Seats.{SeatCount}
-use Rattle.mpd_answers.specs.Answers.{Caller, caller}
+use Rattle.mpd_answers.specs.Answers.{Caller, at_uptime, caller}
 use Rattle.mpd_answers.specs.declared.asker.Asker.{Asker}
 use Rattle.transitions.specs.declared.reply.Next.{Next}
 use Rattle.transitions.specs.declared.reply.Next.TheVariants.{Goes, Waits, Closes, Kills}
@@ -79,6 +79,10 @@ pub record SessionData : Type 0 where
 
 abbrev pub session_of : Conversation → SessionData
 session_of c = record { asker = c.asker; held = held_of c; owes = not (is_nothing c.owed); waits = c.waits }
+
+-- a session whose client is told for how many seconds the daemon has been running
+abbrev pub told_uptime : SessionData → Option ℕ → SessionData
+told_uptime s uptime = record s { asker = at_uptime s.asker uptime }
 
 -- whether bytes are not written, or are owed
 abbrev pub has_unsent : SessionData → Bool

@@ -44,7 +44,7 @@ impl Session {
     ghost use Rattle.mpd_session.specs.Sessions.{Blames, GoesOnUnlessShort, HasRunAll, IsWithinLimits};
     ghost use Rattle.mpd_session.specs.Sessions.{ReadsNoMore, StaysClosed, Turns, WritesAll, new_session};
     ghost use Rattle.mpd_session.specs.Sessions.{side};
-    ghost use Rattle.mpd_session.specs.Sessions.{has_unsent as has_unsent_lem, may_wait as may_wait_lem};
+    ghost use Rattle.mpd_session.specs.Sessions.{has_unsent as has_unsent_lem, may_wait as may_wait_lem, told_uptime};
 
     /// The session of a client that the player let in, and what it was greeted with. Nothing was read, and
     /// the greeting is not written yet.
@@ -86,6 +86,14 @@ impl Session {
         ensures { result ≡ may_wait_lem self.now }
     {
         self.conversation.waits && self.conversation.ended.is_none()
+    }
+
+    /// Takes down for how many seconds the daemon has been running, where that is known: `stats` shows it from
+    /// now on.
+    pub fn set_uptime(&mut self, uptime: Option<u64>)
+        ensures { self.new ≡ told_uptime self.old uptime }
+    {
+        self.conversation.asker.commands.uptime = uptime;
     }
 
     /// Reads once, runs the lines that this ends, and writes until the writer would block.

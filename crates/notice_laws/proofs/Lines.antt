@@ -1,5 +1,5 @@
 -- What `status` and `stats` answer are their lines, and each line is the same where nothing is told of it.
-use Rattle.std.proofs.Common.{◌≡◌, ℕ, Bool, true, false, List, [], ◌∷◌, ◌++◌, ◌/◌, length, refl, ap, sym, ◌∙◌, append_assoc, codes, decimal, if◌then◌else◌}
+use Rattle.std.proofs.Common.{◌≡◌, ℕ, Bool, true, false, List, [], ◌∷◌, ◌++◌, length, refl, ap, sym, ◌∙◌, append_assoc, codes, decimal, if◌then◌else◌}
 use Rattle.idle_notes.specs.declared.subsystem.Subsystem.TheVariants as subsystem
 use Rattle.play_order.specs.declared.modes.Modes.{Modes}
 use Rattle.song_queue.specs.State.{entries_of, queue_of}
@@ -12,7 +12,7 @@ use Rattle.player_state.specs.declared.state.Part.{Part}
 use Rattle.transitions.specs.CommandResults.{shows}
 use Rattle.idle_clients.specs.Clients.{Playing, options, playing}
 use Rattle.idle_clients.specs.declared.fingerprint.Options.{Options}
-use Rattle.status_commands.specs.Stats.{library_lines}
+use Rattle.status_commands.specs.Stats.{library_lines, playtime_line, uptime_line}
 use Rattle.status_commands.specs.Status as status
 use Rattle.status_commands.specs.Status.{result_of as status_result}
 use Rattle.notice_laws.specs.Lines.{field, status_lines, text_of, while_going}
@@ -82,9 +82,9 @@ status-is everyday part library =
 
 pub has_lines : HasLines
 unfolding status_result
-has_lines asked everyday part library = (
+has_lines asked everyday uptime part library = (
   ap (λ lines. shows asked lines) (status-is everyday part library),
-  ap (λ l. shows asked (field (codes "playtime") (decimal (part.played / library.rate)) ++ l)) (sym (append-nil (library_lines library))),
+  ap (λ l. shows asked (uptime_line uptime ++ (playtime_line part library ++ l))) (sym (append-nil (library_lines library))),
 )
 
 module _ (p : Passage) (stays : Stays p) where
@@ -125,7 +125,7 @@ module _ (p : Passage) (stays : Stays p) where
       λ i. library_lines (record p.library { songs = songs i; updated = updated i })
 
 pub lines_are_told : LinesAreTold
-lines_are_told p everyday stays = (
+lines_are_told p everyday before after stays = (
   (
     λ h. ap (λ n. field (codes "volume") (decimal n)) (volume_kept p stays h.0),
     (
@@ -178,5 +178,5 @@ lines_are_told p everyday stays = (
       ),
     ),
   ),
-  (λ h. absurd h, (songs-lines p stays, tt)),
+  (λ h. absurd h, (λ h. absurd h, (songs-lines p stays, tt))),
 )

@@ -1,6 +1,6 @@
 -- The lines of `status` and of `stats`, each with the subsystems that tell that it has changed (MPD protocol
 -- reference, Querying MPD's status; which lines nobody tells of is the reference's own choice too).
-use Rattle.std.specs.Prelude.{◌≡◌, ℕ, Bool, ◌/◌, List, [], ◌∷◌, length, Option, Some, None, codes, decimal, if◌then◌else◌}
+use Rattle.std.specs.Prelude.{◌≡◌, ℕ, Bool, List, [], ◌∷◌, length, Option, Some, None, codes, decimal, if◌then◌else◌}
 use Rattle.std.specs.List.{flat_map}
 use Rattle.idle_notes.specs.declared.subsystem.Subsystem.{Subsystem}
 use Rattle.idle_notes.specs.declared.subsystem.Subsystem.TheVariants.{Database, Update, Playlist, Player, Mixer, Options}
@@ -11,7 +11,7 @@ use Rattle.player_core.specs.declared.state.Playback.{Playback}
 use Rattle.player_state.specs.Scans.{running}
 use Rattle.player_state.specs.declared.state.Library.{Library}
 use Rattle.player_state.specs.declared.state.Part.{Part}
-use Rattle.status_commands.specs.Stats.{library_lines}
+use Rattle.status_commands.specs.Stats.{library_lines, playtime_line, uptime_line}
 use Rattle.status_commands.specs.Status.{audio_line, consume_text, current_duration, current_lines, current_time, digit, elapsed_line, error_line, fade_line, next_lines_of, scan_line, single_text, state_text}
 use Rattle.notice_laws.specs.Passages.{IsUntold, Passage}
 
@@ -59,10 +59,11 @@ status_lines everyday part library =
     ∷ told_by (Player ∷ []) (error_line part.player.error)
     ∷ []
 
--- those of `stats`: how long was played is counted on all the time
-abbrev pub stats_lines : Part → Library → List Line
-stats_lines part library =
-    untold (field (codes "playtime") (decimal (part.played / library.rate)))
+-- those of `stats`: for how long the daemon has been running, and how long was played, is counted on all the time
+abbrev pub stats_lines : Option ℕ → Part → Library → List Line
+stats_lines uptime part library =
+    untold (uptime_line uptime)
+    ∷ untold (playtime_line part library)
     ∷ told_by (Database ∷ []) (library_lines library)
     ∷ []
 

@@ -52,7 +52,7 @@ status_tellers status.CurrentSong = Some (Player ∷ Playlist ∷ [])
 status_tellers status.ClearError = None
 status_tellers (status.Idle named) = None
 status_tellers status.NoIdle = None
-status_tellers status.Stats = None
+status_tellers (status.Stats uptime) = None
 status_tellers (status.Status everyday) = None
 
 -- loudness is never made alike, so that nothing has to be told of it

@@ -1,5 +1,5 @@
 -- Two moments whose answers to a command differ have a notice between them.
-use Rattle.std.specs.Prelude.{◌≡◌, Bool, List, [], ◌∷◌, map}
+use Rattle.std.specs.Prelude.{◌≡◌, ℕ, Bool, List, [], ◌∷◌, map, Option}
 use Rattle.idle_notes.specs.Channels.{messages_of}
 use Rattle.idle_notes.specs.declared.subsystem.Subsystem.TheVariants.{Message}
 use Rattle.parts.specs.Openings.{OpeningsData}
@@ -88,12 +88,12 @@ MessagesAreTold =
 
 -- what `status` answers are its lines, and so it is with `stats`
 abbrev pub HasLines : Type 0
-HasLines = (asked : Asked) (everyday : Bool) (part : Part) (library : Library)
+HasLines = (asked : Asked) (everyday : Bool) (uptime : Option ℕ) (part : Part) (library : Library)
     → (status_result asked part library (Status everyday) ≡ shows asked (text_of (status_lines everyday part library)))
-    × (status_result asked part library Stats ≡ shows asked (text_of (stats_lines part library)))
+    × (status_result asked part library (Stats uptime) ≡ shows asked (text_of (stats_lines uptime part library)))
 
 -- each changes where a subsystem that tells of it is raised, if any tells of it
 abbrev pub LinesAreTold : Type 0
-LinesAreTold = (p : Passage) (everyday : Bool) → Stays p
+LinesAreTold = (p : Passage) (everyday : Bool) (before after : Option ℕ) → Stays p
     → ChangeWhereTold p (status_lines everyday p.own p.library) (status_lines everyday p.later (library_of p))
-    × ChangeWhereTold p (stats_lines p.own p.library) (stats_lines p.later (library_of p))
+    × ChangeWhereTold p (stats_lines before p.own p.library) (stats_lines after p.later (library_of p))

@@ -1,5 +1,5 @@
 -- What a daemon's player is opened with, by its settings (this profile's).
-use Rattle.std.specs.Prelude.{◌≡◌, ℕ, zero, suc, Bool, true, false, List, [], ◌∷◌, map, string_bytes}
+use Rattle.std.specs.Prelude.{◌≡◌, ℕ, zero, suc, Bool, true, false, List, [], ◌∷◌, map, None, string_bytes}
 use Rattle.mpd_command.specs.declared.command_set.CommandSet.{CommandSet}
 use Rattle.mpd_text.specs.Songs.Song.{SongData}
 use Rattle.partition.specs.History.{Chronicle, begun}
@@ -60,4 +60,4 @@ IsUnused i = (i.shared.made ≡ no_events) × (i.shared.books ≡ empty_books)
 
 -- what clients may say
 abbrev pub commands_for : Settings → CommandSet
-commands_for settings = record { kill = settings.kill; everyday = settings.everyday }
+commands_for settings = record { kill = settings.kill; everyday = settings.everyday; uptime = None }

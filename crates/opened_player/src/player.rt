@@ -45,6 +45,7 @@ pub fn commands_of(settings: &Settings) -> CommandSet
     CommandSet {
         kill: settings.kill,
         everyday: settings.everyday,
+        uptime: None,
     }
 }
 

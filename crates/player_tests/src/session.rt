@@ -251,6 +251,7 @@ fn request_with_leave(alloc: Global, line: &str) -> Result<Request, AllocError> 
     let commands = CommandSet {
         kill: true,
         everyday: false,
+        uptime: None,
     };
     Request::of_line(alloc, line, commands)
 }

@@ -109,6 +109,7 @@ fn greets<L: Ledgers>(
     let commands = CommandSet {
         kill: may_kill,
         everyday: false,
+        uptime: None,
     };
     let Ok(greeted) = house.notice(rt, seat, News::Comes(client)) else {
         log.told.fail();

@@ -608,5 +608,6 @@ fn all() -> CommandSet {
     CommandSet {
         kill: true,
         everyday: false,
+        uptime: None,
     }
 }

@@ -1,6 +1,6 @@
--- The command that asks how much there is to play, and how long was played (MPD protocol reference, Querying
--- MPD's status: `stats`; how seconds are cut is this profile's).
-use Rattle.std.specs.Prelude.{ℕ, ◌/◌, List, ◌++◌, length, codes, decimal}
+-- The command that asks how long the daemon has been running, how long was played, and how much there is to play
+-- (MPD protocol reference, Querying MPD's status: `stats`; how seconds are cut is this profile's).
+use Rattle.std.specs.Prelude.{ℕ, ◌/◌, List, [], ◌++◌, length, Option, Some, None, codes, decimal}
 use Rattle.mpd_text.specs.Answers.Answer.{pair_line}
 use Rattle.mpd_text.specs.Songs.Song.{SongData}
 use Rattle.mpd_text.specs.declared.songs.song.TagName.{TagName}
@@ -31,6 +31,15 @@ library_lines library =
     tag_lines library.songs
     ++ (song_lines (length library.songs) (playtime library.rate library.songs) ++ pair_line (codes "db_update") (decimal library.updated))
 
--- how long was played, and what there is to play
-abbrev pub stats : Asked → Part → Library → CommandResult
-stats asked part library = shows asked (pair_line (codes "playtime") (decimal (part.played / library.rate)) ++ library_lines library)
+-- for how many seconds the daemon has been running, where that is known
+abbrev pub uptime_line : Option ℕ → List ℕ
+uptime_line None = []
+uptime_line (Some seconds) = pair_line (codes "uptime") (decimal seconds)
+
+-- how long was played
+abbrev pub playtime_line : Part → Library → List ℕ
+playtime_line part library = pair_line (codes "playtime") (decimal (part.played / library.rate))
+
+-- how long the daemon has been running, how long was played, and what there is to play
+abbrev pub stats : Asked → Part → Library → Option ℕ → CommandResult
+stats asked part library uptime = shows asked (uptime_line uptime ++ (playtime_line part library ++ library_lines library))

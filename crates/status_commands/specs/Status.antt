@@ -219,5 +219,5 @@ result_of asked part library status_command.ClearError = clear_error asked
 result_of asked part library status_command.CurrentSong = current_song asked part library
 result_of asked part library (status_command.Idle named) = only shut
 result_of asked part library status_command.NoIdle = only shut
-result_of asked part library status_command.Stats = stats asked part library
+result_of asked part library (status_command.Stats uptime) = stats asked part library uptime
 result_of asked part library (status_command.Status everyday) = status asked part library everyday

@@ -1,8 +1,8 @@
-//! The command that asks how much there is to play, and how long was played (MPD protocol reference, Querying
-//! MPD's status: `stats`).
+//! The command that asks how long the daemon has been running, how long was played, and how much there is to
+//! play (MPD protocol reference, Querying MPD's status: `stats`).
 ghost use Rattle.std.specs.Prelude.{◌≡◌, ◌++◌, ◌/◌, OnOk};
 ghost use Rattle.song_search.specs.Answers.{playtime};
-ghost use Rattle.status_commands.specs.Stats.{library_lines, stats as stats_lem, song_lines, tag_lines};
+ghost use Rattle.status_commands.specs.Stats.{library_lines, stats as stats_lem, song_lines, tag_lines, uptime_line};
 ghost use Rattle.transitions.specs.Transitions.{IsDecidedBy};
 
 use mpd_text::{Answer, TagName};
@@ -18,13 +18,25 @@ pub(crate) fn stats(
     asked: Asked,
     part: &Part,
     library: &Library,
+    uptime: Option<u64>,
 ) -> Result<Transition, AllocError>
-    ensures { IsDecidedBy result (stats_lem asked part.now library.now) }
+    ensures { IsDecidedBy result (stats_lem asked part.now library.now uptime) }
 {
     let mut lines = Answer::new(alloc);
+    push_uptime(&mut lines, uptime)?;
     lines.pair("playtime", played_seconds(part.played, &library.rate))?;
     push_library(alloc, &mut lines, library)?;
     Transition::shows(asked, lines)
+}
+
+/// How many seconds the daemon has been running, where that is known.
+fn push_uptime(lines: &mut Answer, uptime: Option<u64>) -> Result<(), AllocError>
+    ensures { OnOk result (lines.new ≡ lines.old ++ uptime_line uptime) }
+{
+    match uptime {
+        Some(seconds) => lines.pair("uptime", seconds),
+        None => Ok(()),
+    }
 }
 
 /// How many whole seconds so many frames take, cut.

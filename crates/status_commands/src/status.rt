@@ -38,7 +38,7 @@ pub fn run(alloc: Global, asked: Asked, part: &Part, library: &Library, command:
         StatusCommand::CurrentSong => current_song(alloc, asked, part, library),
         StatusCommand::Idle(_) => Ok(Transition::only(shut(alloc))),
         StatusCommand::NoIdle => Ok(Transition::only(shut(alloc))),
-        StatusCommand::Stats => stats(alloc, asked, part, library),
+        StatusCommand::Stats(uptime) => stats(alloc, asked, part, library, *uptime),
         StatusCommand::Status(everyday) => status(alloc, asked, part, library, *everyday),
     }
 }

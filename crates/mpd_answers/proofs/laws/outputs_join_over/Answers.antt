@@ -1,5 +1,5 @@
 use Rattle.std.proofs.Common.{◌∙◌, arith, refl}
-use Rattle.mpd_answers.specs.Answers.{Answers, Caller, HasGrown}
+use Rattle.mpd_answers.specs.Answers.{Answers, AnswersSometime, Caller, HasGrown, at_uptime}
 use Rattle.mpd_answers.proofs.Outputs.{both_over, one_over}
 use Rattle.mpd_answers.proofs.laws.outputs_join_over.Goals as goal
 
@@ -10,5 +10,8 @@ grows : {S : Type 0} (p q r : Caller S) → HasGrown p q → HasGrown q r → Ha
 grows p q r (n, m) (n', m') = (n' ∙ n, omega (arith, m, m'))
 
 pub returns : goal.returns
-returns g c = λ asker.
-    (one_over (Answers g.S.Shelf.standing g.S.Shelf.failed asker) HasGrown stays grows, both_over (Answers g.S.Shelf.standing g.S.Shelf.failed asker) HasGrown stays grows)
+returns g c = λ asker uptime. (
+  one_over (Answers g.S.Shelf.standing g.S.Shelf.failed (at_uptime asker uptime)) HasGrown stays grows
+      (AnswersSometime g.S.Shelf.standing g.S.Shelf.failed asker) (λ p one text next q it. (uptime, it)),
+  both_over (AnswersSometime g.S.Shelf.standing g.S.Shelf.failed asker) HasGrown stays grows,
+)
