@@ -147,7 +147,7 @@ THEOREMS = [
     ('kept_state', 'partitions_of', '', 'kept_state/Partitions', 'IsPlayerTold', ''),
     ('kept_state', 'player_text', '', 'kept_state/Players', 'player_text',
      'kept_state: partitions_give_back; state_laws: partitions_come_back told_partitions_come_back'),
-    ('kept_state', 'tell_lines', '', 'kept_state/Telling', 'TellsSteps', ''),
+    ('kept_state', 'tell_lines', '', 'kept_state/Telling', 'TellsText', ''),
     ('serving', 'Keeper::look', 'state', 'serving/Keeping', 'IsStateThen', ''),
     ('serving', 'restore_text', '', 'serving/Restoring', 'IsTextTold', ''),
     ('command_line', 'command_line', 'asks', 'command_line/Programs', 'Asks', 'command_line: readings'),

@@ -4,7 +4,7 @@ use Rattle.std.specs.Str.Pattern.{FindsTextPrefix}
 use Rattle.std.proofs.lemmas.Bool.{eq-eqb}
 use Rattle.std.proofs.lemmas.Bool.Decides.{eqb_tells}
 use Rattle.kept_state.specs.Heard.{at_last}
-use Rattle.kept_state.specs.Told.{behind}
+use Rattle.kept_state.specs.Told.{Shows, behind}
 
 behind_found : (key rest : List ℕ) → behind key (key ++ rest) ≡ Some rest
 behind_found [] rest = refl
@@ -22,7 +22,7 @@ behind_lacks (b ∷ key) (c ∷ line) lacks =
 -- what `strip_prefix` gives
 pub strip_behind : (key line : List ℕ) (r : Option (Bor (List ℕ)))
     → MatchOption r (FindsTextPrefix key line None) (λ x. (n : ℕ) × FindsTextPrefix key line (Some n) × (x.now ≡ drop n line) × (length x.now + n ≡ length line))
-    → MatchOption r (behind key line ≡ None) (λ x. behind key line ≡ Some x.now)
+    → Shows (behind key line) r
 strip_behind key line None lacks = behind_lacks key line lacks
 strip_behind key line (Some x) (n, found, value, len) =
     ap (behind key) (found.1 ∙ ap (λ rest. key ++ rest) (sym value)) ∙ behind_found key x.now

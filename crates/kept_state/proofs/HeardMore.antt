@@ -41,7 +41,7 @@ up_in_end [] s lines line is = up_in begins_partition lines line s [] is
 up_in_end (t ∷ ts) s lines line is = up_in begins_partition lines line t (ts ++ s ∷ []) is
 
 more_at : (lines : List (List ℕ)) (line : List ℕ) (old new : HeardPlayer) (b is_heard : Bool) (begun : List HeardPartition) → begins_partition line ≡ b
-    → HasHeardAll lines old → BeginsIf b old.partitions.items begun → HearsLast line is_heard begun new.partitions.items
+    → HasHeardAll lines old → BeginsIf b old.partitions.items begun → HearsLast line begun new.partitions.items is_heard
     → new.listed.items ≡ listed_after is_heard line old.listed.items → HasHeardAll (lines ++ line ∷ []) new
 more_at lines line old new true true begun is has (fresh, none, begins) (others, before, after, was, now, more) lists =
     let e = same_end old.partitions.items others fresh before (sym begins ∙ was) in

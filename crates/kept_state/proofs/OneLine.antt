@@ -1,6 +1,6 @@
 -- One line more of a text is told.
 use Rattle.std.proofs.Common.{◌≡◌, ◌∙◌, ◌+◌, ◌<◌, ℕ, suc, Bool, true, false, List, [], ◌∷◌, Result, Ok, Err, IfOk, refl, sym, ap, subst, inl, inr, zero-add, add_assoc, add-one, add-zero, drop, drop-cons, get_or, length}
-use Rattle.kept_state.specs.Telling.{TellsLine, TellsSteps, begins, count_of, ends, is_empty, listed, steps_in, steps_left, within_after}
+use Rattle.kept_state.specs.Telling.{TellsLine, TellsSteps, TellsWithin, begins, count_of, ends, is_empty, listed, steps_in, steps_left, within_after}
 use Rattle.kept_state.specs.declared.telling.Course.{Course}
 use Rattle.kept_state.specs.declared.telling.Course.TheVariants as course
 
@@ -56,7 +56,7 @@ alone_told R line s t (Ok told) other more full heard =
 alone_told R line s t (Err e) other more full heard = heard
 
 within_told : {S E : Type 0} (R : S → List ℕ → Bool → S → Type 0) (line : List ℕ) (s t : S) (r : Result (Bool × Course) E)
-    → begins line ≡ false → ends line ≡ false → is_empty line ≡ false → IfOk r (λ told. R s line told.0 t × (told.1 ≡ within_after told.0))
+    → begins line ≡ false → ends line ≡ false → is_empty line ≡ false → IfOk r (TellsWithin R line s t)
     → IfOk r (λ told. TellsLine R line course.Within told.1 s told.0 t)
 within_told R line s t (Ok told) other more full heard =
     subst (λ at. TellsLine R line course.Within at s told.0 t) (sym heard.1) (within_line R line s t told.0 other more full heard.0)
@@ -73,7 +73,7 @@ alone_at R line at s t r other more full is heard =
     subst (λ a. IfOk r (λ told. TellsLine R line a told.1 s told.0 t)) (sym is) (alone_told R line s t r other more full heard)
 
 pub within_at : {S E : Type 0} (R : S → List ℕ → Bool → S → Type 0) (line : List ℕ) (at : Course) (s t : S) (r : Result (Bool × Course) E)
-    → begins line ≡ false → ends line ≡ false → is_empty line ≡ false → at ≡ course.Within → IfOk r (λ told. R s line told.0 t × (told.1 ≡ within_after told.0))
+    → begins line ≡ false → ends line ≡ false → is_empty line ≡ false → at ≡ course.Within → IfOk r (TellsWithin R line s t)
     → IfOk r (λ told. TellsLine R line at told.1 s told.0 t)
 within_at R line at s t r other more full is heard =
     subst (λ a. IfOk r (λ told. TellsLine R line a told.1 s told.0 t)) (sym is) (within_told R line s t r other more full heard)

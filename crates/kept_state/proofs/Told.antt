@@ -3,7 +3,7 @@ use Rattle.std.proofs.Common.{◌≡◌, ◌∙◌, ℕ, List, [], ◌∷◌, �
 use Rattle.std.specs.Option.{option_and_then}
 use Rattle.std.proofs.lemmas.List.{map-append}
 use Rattle.mpd_text.specs.Answers.Number.{number_of}
-use Rattle.kept_state.specs.Heard.{HasHeard, Hears, Keeps, at_last, options_after, outputs_after, place_after, prioritized, songs_after, switched, text_after}
+use Rattle.kept_state.specs.Heard.{HasHeard, Hears, Keeps, at_last, options_after, outputs_after, outputs_with, place_after, prioritized, songs_after, songs_with, switched, text_after}
 use Rattle.kept_state.specs.Told.{IsTold, Tellings, after_place, at_place, before_place, behind, entry_told, is_on, items, later, number_or_zero, options_told, output_told, outputs_told, place_told, playback_for, song_of, songs_told, tellings, told, told_or, told_within}
 use Rattle.kept_state.specs.declared.answers.Heard.{Heard}
 use Rattle.kept_state.specs.declared.kept.Kept.{Kept}
@@ -132,7 +132,7 @@ tellings_more : (begin key line : List ℕ) (lines : List (List ℕ)) → tellin
 tellings_more begin key line lines = map-append (λ l. (behind begin l, behind key l)) lines (line ∷ [])
 
 outputs_more : (line : List ℕ) (lines : List (List ℕ))
-    → outputs_after (behind (codes "outputid: ") line) (behind (codes "outputenabled: ") line) (outputs_told lines) ≡ outputs_told (lines ++ line ∷ [])
+    → outputs_with line (outputs_told lines) ≡ outputs_told (lines ++ line ∷ [])
 outputs_more line lines =
     let first = behind (codes "outputid: ") line in
     let value = behind (codes "outputenabled: ") line in
@@ -141,7 +141,7 @@ outputs_more line lines =
     ∙ ap (map output_told) (items_more t first value) ∙ outputs_at first value (items t))
 
 songs_more : (line : List ℕ) (lines : List (List ℕ))
-    → songs_after (behind (codes "file: ") line) (behind (codes "Prio: ") line) (songs_told lines) ≡ songs_told (lines ++ line ∷ [])
+    → songs_with line (songs_told lines) ≡ songs_told (lines ++ line ∷ [])
 songs_more line lines =
     let first = behind (codes "file: ") line in
     let value = behind (codes "Prio: ") line in
@@ -157,9 +157,8 @@ heard_more lines line old new has hears = record {
   place = hears.place ∙ ap (place_after (behind (codes "song: ") line)) has.place ∙ place_more line lines;
   state = hears.state ∙ ap (text_after (codes "state: ") line) has.state ∙ text_more (codes "state: ") (codes "stop") line lines;
   elapsed = hears.elapsed ∙ ap (text_after (codes "elapsed: ") line) has.elapsed ∙ text_more (codes "elapsed: ") (codes "0") line lines;
-  outputs = hears.outputs
-      ∙ ap (outputs_after (behind (codes "outputid: ") line) (behind (codes "outputenabled: ") line)) has.outputs ∙ outputs_more line lines;
-  songs = hears.songs ∙ ap (songs_after (behind (codes "file: ") line) (behind (codes "Prio: ") line)) has.songs ∙ songs_more line lines;
+  outputs = hears.outputs ∙ ap (outputs_with line) has.outputs ∙ outputs_more line lines;
+  songs = hears.songs ∙ ap (songs_with line) has.songs ∙ songs_more line lines;
 }
 
 pub kept_told : (lines : List (List ℕ)) (heard : Heard) (kept : Kept) → HasHeard lines heard → Keeps heard kept → IsTold lines kept

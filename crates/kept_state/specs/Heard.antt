@@ -59,6 +59,13 @@ songs_after (Some uri) value songs = songs ++ record { uri = uri; priority = 0 }
 songs_after None None songs = songs
 songs_after None (Some value) songs = at_last (prioritized (number_or_zero value)) songs
 
+-- the outputs and the songs, with what a line tells of them
+abbrev pub outputs_with : List ℕ → List KeptOutput → List KeptOutput
+outputs_with line outputs = outputs_after (behind (codes "outputid: ") line) (behind (codes "outputenabled: ") line) outputs
+
+abbrev pub songs_with : List ℕ → List KeptEntry → List KeptEntry
+songs_with line songs = songs_after (behind (codes "file: ") line) (behind (codes "Prio: ") line) songs
+
 -- what is kept by all that was heard
 pub record Keeps (heard : Heard) (kept : Kept) : Type 0 where
   pub options : kept.options ≡ heard.options
@@ -73,5 +80,5 @@ pub record Hears (line : List ℕ) (old new : Heard) : Type 0 where
   pub place : new.place ≡ place_after (behind (codes "song: ") line) old.place
   pub state : new.state ≡ text_after (codes "state: ") line old.state
   pub elapsed : new.elapsed ≡ text_after (codes "elapsed: ") line old.elapsed
-  pub outputs : new.outputs.items ≡ outputs_after (behind (codes "outputid: ") line) (behind (codes "outputenabled: ") line) old.outputs.items
-  pub songs : new.songs.items ≡ songs_after (behind (codes "file: ") line) (behind (codes "Prio: ") line) old.songs.items
+  pub outputs : new.outputs.items ≡ outputs_with line old.outputs.items
+  pub songs : new.songs.items ≡ songs_with line old.songs.items

@@ -38,10 +38,10 @@ BeginsIf true old new = (fresh : HeardPartition) × HasHeardOf [] fresh × (new 
 abbrev pub Begins : List ℕ → List HeardPartition → List HeardPartition → Type 0
 Begins line old new = BeginsIf (begins_partition line) old new
 
--- a line was heard of the last partition, where there is one
-abbrev pub HearsLast : List ℕ → Bool → List HeardPartition → List HeardPartition → Type 0
-HearsLast line false old new = (old ≡ []) × (new ≡ [])
-HearsLast line true old new =
+-- a line was heard of the last partition, where there is one, and it is said whether there is
+abbrev pub HearsLast : List ℕ → List HeardPartition → List HeardPartition → Bool → Type 0
+HearsLast line old new false = (old ≡ []) × (new ≡ [])
+HearsLast line old new true =
     (others : List HeardPartition) × (before after : HeardPartition) × (old ≡ others ++ before ∷ [])
     × (new ≡ others ++ after ∷ []) × HearsOf line before after
 
@@ -55,7 +55,7 @@ pub record HearsAll (line : List ℕ) (old new : HeardPlayer) : Type 0 where
   pub begun : List HeardPartition
   pub is_heard : Bool
   pub begins : Begins line old.partitions.items begun
-  pub hears : HearsLast line is_heard begun new.partitions.items
+  pub hears : HearsLast line begun new.partitions.items is_heard
   pub lists : new.listed.items ≡ listed_after is_heard line old.listed.items
 
 -- what is kept of a partition by all that was heard of it

@@ -6,6 +6,7 @@ pub mod Partitions
 pub mod PlayerReading
 pub mod Players
 pub mod Reading
+pub mod StateFiles
 pub mod Storing
 pub mod Telling
 pub mod Texts

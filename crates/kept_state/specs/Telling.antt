@@ -1,8 +1,9 @@
 -- How the lines of a state are told (MPD protocol reference, Command lists: the first line of a list that is refused
 -- ends it).
-use Rattle.std.specs.Prelude.{◌≡◌, ◌⊎◌, ◌+◌, ◌==◌, ℕ, Bool, true, false, ◌||◌, List, [], ◌∷◌, codes, length, if◌then◌else◌}
+use Rattle.std.specs.Prelude.{◌≡◌, ◌⊎◌, ◌+◌, ◌==◌, ℕ, Bool, true, false, ◌||◌, List, [], ◌∷◌, codes, length, min, if◌then◌else◌}
 use Rattle.std.specs.List.{before_first, list_any}
 use Rattle.std.specs.Str.{bytes_eq}
+use Rattle.std.specs.Str.Lines.{lines as lines_in}
 use Rattle.kept_state.specs.declared.telling.Course.{Course}
 use Rattle.kept_state.specs.declared.telling.Course.TheVariants as course
 
@@ -47,6 +48,11 @@ TellsSteps {S} R (step ∷ steps) before refused after =
     (next : S) × (of_step of_others : ℕ) × TellsStep R step before of_step next × TellsSteps R steps next of_others after
     × (refused ≡ of_step + of_others)
 
+-- a text is told, and of its lines so many are refused; no more than 2^64 - 1 of them are counted
+abbrev pub TellsText : {S : Type 0} → (S → List ℕ → Bool → S → Type 0) → List ℕ → S → S → ℕ → Type 0
+TellsText R text before after refused =
+    (count : ℕ) × TellsSteps R (steps_in false (lines_in text)) before count after × (refused ≡ min count 18446744073709551615)
+
 -- ---- in the middle of a text
 
 -- what is still told of a text: in a list, of which no line was refused yet, its other lines first
@@ -59,6 +65,10 @@ steps_left course.PassedOver lines = steps_in true lines
 abbrev pub within_after : Bool → Course
 within_after true = course.PassedOver
 within_after false = course.Within
+
+-- a line of a list is told, and it is said whether it is refused, and where in the text the next one stands then
+abbrev pub TellsWithin : {S : Type 0} → (S → List ℕ → Bool → S → Type 0) → List ℕ → S → S → Bool × Course → Type 0
+TellsWithin R line before after told = R before line told.0 after × (told.1 ≡ within_after told.0)
 
 abbrev pub count_of : Bool → ℕ
 count_of true = 1

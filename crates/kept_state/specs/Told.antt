@@ -1,6 +1,7 @@
 -- What a player told of itself, by its answers to `status`, `outputs` and `playlistinfo` (MPD protocol reference,
 -- Querying MPD's status; Audio output devices; The queue). A line tells the value of a key, `KEY: VALUE`.
-use Rattle.std.specs.Prelude.{◌≡◌, ℕ, suc, ◌==◌, Bool, false, List, [], ◌∷◌, Option, Some, None, codes, drop, find, map, option_map, slice_get, take, unwrap_or, if◌then◌else◌}
+use Rattle.std.specs.Prelude.{◌≡◌, ℕ, suc, ◌==◌, Bool, false, List, [], ◌∷◌, Option, Some, None, MatchOption, codes, drop, find, map, option_map, slice_get, take, unwrap_or, if◌then◌else◌}
+use Rattle.std.specs.Borrow.{Bor}
 use Rattle.std.specs.Option.{option_and_then, option_map_or}
 use Rattle.std.specs.Str.{bytes_eq}
 use Rattle.mpd_text.specs.Answers.Number.{number_of}
@@ -19,6 +20,10 @@ abbrev pub behind : List ℕ → List ℕ → Option (List ℕ)
 behind [] line = Some line
 behind (b ∷ bs) [] = None
 behind (b ∷ bs) (c ∷ cs) = if b == c then behind bs cs else None
+
+-- a text that stands there is shown, or nothing where there is none
+abbrev pub Shows : Option (List ℕ) → Option (Bor (List ℕ)) → Type 0
+Shows text shown = MatchOption shown (text ≡ None) (λ value. text ≡ Some value.now)
 
 -- what is told later counts
 abbrev pub later : {A : Type 0} → Option A → Option A → Option A

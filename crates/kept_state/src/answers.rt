@@ -1,8 +1,8 @@
 //! What a player answered of itself.
-ghost use Rattle.std.specs.Prelude.{◌≡◌, [], MatchOption, None, Some, IfOk, OnOk, codes};
+ghost use Rattle.std.specs.Prelude.{◌≡◌, [], IfOk, OnOk};
 ghost use Rattle.std.specs.Str.Lines.{lines};
-ghost use Rattle.kept_state.specs.Heard.{HasHeard, Hears, Keeps, at_last, options_after, outputs_after, prioritized, songs_after, switched, text_after};
-ghost use Rattle.kept_state.specs.Told.{IsTold, after_place, at_place, before_place, behind, number_or_zero, options_told, outputs_told, playback_for, shown_on};
+ghost use Rattle.kept_state.specs.Heard.{HasHeard, Hears, Keeps, at_last, options_after, outputs_with, prioritized, songs_with, switched, text_after};
+ghost use Rattle.kept_state.specs.Told.{IsTold, Shows, after_place, at_place, before_place, behind, number_or_zero, options_told, outputs_told, playback_for, shown_on};
 
 use crate::kept::{Kept, KeptEntry, KeptOptions, KeptOutput, KeptPlayback, KeptSong};
 use mpd_text::{Text, number};
@@ -120,8 +120,7 @@ pub(crate) fn hear_text(
 }
 
 fn hear_output(outputs: &mut Vec<KeptOutput>, line: &str) -> Result<(), AllocError>
-    ensures { OnOk result (
-        outputs.new.items ≡ outputs_after (behind (codes "outputid: ") line.now) (behind (codes "outputenabled: ") line.now) outputs.old.items) }
+    ensures { OnOk result (outputs.new.items ≡ outputs_with line.now outputs.old.items) }
 {
     if let Some(value) = value_behind("outputid: ", line) {
         outputs.push(KeptOutput {
@@ -143,7 +142,7 @@ fn switch_last(outputs: &mut Vec<KeptOutput>, is_on: bool)
 }
 
 fn hear_song(alloc: Global, songs: &mut Vec<KeptEntry>, line: &str) -> Result<(), AllocError>
-    ensures { OnOk result (songs.new.items ≡ songs_after (behind (codes "file: ") line.now) (behind (codes "Prio: ") line.now) songs.old.items) }
+    ensures { OnOk result (songs.new.items ≡ songs_with line.now songs.old.items) }
 {
     if let Some(value) = value_behind("file: ", line) {
         songs.push(KeptEntry {
@@ -166,7 +165,7 @@ fn prioritize_last(songs: &mut Vec<KeptEntry>, priority: u32)
 
 /// What stands in a line behind a key.
 pub(crate) fn value_behind<'l>(key: &str, line: &'l str) -> Option<&'l str>
-    ensures { MatchOption result (behind key.now line.now ≡ None) (λ value. behind key.now line.now ≡ Some value.now) }
+    ensures { Shows (behind key.now line.now) result }
 {
     line.strip_prefix(key)
 }

@@ -107,7 +107,7 @@ fn hear_last(
     partitions: &mut Vec<HeardPartition>,
     line: &str,
 ) -> Result<bool, AllocError>
-    ensures { IfOk result (λ is_heard. HearsLast line.now is_heard partitions.old.items partitions.new.items) }
+    ensures { IfOk result (HearsLast line.now partitions.old.items partitions.new.items) }
 {
     match partitions.pop() {
         Some(partition) => {

@@ -37,13 +37,14 @@ pub struct StateFile<S: Storing + Drop> {
 }
 
 impl<S: Storing + Drop> StateFile<S> {
-    ghost use Rattle.std.specs.Prelude.{◌≡◌, ◌++◌, [], IfOk, OnErr, OnOk, codes, not, string_bytes};
-    ghost use Rattle.std.specs.Str.{bytes_eq};
-    ghost use Rattle.kept_state.specs.Storing.{Keeps};
+    ghost use Rattle.std.specs.Prelude.{◌≡◌, ◌++◌, [], IfOk, OnErr, OnOk, codes, string_bytes};
+    ghost use Rattle.kept_state.specs.StateFiles.{KeepsText};
+    ghost use Rattle.kept_state.specs.Storing.{SaysWhetherOther};
 
     /// The file of this path, into which nothing was written yet.
     pub fn new(alloc: Global, store: S, path: String) -> Result<StateFile<S>, AllocError>
-        ensures file { IfOk result (λ file. (file.store ≡ store) × (string_bytes file.path ≡ string_bytes path)) }
+        ensures store { IfOk result (λ file. file.store ≡ store) }
+        ensures path { IfOk result (λ file. string_bytes file.path ≡ string_bytes path) }
         ensures aside { IfOk result (λ file. string_bytes file.aside ≡ string_bytes path ++ codes ".new") }
         ensures nothing { IfOk result (λ file. string_bytes file.written ≡ []) }
     {
@@ -67,10 +68,9 @@ impl<S: Storing + Drop> StateFile<S> {
     /// the file beside, which then takes the name of this one. So after a stop at any moment the file has the earlier text
     /// or this one. Where that fails, the text is written the next time.
     pub fn keep(&mut self, text: String) -> Result<bool, S::Fault>
-        ensures written { IfOk result (λ is_written. is_written ≡ not (bytes_eq (string_bytes text) (string_bytes self.old.written))) }
+        ensures written { IfOk result (SaysWhetherOther (string_bytes self.old.written) (string_bytes text)) }
         ensures latest { OnOk result (string_bytes self.new.written ≡ string_bytes text) }
-        ensures stored { OnOk result (Keeps S.writes S.renames self.old.store self.new.store
-            (string_bytes self.old.aside) (string_bytes self.old.path) (string_bytes self.old.written) (string_bytes text)) }
+        ensures stored { OnOk result (KeepsText S.writes S.renames self.old self.new (string_bytes text)) }
         ensures failed { OnErr result (self.new.written ≡ self.old.written) }
         ensures names { (self.new.path ≡ self.old.path) × (self.new.aside ≡ self.old.aside) }
     {

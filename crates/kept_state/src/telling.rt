@@ -1,7 +1,6 @@
 //! How the lines of a state are told.
-ghost use Rattle.std.specs.Prelude.{◌≡◌, ◌+◌, ℕ, min, false, IfOk};
-ghost use Rattle.std.specs.Str.Lines.{lines};
-ghost use Rattle.kept_state.specs.Telling.{TellsLine, TellsSteps, count_of, first_word as first_word_lem, is_of_state as is_of_state_lem, steps_in, within_after};
+ghost use Rattle.std.specs.Prelude.{◌≡◌, ◌+◌, min, IfOk};
+ghost use Rattle.kept_state.specs.Telling.{TellsLine, TellsText, TellsWithin, count_of, first_word as first_word_lem, is_of_state as is_of_state_lem};
 
 /// Who is told the lines of a state.
 pub trait Hearer {
@@ -32,8 +31,7 @@ enum Course {
 /// Tells each line of a text, and counts those that are refused. A line that is refused is passed over, and in a command
 /// list those behind it; all others are told, whatever became of those before them.
 pub fn tell_lines<H: Hearer>(hearer: &mut H, text: &str) -> Result<u64, H::Fault>
-    ensures { IfOk result (λ refused. (count : ℕ) × TellsSteps H.hears (steps_in false (lines text.now)) hearer.old count hearer.new
-        × (refused ≡ min count 18446744073709551615)) }
+    ensures { IfOk result (TellsText H.hears text.now hearer.old hearer.new) }
 {
     let mut refused: u64 = 0;
     let mut course = Course::Alone;
@@ -89,7 +87,7 @@ fn tell_alone<H: Hearer>(hearer: &mut H, line: &str) -> Result<(bool, Course), H
 
 /// Tells a line of a command list. Where it is refused, those behind it are passed over.
 fn tell_within<H: Hearer>(hearer: &mut H, line: &str) -> Result<(bool, Course), H::Fault>
-    ensures { IfOk result (λ told. H.hears hearer.old line.now told.0 hearer.new × (told.1 ≡ within_after told.0)) }
+    ensures { IfOk result (TellsWithin H.hears line.now hearer.old hearer.new) }
 {
     if hearer.hear(line)? {
         Ok((true, Course::PassedOver))

@@ -1,5 +1,5 @@
 -- Folders and files on a disk, and what a scan keeps of them (this profile's).
-use Rattle.std.specs.Prelude.{◌≡◌, ℕ, ◌+◌, ◌^◌, ◌<◌, ◌==◌, ◌⊎◌, Bool, true, false, List, [], ◌∷◌, ◌++◌, length, map, Option, Some, None, if◌then◌else◌, All, Contains, IsTrue, IsErrOf, OnOk, Result}
+use Rattle.std.specs.Prelude.{◌≡◌, ℕ, ◌+◌, ◌^◌, ◌<◌, ◌==◌, ◌⊎◌, Bool, true, false, List, [], ◌∷◌, ◌++◌, length, map, Option, Some, None, if◌then◌else◌, All, Contains, IsTrue, IfOk, IsErrOf, OnOk, Result}
 use Rattle.std.specs.List.{flat_map, Any}
 use Rattle.mpd_text.specs.Songs.Song.{SongData, TagData}
 use Rattle.library_scan.specs.declared.content.Content.{Content}
@@ -118,6 +118,23 @@ Tells old new (Some entry) = old ≡ entry ∷ new
 abbrev pub Reads : Tree → Bool → ℕ → List ℕ → Content → Type 0
 Reads tree everyday rate uri content = reading_of content ≡ tree.reading everyday rate uri
 
+-- what a disk answers, where its tree is known: it opens a folder, tells what comes next in one, and reads a file
+abbrev pub OpensFolder : {E : Type 0} → Option Tree → List ℕ → List Entry → Result Bool E → Type 0
+OpensFolder known folder left result = OnTree known (λ tree. IfOk result (Opens (tree.told folder) left))
+
+abbrev pub TellsNext : {E : Type 0} → Option Tree → List Entry → List Entry → Result (Option Entry) E → Type 0
+TellsNext known old new result = OnTree known (λ _. IfOk result (Tells old new))
+
+abbrev pub ReadsFile : {E : Type 0} → Option Tree → Bool → ℕ → List ℕ → Result Content E → Type 0
+ReadsFile known everyday rate uri result = OnTree known (λ tree. IfOk result (Reads tree everyday rate uri))
+
+-- it is said whether a folder is listed whole, and whether all is heard that one has to tell
+abbrev pub SaysIfWhole : {E : Type 0} → Option Tree → List ℕ → Result Bool E → Type 0
+SaysIfWhole known folder result = OnTree known (λ tree. IfOk result (λ all. all ≡ is_whole (tree.told folder)))
+
+abbrev pub SaysIfAllHeard : {E : Type 0} → Option Tree → List Entry → Result Bool E → Type 0
+SaysIfAllHeard known told result = OnTree known (λ tree. IfOk result (λ all. all ≡ never_breaks told))
+
 -- what is heard of a folder of a tree
 abbrev pub told_in : Tree → List ℕ → List Entry
 told_in tree folder = heard_of (tree.told folder)
@@ -152,14 +169,15 @@ pub record Adds (kept : List Kept) (old new : Found) : Type 0 where
   pub folders : new.folders.items ≡ old.folders.items ++ flat_map (λ (k : Kept). k.folders) kept
   pub names : new.names ≡ old.names + length kept
 
--- what is found gains what is kept of a name of a folder, of all that a folder has to tell, of a folder
+-- what is found gains what is kept of a name of a folder, of all that the folder of a disk that is open has to tell, of a
+-- folder
 abbrev pub KeepsName : {X : Type 0} → Option Tree → Bool → ℕ → List ℕ → List ℕ → Found → Found → Result X ScanFault → Type 0
 KeepsName known everyday rate folder name old new result =
     OnTree known (λ tree. OnOk result (Keeps (kept_at tree everyday rate (path_of folder name)) old new))
 
-abbrev pub AddsTold : {X : Type 0} → Option Tree → Bool → ℕ → List ℕ → List Entry → Found → Found → Result X ScanFault → Type 0
-AddsTold known everyday rate folder told old new result =
-    OnTree known (λ tree. OnOk result (Adds (kept_heard tree everyday rate folder told) old new))
+abbrev pub AddsAll : {D X : Type 0} → (D → Option Tree) → (D → List Entry) → D → Bool → ℕ → List ℕ → Found → Found → Result X ScanFault → Type 0
+AddsAll known left disk everyday rate folder old new result =
+    OnTree (known disk) (λ tree. OnOk result (Adds (kept_heard tree everyday rate folder (left disk)) old new))
 
 abbrev pub AddsFolder : {X : Type 0} → Option Tree → Bool → ℕ → List ℕ → Found → Found → Result X ScanFault → Type 0
 AddsFolder known everyday rate folder old new result = OnTree known (λ tree. OnOk result (Adds (kept_in tree everyday rate folder) old new))
@@ -185,6 +203,9 @@ RootListed tree everyday rate found = Holds tree everyday rate ([] ∷ []) found
 -- then each folder that was found was listed
 abbrev pub ListsAll : Tree → Bool → ℕ → Found → Found → Type 0
 ListsAll tree everyday rate old new = RootListed tree everyday rate old → Holds tree everyday rate new.folders.items new
+
+abbrev pub ListsEach : {X : Type 0} → Option Tree → Bool → ℕ → Found → Found → Result X ScanFault → Type 0
+ListsEach known everyday rate old new result = OnTree known (λ tree. OnOk result (ListsAll tree everyday rate old new))
 
 -- more songs than a library has, or more names than a scan looks at
 abbrev pub IsOver : ℕ → ℕ → Type 0
@@ -213,20 +234,24 @@ pub record IsTooLarge (tree : Tree) (everyday : Bool) (rate : ℕ) : Type 0 wher
 abbrev pub OnTooMany : {X : Type 0} → Result X ScanFault → Type 0 → Type 0
 OnTooMany result P = IsErrOf result TooMany → P
 
--- too much is what is kept of a name of a folder, of all that a folder has to tell, of a folder
+-- too much is what is kept of a name of a folder, of all that the folder of a disk that is open has to tell, of a folder
 abbrev pub OverByName : {X : Type 0} → Option Tree → Bool → ℕ → List ℕ → List ℕ → Found → Result X ScanFault → Type 0
 OverByName known everyday rate folder name found result =
     OnTree known (λ tree. OnTooMany result (NoRoom found (kept_at tree everyday rate (path_of folder name))))
 
-abbrev pub OverByTold : {X : Type 0} → Option Tree → Bool → ℕ → List ℕ → List Entry → Found → Result X ScanFault → Type 0
-OverByTold known everyday rate folder told found result =
-    OnTree known (λ tree. OnTooMany result (IsOverWith found (kept_heard tree everyday rate folder told)))
+abbrev pub OverByAll : {D X : Type 0} → (D → Option Tree) → (D → List Entry) → D → Bool → ℕ → List ℕ → Found → Result X ScanFault → Type 0
+OverByAll known left disk everyday rate folder found result =
+    OnTree (known disk) (λ tree. OnTooMany result (IsOverWith found (kept_heard tree everyday rate folder (left disk))))
 
 abbrev pub OverByFolder : {X : Type 0} → Option Tree → Bool → ℕ → List ℕ → Found → Result X ScanFault → Type 0
 OverByFolder known everyday rate folder found result = OnTree known (λ tree. OnTooMany result (IsOverWith found (kept_in tree everyday rate folder)))
 
 abbrev pub RestIsTooLarge : Tree → Bool → ℕ → Found → Type 0
 RestIsTooLarge tree everyday rate found = RootListed tree everyday rate found → IsTooLarge tree everyday rate
+
+-- what else is to be listed is too much
+abbrev pub OverByRest : {X : Type 0} → Option Tree → Bool → ℕ → Found → Result X ScanFault → Type 0
+OverByRest known everyday rate found result = OnTree known (λ tree. OnTooMany result (RestIsTooLarge tree everyday rate found))
 
 -- Why a tree has no scan: its own folder cannot be listed whole, or it has too much, or there is no memory.
 abbrev pub Explains : Tree → Bool → ℕ → ScanFault → Type 0

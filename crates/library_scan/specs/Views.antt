@@ -3,7 +3,7 @@ use Rattle.std.specs.Prelude.{ℕ, List, Option}
 use Rattle.std.specs.declared.io.traits.Read as Read
 use Rattle.counted_devices.specs.declared.device.Failing as Failing
 use Rattle.counted_devices.specs.declared.device.Media as Media
-use Rattle.library_scan.specs.Windows.{IsEnd, from_place, left, whole}
+use Rattle.library_scan.specs.Windows.{IsEnd, IsPastEnd, from_place, left, whole}
 use Rattle.library_scan.specs.declared.window.Windowed.{Windowed}
 
 module _ {M : Type 0} {media : Media.Ghosts M} {read : Read.Ghosts M} {failing : Failing.Ghosts M} where
@@ -19,6 +19,10 @@ module _ {M : Type 0} {media : Media.Ghosts M} {read : Read.Ghosts M} {failing :
   abbrev pub rest_in : Windowed M media read failing → Option (List ℕ)
   rest_in w = from_place w.place (whole_in w)
 
-  -- no byte stands from the window's place on, where the file is as long as was told
+  -- no byte stands from the window's place on
+  abbrev pub IsPastFileEnd : Windowed M media read failing → Type 0
+  IsPastFileEnd w = IsPastEnd (media.all_bytes w.file) w.place
+
+  -- the same, where the file is as long as was told
   abbrev pub IsAtFileEnd : Windowed M media read failing → Type 0
   IsAtFileEnd w = IsEnd (media.all_bytes w.file) w.len w.place

@@ -1,10 +1,10 @@
 -- Files that are read some kilobytes at a time.
-use Rattle.std.specs.Prelude.{◌≡◌, ◌≢◌, ℕ, nat_le, ◌+◌, ◌-◌, ◌==◌, List, length, [], take, drop, Option, Some, None, Result, Ok, Err, if◌then◌else◌}
+use Rattle.std.specs.Prelude.{◌≡◌, ◌≢◌, ℕ, nat_le, ◌+◌, ◌-◌, ◌==◌, List, length, [], take, drop, Option, Some, None, Result, Ok, Err, OnErr, if◌then◌else◌}
 use Rattle.std.specs.IoError.{error_kind}
 use Rattle.std.specs.declared.io.Error.{Error}
 use Rattle.std.specs.declared.io.ErrorKind.TheVariants.{WouldBlock}
 use Rattle.counted_devices.specs.declared.call_counts.CallCounts.{CallCounts}
-use Rattle.counted_devices.specs.CallCounts.{count_up}
+use Rattle.counted_devices.specs.CallCounts.{HasFailed, count_up}
 
 -- all bytes of a file, where they are known and as many as it had when it was looked at
 abbrev pub whole : Option (List ℕ) → ℕ → Option (List ℕ)
@@ -31,6 +31,10 @@ IsPastEnd file place = (all : List ℕ) → file ≡ Some all → drop place all
 -- no byte stands from a place on, where the file is as long as was told
 abbrev pub IsEnd : Option (List ℕ) → ℕ → ℕ → Type 0
 IsEnd file len place = (all : List ℕ) → file ≡ Some all → length all ≡ len → drop place all ≡ []
+
+-- an error comes only where a call of the file failed
+abbrev pub ErrorHasCause : {X : Type 0} → CallCounts → CallCounts → Result X Error → Type 0
+ErrorHasCause old new result = OnErr result (HasFailed old new)
 
 -- what failed is counted with the file, and the calls apart
 abbrev pub with_calls : ℕ → CallCounts → CallCounts

@@ -3,7 +3,7 @@ ghost use Rattle.std.specs.Prelude.{◌≡◌, Option, List, IfOk};
 ghost use Rattle.counted_devices.specs.CallCounts.{NoFewer};
 ghost use Rattle.library_scan.specs.Contents.{UnreadOnFailure};
 ghost use Rattle.library_scan.specs.Faults.{ShutOnFailure, MissedOnFailure, UnseenOnFailure};
-ghost use Rattle.library_scan.specs.Trees.{Tree, OnTree, Opens, Tells, Reads};
+ghost use Rattle.library_scan.specs.Trees.{Tree, OnTree, OpensFolder, ReadsFile, TellsNext};
 ghost use Rattle.library_scan.specs.declared.disk.Entry.{Entry};
 
 use crate::content::Content;
@@ -40,14 +40,14 @@ pub trait Disk: Failing {
     /// Opens a folder in place of the one before; false where it cannot be listed.
     fn open_folder(&mut self, alloc: Global, uri: &str) -> Result<bool, AllocError>
         ensures stays { known_tree self.new ≡ known_tree self.old }
-        ensures open { OnTree (known_tree self.old) (λ tree. IfOk result (Opens (tree.told uri.now) (left self.new))) }
+        ensures open { OpensFolder (known_tree self.old) uri.now (left self.new) result }
         ensures cause { ShutOnFailure (Self.call_counts self.old) (Self.call_counts self.new) result }
         ensures calm { NoFewer (Self.call_counts self.old) (Self.call_counts self.new) };
 
     /// What the folder that was opened last tells next.
     fn next_entry(&mut self, alloc: Global) -> Result<Option<Entry>, AllocError>
         ensures stays { known_tree self.new ≡ known_tree self.old }
-        ensures tells { OnTree (known_tree self.old) (λ _. IfOk result (Tells (left self.old) (left self.new))) }
+        ensures tells { TellsNext (known_tree self.old) (left self.old) (left self.new) result }
         ensures cause { MissedOnFailure (Self.call_counts self.old) (Self.call_counts self.new) result }
         ensures calm { NoFewer (Self.call_counts self.old) (Self.call_counts self.new) };
 
@@ -69,7 +69,7 @@ pub trait Disk: Failing {
     ) -> Result<Content, AllocError>
         ensures stays { known_tree self.new ≡ known_tree self.old }
         ensures left { left self.new ≡ left self.old }
-        ensures reads { OnTree (known_tree self.old) (λ tree. IfOk result (Reads tree everyday rate.now uri.now)) }
+        ensures reads { ReadsFile (known_tree self.old) everyday rate.now uri.now result }
         ensures cause { UnreadOnFailure (Self.call_counts self.old) (Self.call_counts self.new) result }
         ensures calm { NoFewer (Self.call_counts self.old) (Self.call_counts self.new) };
 }

@@ -1,11 +1,11 @@
 //! The scan of a folder.
-ghost use Rattle.std.specs.Prelude.{◌≡◌, ◌≤◌, false, length, All, IfOk, IfErr, IsErrOf, OnOk, IsTrue};
-ghost use Rattle.counted_devices.specs.CallCounts.{HasFailed, NoFewer};
+ghost use Rattle.std.specs.Prelude.{◌≡◌, ◌≤◌, length, All, IfOk, IfErr, OnOk, IsTrue};
+ghost use Rattle.counted_devices.specs.CallCounts.{NoFewer};
 ghost use Rattle.song_db.specs.Library.{InByteOrder};
-ghost use Rattle.library_scan.specs.Faults.{FoundFailed, GivenFailed, unread_in};
+ghost use Rattle.library_scan.specs.Faults.{FoundFailed, GivenFailed, NoFolderOnFailure, ShortOnFailure, unread_in};
 ghost use Rattle.library_scan.specs.Scans.{IsFound, RefusedInOrder};
 ghost use Rattle.library_scan.specs.Steps.{is_song_uri};
-ghost use Rattle.library_scan.specs.Trees.{AddsFolder, AddsTold, Explains, IsLimit, IsScanOf, Keeps, KeepsName, ListsAll, NoRoom, OnTooMany, OnTree, OnceEach, OverByFolder, OverByName, OverByTold, RestIsTooLarge, is_whole, kept_of_file, never_breaks, reading_of};
+ghost use Rattle.library_scan.specs.Trees.{AddsAll, AddsFolder, Explains, IsLimit, IsScanOf, Keeps, KeepsName, ListsEach, NoRoom, OnTooMany, OnTree, OnceEach, OverByAll, OverByFolder, OverByName, OverByRest, SaysIfAllHeard, SaysIfWhole, kept_of_file, reading_of};
 
 use crate::content::{Content, Refusal};
 use crate::disk::{Disk, Entry};
@@ -61,7 +61,7 @@ where
     ensures few { IfOk result (λ scanned. length scanned.songs.items ≤ 100000) }
     ensures refused_order { IfOk result (λ scanned. RefusedInOrder scanned.refused.items) }
     ensures unread { GivenFailed disk.old.call_counts disk.new.call_counts result }
-    ensures no_folder { IsErrOf result ScanFault.NoFolder → HasFailed disk.old.call_counts disk.new.call_counts }
+    ensures no_folder { NoFolderOnFailure disk.old.call_counts disk.new.call_counts result }
 {
     scan_disk(alloc, disk, rate, everyday, watcher)
 }
@@ -84,7 +84,7 @@ pub fn scan_disk<D: Disk, W: Watcher>(
     ensures cause { OnTree (D.known_tree disk.old) (λ tree. IfErr result (Explains tree everyday rate.now)) }
     // Each file that is called unreadable has a call of its own that failed.
     ensures unread { GivenFailed (D.call_counts disk.old) (D.call_counts disk.new) result }
-    ensures no_folder { IsErrOf result ScanFault.NoFolder → HasFailed (D.call_counts disk.old) (D.call_counts disk.new) }
+    ensures no_folder { NoFolderOnFailure (D.call_counts disk.old) (D.call_counts disk.new) result }
 {
     let mut found = Found::new(alloc)?;
     if !list(alloc, disk, "", rate, everyday, &mut found, watcher)? {
@@ -122,12 +122,10 @@ fn list_below<D: Disk, W: Watcher>(
     found: &mut Found,
     watcher: &mut W,
 ) -> Result<(), ScanFault>
-    ensures all { OnTree (D.known_tree disk.old) (λ tree.
-        OnOk result (ListsAll tree everyday rate.now found.old found.new)) }
-    ensures over { OnTree (D.known_tree disk.old) (λ tree.
-        OnTooMany result (RestIsTooLarge tree everyday rate.now found.old)) }
+    ensures all { ListsEach (D.known_tree disk.old) everyday rate.now found.old found.new result }
+    ensures over { OverByRest (D.known_tree disk.old) everyday rate.now found.old result }
     ensures cause { IfErr result (IsLimit found.new) }
-    ensures unread { FoundFailed (D.call_counts disk.old) (D.call_counts disk.new) found.old found.new result }
+    ensures unread { FoundFailed D.call_counts disk.old disk.new found.old found.new result }
     ensures calm { NoFewer (D.call_counts disk.old) (D.call_counts disk.new) }
 {
     let mut at = 1;
@@ -152,11 +150,11 @@ fn list<D: Disk, W: Watcher>(
 ) -> Result<bool, ScanFault>
     ensures stays { D.known_tree disk.new ≡ D.known_tree disk.old }
     ensures adds { AddsFolder (D.known_tree disk.old) everyday rate.now uri.now found.old found.new result }
-    ensures whole { OnTree (D.known_tree disk.old) (λ tree. IfOk result (λ all. all ≡ is_whole (tree.told uri.now))) }
+    ensures whole { SaysIfWhole (D.known_tree disk.old) uri.now result }
     ensures over { OverByFolder (D.known_tree disk.old) everyday rate.now uri.now found.old result }
     ensures cause { IfErr result (IsLimit found.new) }
-    ensures short { IfOk result (λ all. all ≡ false → HasFailed (D.call_counts disk.old) (D.call_counts disk.new)) }
-    ensures unread { FoundFailed (D.call_counts disk.old) (D.call_counts disk.new) found.old found.new result }
+    ensures short { ShortOnFailure (D.call_counts disk.old) (D.call_counts disk.new) result }
+    ensures unread { FoundFailed D.call_counts disk.old disk.new found.old found.new result }
     ensures calm { NoFewer (D.call_counts disk.old) (D.call_counts disk.new) }
 {
     if !disk.open_folder(alloc, uri)? {
@@ -176,14 +174,12 @@ fn list_open<D: Disk, W: Watcher>(
     watcher: &mut W,
 ) -> Result<bool, ScanFault>
     ensures stays { D.known_tree disk.new ≡ D.known_tree disk.old }
-    ensures adds { AddsTold (D.known_tree disk.old) everyday rate.now uri.now (D.left disk.old)
-        found.old found.new result }
-    ensures whole { OnTree (D.known_tree disk.old) (λ tree. IfOk result (λ all. all ≡ never_breaks (D.left disk.old))) }
-    ensures over { OverByTold (D.known_tree disk.old) everyday rate.now uri.now (D.left disk.old)
-        found.old result }
+    ensures adds { AddsAll D.known_tree D.left disk.old everyday rate.now uri.now found.old found.new result }
+    ensures whole { SaysIfAllHeard (D.known_tree disk.old) (D.left disk.old) result }
+    ensures over { OverByAll D.known_tree D.left disk.old everyday rate.now uri.now found.old result }
     ensures cause { IfErr result (IsLimit found.new) }
-    ensures short { IfOk result (λ all. all ≡ false → HasFailed (D.call_counts disk.old) (D.call_counts disk.new)) }
-    ensures unread { FoundFailed (D.call_counts disk.old) (D.call_counts disk.new) found.old found.new result }
+    ensures short { ShortOnFailure (D.call_counts disk.old) (D.call_counts disk.new) result }
+    ensures unread { FoundFailed D.call_counts disk.old disk.new found.old found.new result }
     ensures calm { NoFewer (D.call_counts disk.old) (D.call_counts disk.new) }
 {
     loop {
@@ -216,7 +212,7 @@ fn look_at<D: Disk>(
     ensures over { OverByName (D.known_tree disk.old) everyday rate.now folder.now name.now found.old result }
     ensures names { found.new.names ≡ found.old.names }
     ensures cause { IfErr result (IsLimit found.new) }
-    ensures unread { FoundFailed (D.call_counts disk.old) (D.call_counts disk.new) found.old found.new result }
+    ensures unread { FoundFailed D.call_counts disk.old disk.new found.old found.new result }
     ensures calm { NoFewer (D.call_counts disk.old) (D.call_counts disk.new) }
 {
     let uri = joined(alloc, folder, name)?;

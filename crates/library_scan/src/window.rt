@@ -1,9 +1,9 @@
 //! A file that is read some kilobytes at a time.
-ghost use Rattle.std.specs.Prelude.{None, ◌≡◌, ◌≤◌, ◌<◌, ◌++◌, length, take, min, ◌+◌, ◌-◌, ◌^◌, OnOk, OnErr};
+ghost use Rattle.std.specs.Prelude.{None, ◌≡◌, ◌≤◌, ◌<◌, ◌++◌, length, take, min, ◌+◌, ◌-◌, ◌^◌, OnOk};
 ghost use Rattle.std.specs.Io.{ReadsAtMost};
 ghost use Rattle.std.specs.Io.KnownBytes.{ReadConsumes};
-ghost use Rattle.counted_devices.specs.CallCounts.{NoFewer, HasFailed, CountsCall, one_call, count_up};
-ghost use Rattle.library_scan.specs.Windows.{whole, from_place, left, StandAt, IsPastEnd, FailsAs, with_calls};
+ghost use Rattle.counted_devices.specs.CallCounts.{NoFewer, CountsCall, one_call, count_up};
+ghost use Rattle.library_scan.specs.Windows.{whole, from_place, left, ErrorHasCause, FailsAs, StandAt, with_calls};
 
 use counted_devices::{Failing, Media, Source};
 use std::io;
@@ -31,7 +31,7 @@ pub struct Windowed<M: Media> {
 }
 
 impl<M: Media> Windowed<M> {
-    ghost use Rattle.library_scan.specs.Views.{left_in, IsAtFileEnd};
+    ghost use Rattle.library_scan.specs.Views.{left_in, IsAtFileEnd, IsPastFileEnd};
 
     /// A file of this length, of which nothing was read yet.
     pub fn new(file: M, len: u64) -> Windowed<M>
@@ -85,9 +85,9 @@ impl<M: Media> Windowed<M> {
         ensures place { self.new.place ≡ self.old.place }
         ensures calls { self.new.calls ≡ self.old.calls }
         ensures read { OnOk result (self.new.start ≡ self.old.place) }
-        ensures ends { OnOk result (self.new.filled ≡ 0 → IsPastEnd (M.all_bytes self.old.file) self.old.place) }
+        ensures ends { OnOk result (self.new.filled ≡ 0 → IsPastFileEnd self.old) }
         ensures fails { FailsAs (M.call_counts self.old.file) (M.call_counts self.new.file) result }
-        ensures failed { OnErr result (HasFailed (M.call_counts self.old.file) (M.call_counts self.new.file)) }
+        ensures failed { ErrorHasCause (M.call_counts self.old.file) (M.call_counts self.new.file) result }
         ensures calm { NoFewer (M.call_counts self.old.file) (M.call_counts self.new.file) }
     {
         self.filled = 0;
@@ -106,7 +106,7 @@ impl<M: Media> Windowed<M> {
         ensures calls { self.new.calls ≡ self.old.calls }
         ensures ends { OnOk result (left_in self.new ≡ 0 → IsAtFileEnd self.old) }
         ensures fails { FailsAs (M.call_counts self.old.file) (M.call_counts self.new.file) result }
-        ensures failed { OnErr result (HasFailed (M.call_counts self.old.file) (M.call_counts self.new.file)) }
+        ensures failed { ErrorHasCause (M.call_counts self.old.file) (M.call_counts self.new.file) result }
         ensures calm { NoFewer (M.call_counts self.old.file) (M.call_counts self.new.file) }
     {
         if !self.ahead().is_empty() {
@@ -164,7 +164,7 @@ impl<M: Media> Read for Windowed<M> {
         ensures stays { whole_in self.new ≡ whole_in self.old }
         ensures calls { self.new.calls ≡ count_up self.old.calls }
         ensures fails { FailsAs (M.call_counts self.old.file) (M.call_counts self.new.file) result }
-        ensures failed { OnErr result (HasFailed (M.call_counts self.old.file) (M.call_counts self.new.file)) }
+        ensures failed { ErrorHasCause (M.call_counts self.old.file) (M.call_counts self.new.file) result }
         ensures calm { NoFewer (M.call_counts self.old.file) (M.call_counts self.new.file) }
     {
         self.count_call();

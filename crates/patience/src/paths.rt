@@ -1,5 +1,6 @@
 //! What the outputs write to, and the threads that write for those with patience.
-ghost use Rattle.std.specs.Prelude.{◌≡◌, IfOk, is_some, length, map, vec_len};
+ghost use Rattle.std.specs.Prelude.{◌≡◌, IfOk, is_some, length, vec_len};
+ghost use Rattle.patience.specs.Through.{AreForPatience};
 
 use crate::output_file::{OutputFile, OutputPath};
 use counted_devices::Counting;
@@ -35,7 +36,7 @@ pub fn output_paths<R: Threads + Wait + Clock + Copy + Send + 'static>(
     outputs: &[OutputSettings],
 ) -> Result<OutputPaths<R>, AllocError>
     ensures writers { IfOk result (λ paths. vec_len paths.writers ≡ length outputs.now) }
-    ensures patient { IfOk result (λ r. map is_some r.patient.items ≡ map (λ o. is_some o.patience) outputs.now) }
+    ensures patient { IfOk result (λ paths. AreForPatience paths.patient.items outputs.now) }
 {
     let mut writers = Vec::new(host.alloc());
     let mut patient = Vec::new(host.alloc());

@@ -46,19 +46,19 @@ pub fn patient_output<R: Wait + Copy>(
 }
 
 impl<R: Wait + Copy> Write for PatientWriter<R> {
-    ghost use Rattle.std.specs.Prelude.{◌≡◌, ◌<◌, Some, length, IfErr, IfOk, IsOk};
-    ghost use Rattle.std.specs.IoError.{error_kind};
+    ghost use Rattle.std.specs.Prelude.{◌≡◌, Some, length, IfOk, IsOk};
     ghost use Rattle.std.specs.Io.{WritesAtMost};
     ghost use Rattle.std.specs.Io.KnownBytes.{WriteAppends};
+    ghost use Rattle.patient_output.specs.Writers.{BlocksWhereFull, taken_in};
 
     ghost contents = { λ w. Some (sent w.producer) };
 
     /// All bytes, or none: as the path failed, or `WouldBlock` where the ring has no room for them.
     fn write(&mut self, buf: &[u8]) -> io::Result<usize>
         ensures bound { WritesAtMost result buf.now }
-        ensures bytes { WriteAppends (Some (sent self.old.producer)) (Some (sent self.new.producer)) result buf.now }
+        ensures bytes { WriteAppends (taken_in self.old) (taken_in self.new) result buf.now }
         ensures whole { IfOk result (λ n. n ≡ length buf.now) }
-        ensures full { IfErr result (λ e. error_kind e ≡ ErrorKind.WouldBlock → known_free self.new.producer < length buf.now) }
+        ensures full { BlocksWhereFull (known_free self.new.producer) buf.now result }
     {
         if let Some(kind) = self.passage.fault(&self.rt) {
             return Err(io::Error::from(kind));

@@ -28,6 +28,14 @@ module _ {S : Type 0} (standing : S → Standing) (failed : S → S → Call →
       × ((answer : Handed) × AnswersClient standing failed old new seat 65 (request_of line fewest) answer
       × (refused ≡ answer.told.answer.refused))
 
+  -- the same, by the shelf and the seat that who says it has before and after
+  abbrev pub Says : Speaker S → List ℕ → Speaker S → Bool → Type 0
+  Says old line new refused = IsSaid old.shelf new.shelf old.seat new.seat line refused
+
+  -- the player answers the line
+  abbrev pub AnswersLine : Speaker S → List ℕ → Speaker S → Handed → Type 0
+  AnswersLine old line new answer = AnswersClient standing failed old.shelf new.shelf old.seat 65 (request_of line fewest) answer
+
   abbrev pub IsSaidIf : Bool → S → S → SeatCount → SeatCount → List ℕ → Bool → Type 0
   IsSaidIf true old new seat seat_then line refused = IsSaid old new seat seat_then line refused
   IsSaidIf false old new seat seat_then line refused = (refused ≡ true) × (seat_then ≡ seat) × (new ≡ old)

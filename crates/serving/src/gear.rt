@@ -1,5 +1,6 @@
 //! What the house's threads work with.
-ghost use Rattle.std.specs.Prelude.{◌≡◌, ◌≤◌, IfOk, is_some, map, string_bytes, vec_len};
+ghost use Rattle.std.specs.Prelude.{◌≡◌, ◌≤◌, IfOk, string_bytes, vec_len};
+ghost use Rattle.patience.specs.Through.{AreForPatience};
 
 use crate::folder::FolderScanner;
 use counted_devices::Counting;
@@ -41,7 +42,7 @@ pub(crate) fn gear_of<R: Threads + Wait + Clock + Copy + Send + 'static>(
     ensures rate { IfOk result (λ gear. gear.scanner.rate ≡ settings.now.rate) }
     ensures everyday { IfOk result (λ gear. gear.scanner.everyday ≡ settings.now.everyday) }
     ensures writers { IfOk result (λ gear. vec_len gear.writers ≡ vec_len settings.now.outputs) }
-    ensures patient { IfOk result (λ gear. map is_some gear.patient.items ≡ map (λ o. is_some o.patience) settings.now.outputs.items) }
+    ensures patient { IfOk result (λ gear. AreForPatience gear.patient.items settings.now.outputs.items) }
 {
     let alloc = host.alloc();
     let scanned = String::from_str(alloc, settings.music.as_str())?;

@@ -137,14 +137,11 @@ impl<'h, L: Ledgers, S: Shelf + Drop, R: Wait> Hearer for Restorer<'h, L, S, R> 
 impl<'h, L: Ledgers, S: Shelf + Drop, R: Wait> Restorer<'h, L, S, R> {
     ghost use Rattle.std.specs.Prelude.{◌≡◌, IfOk, OnOk};
     ghost use Rattle.counted_player.specs.Seats.{after_events};
-    ghost use Rattle.held_player.specs.Views.{AnswersClient};
-    ghost use Rattle.mpd_command.specs.Names.{fewest};
-    ghost use Rattle.mpd_command.specs.Requests.{request_of};
-    ghost use Rattle.serving.specs.Restoring.{IsSaid};
+    ghost use Rattle.serving.specs.Restoring.{AnswersLine, Says};
 
     /// Says a line, and whether it is refused.
     fn say(&mut self, line: &str) -> Result<bool, DaemonFault>
-        ensures { IfOk result (IsSaid S.standing S.failed self.old.shelf self.new.shelf self.old.seat self.new.seat line.now) }
+        ensures { IfOk result (Says S.standing S.failed self.old line.now self.new) }
     {
         let answered = self.ask(line)?;
         let reply = answered.reply();
@@ -157,7 +154,7 @@ impl<'h, L: Ledgers, S: Shelf + Drop, R: Wait> Restorer<'h, L, S, R> {
     /// What the player answers to a line of the client.
     fn ask(&mut self, line: &str) -> Result<Answered, DaemonFault>
         ensures made { OnOk result (self.new.seat ≡ after_events self.old.seat 1) }
-        ensures answer { IfOk result (AnswersClient S.standing S.failed self.old.shelf self.new.shelf self.old.seat 65 (request_of line.now fewest)) }
+        ensures answer { IfOk result (AnswersLine S.standing S.failed self.old line.now self.new) }
     {
         let request = Request::of_line(self.host.alloc(), line, CommandSet::base())?;
         self.house

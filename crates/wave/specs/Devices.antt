@@ -29,6 +29,10 @@ ReadFaultHasCause old new r = IsErrOf r ReadFault → HasFailed old new ⊎ Call
 abbrev pub Ends : ℕ → CallCounts → CallCounts → Type 0
 Ends limit old new = HasFailed old new ⊎ ((limit ≤ new.calls) × (new.calls ≤ 2 ^ 64 - 1))
 
+-- a read fault comes only where the device has ended
+abbrev pub ReadFaultEnds : {X : Type 0} → ℕ → CallCounts → CallCounts → Result X WaveFault → Type 0
+ReadFaultEnds limit old new r = IsErrOf r ReadFault → Ends limit old new
+
 -- no count of calls passes the limit
 abbrev pub KeepsTo : ℕ → CallCounts → CallCounts → Type 0
 KeepsTo limit old new = old.calls ≤ limit → new.calls ≤ limit

@@ -1,5 +1,6 @@
 -- The texts that are found while chunks are read.
-use Rattle.std.specs.Prelude.{◌≡◌, ℕ, List, [], ◌∷◌, ◌++◌, length, Bool, true, false, Option, Some, None, MatchOption, IfSome, if◌then◌else◌, codes}
+use Rattle.std.specs.Prelude.{◌≡◌, ℕ, List, [], ◌∷◌, ◌++◌, length, Bool, true, false, Option, Some, None, MatchOption, Result, IfOk, IfSome, if◌then◌else◌, codes}
+use Rattle.std.specs.Borrow.{Bor}
 use Rattle.std.specs.List.{find}
 use Rattle.std.specs.Option.{option_or, option_map}
 use Rattle.std.specs.Str.{bytes_eq}
@@ -14,7 +15,7 @@ use Rattle.wave.specs.declared.found_chunk.FoundChunk.{FoundChunk}
 use Rattle.wave.specs.Chunks.{Chunk}
 use Rattle.wave.specs.Texts.{text_of, counts, items}
 use Rattle.wave.specs.Everyday.{everyday_text, first_named, is_id3}
-use Rattle.wave.specs.Parts.{content_of, chunk_of, file_chunks}
+use Rattle.wave.specs.Parts.{content_of, chunk_of, file_chunks, items_in}
 
 -- the bytes of a name
 abbrev pub letters : ItemName → List ℕ
@@ -41,6 +42,14 @@ base_text content = if counts (text_of content) then Some (text_of content) else
 -- how contents are read in the everyday profile, or in the base profile
 abbrev pub text_in : Bool → List ℕ → Option (List ℕ)
 text_in everyday = if everyday then everyday_text else base_text
+
+-- the text of an item of a file with these bytes
+abbrev pub item_text : Bool → FoundChunk → List ℕ → Option (List ℕ)
+item_text everyday item bytes = text_in everyday (content_of bytes item)
+
+-- that text of a content in the base profile; none where it is skipped
+abbrev pub IsBaseText : List ℕ → Option (Bor (List ℕ)) → Type 0
+IsBaseText content found = MatchOption found (base_text content ≡ None) (λ text. base_text content ≡ Some text.now)
 
 abbrev pub no_texts : Texts
 no_texts = record { inam = None; iart = None; iprd = None; icrd = None; ignr = None; icmt = None; itrk = None; iprt = None; imus = None }
@@ -82,6 +91,13 @@ TakesItem everyday texts item next = (more : List Chunk) → joined (text_in eve
 -- the same of all items of a list
 abbrev pub TakesItems : Bool → Texts → List Chunk → Texts → Type 0
 TakesItems everyday texts found next = (more : List Chunk) → joined (text_in everyday) next more ≡ joined (text_in everyday) texts (found ++ more)
+
+-- what a call gives are these texts with that of an item, or with those of a list, where the device's bytes are known
+abbrev pub GivesWithItem : {E : Type 0} → Option (List ℕ) → Bool → FoundChunk → Texts → Result Texts E → Type 0
+GivesWithItem known everyday item texts r = IfSome known (λ bytes. IfOk r (TakesItem everyday texts (chunk_of bytes item)))
+
+abbrev pub GivesWithList : {E : Type 0} → Option (List ℕ) → Bool → FoundChunk → Texts → Result Texts E → Type 0
+GivesWithList known everyday list texts r = IfSome known (λ bytes. IfOk r (TakesItems everyday texts (items_in bytes list)))
 
 -- this is a file's first chunk for an ID3v2 tag, or it has none
 abbrev pub IsFirstId3 : List ℕ → ℕ → Option FoundChunk → Type 0

@@ -1,5 +1,5 @@
 -- Where chunks lie in the bytes of a file.
-use Rattle.std.specs.Prelude.{◌≡◌, ℕ, ◌<◌, ◌≤◌, List, [], ◌∷◌, length, take, drop, Option, Some, None, MatchOption}
+use Rattle.std.specs.Prelude.{◌≡◌, ℕ, ◌+◌, ◌<◌, ◌≤◌, List, [], ◌∷◌, length, take, drop, Option, Some, None, MatchOption}
 use Rattle.wave.specs.declared.found_chunk.Header.{Header}
 use Rattle.wave.specs.declared.found_chunk.FoundChunk.{FoundChunk}
 use Rattle.wave.specs.Chunks.{Chunk, chunks, first_size}
@@ -22,6 +22,10 @@ chunk_of bytes part = record { name = part.name; size = part.size; content = con
 -- the chunks from a place up to an end
 abbrev pub chunks_within : List ℕ → ℕ → ℕ → List Chunk
 chunks_within bytes at end = chunks (drop at (take end bytes))
+
+-- the items of a list, after its kind of four bytes
+abbrev pub items_in : List ℕ → FoundChunk → List Chunk
+items_in bytes list = chunks_within bytes (list.place + 4) (list.place + list.len)
 
 -- the chunks of a file's first bytes, after its name and kind of twelve bytes
 abbrev pub file_chunks : List ℕ → ℕ → List Chunk

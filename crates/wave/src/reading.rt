@@ -1,12 +1,10 @@
 //! Heads, read from files.
-ghost use Rattle.std.specs.Prelude.{length, ◌≡◌, ◌≤◌, ◌+◌, ◌/◌, ◌^◌, ◌<◌, take, IfSome, IfOk, IfErr, OnErr, IsErrOf};
+ghost use Rattle.std.specs.Prelude.{length, ◌≡◌, ◌≤◌, ◌+◌, ◌/◌, ◌^◌, ◌<◌, take, IfSome, IfErr, OnErr};
 ghost use Rattle.counted_devices.specs.CallCounts.{NoFewer};
-ghost use Rattle.wave.specs.Devices.{Ends, KeepsTo, IsOutside, ReadFaultHasCause};
-ghost use Rattle.wave.specs.Everyday.{file_tags};
+ghost use Rattle.wave.specs.Devices.{Ends, GivesOfBytes, KeepsTo, IsOutside, ReadFaultEnds, ReadFaultHasCause};
 ghost use Rattle.wave.specs.Formats.{block};
 ghost use Rattle.wave.specs.Waves.{is_riff, wave_of};
-ghost use Rattle.wave.specs.Meanings.{MeansWave, MeansChunks};
-ghost use Rattle.wave.specs.Parts.{file_chunks};
+ghost use Rattle.wave.specs.Meanings.{GivesHead, GivesHeadUpTo, GivesTagsUpTo};
 
 use crate::device::{last_call, read_at, size};
 use crate::fault::{Unread, WaveFault};
@@ -33,7 +31,7 @@ pub fn read_head<M: Media>(
     everyday: bool,
 ) -> Result<Head, WaveFault>
     // The head is what the whole bytes mean, and each refusal is the one that they mean.
-    ensures value { IfSome (M.all_bytes media.old) (λ bytes. MeansWave bytes result (wave_of everyday rate bytes)) }
+    ensures value { GivesHead (M.all_bytes media.old) (wave_of everyday rate) result }
     // A fault of the device comes only where it failed, or was called too often, or its count is at its
     // greatest value.
     ensures read_fault { ReadFaultHasCause (M.call_counts media.old) (M.call_counts media.new) result }
@@ -59,9 +57,8 @@ fn head_of_chunks<M: Media>(
     everyday: bool,
 ) -> Result<Head, WaveFault>
     requires { IfSome (M.all_bytes media.old) (λ bytes. end ≤ length bytes) }
-    ensures value { IfSome (M.all_bytes media.old) (λ bytes.
-        MeansChunks everyday rate bytes (file_chunks bytes end) result) }
-    ensures ends { IsErrOf result WaveFault.ReadFault → Ends limit (M.call_counts media.old) (M.call_counts media.new) }
+    ensures value { GivesHeadUpTo (M.all_bytes media.old) end everyday rate result }
+    ensures ends { ReadFaultEnds limit (M.call_counts media.old) (M.call_counts media.new) result }
     ensures stays { M.all_bytes media.new ≡ M.all_bytes media.old }
     ensures keeps { KeepsTo limit (M.call_counts media.old) (M.call_counts media.new) }
     ensures calm { NoFewer (M.call_counts media.old) (M.call_counts media.new) }
@@ -80,8 +77,7 @@ fn read_tags<M: Media>(
     everyday: bool,
 ) -> Result<Vec<Tag>, WaveFault>
     requires { IfSome (M.all_bytes media.old) (λ bytes. end ≤ length bytes) }
-    ensures value { IfSome (M.all_bytes media.old) (λ bytes. IfOk result (λ tags.
-        tags.items ≡ file_tags everyday (file_chunks bytes end))) }
+    ensures value { GivesTagsUpTo (M.all_bytes media.old) end everyday result }
     ensures fault { IfErr result (IsOutside limit (M.call_counts media.old) (M.call_counts media.new)) }
     ensures stays { M.all_bytes media.new ≡ M.all_bytes media.old }
     ensures keeps { KeepsTo limit (M.call_counts media.old) (M.call_counts media.new) }
@@ -97,7 +93,7 @@ fn read_tags<M: Media>(
 
 /// Whether the device begins as a RIFF WAVE file does.
 fn is_riff_at<M: Media>(media: &mut M, limit: u64) -> Result<bool, Unread>
-    ensures value { IfSome (M.all_bytes media.old) (λ bytes. IfOk result (λ found. found ≡ is_riff (take 12 bytes))) }
+    ensures value { GivesOfBytes (M.all_bytes media.old) (λ bytes. is_riff (take 12 bytes)) result }
     ensures stays { M.all_bytes media.new ≡ M.all_bytes media.old }
     ensures ends { OnErr result (Ends limit (M.call_counts media.old) (M.call_counts media.new)) }
     ensures keeps { KeepsTo limit (M.call_counts media.old) (M.call_counts media.new) }

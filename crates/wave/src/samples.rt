@@ -4,7 +4,7 @@ ghost use Rattle.std.specs.Str.{bytes_eq};
 ghost use Rattle.counted_devices.specs.CallCounts.{NoFewer};
 ghost use Rattle.wave.specs.Chunks.{Chunk};
 ghost use Rattle.wave.specs.Formats.{layout_of};
-ghost use Rattle.wave.specs.Devices.{GivesOfBytes, Ends, KeepsTo};
+ghost use Rattle.wave.specs.Devices.{GivesOfBytes, Ends, KeepsTo, ReadFaultEnds};
 ghost use Rattle.wave.specs.Parts.{content_of, format_content, chunk_of};
 ghost use Rattle.wave.specs.Heads.{file_sound, Refuses, MeansSound, sound_after, missing};
 
@@ -33,7 +33,7 @@ pub(crate) fn find_samples<M: Media>(
     ensures value { IfSome (M.all_bytes media.old) (λ bytes. MeansSound bytes result (file_sound rate bytes end)) }
     ensures within { IfOk result (λ found. found.place + found.len ≤ end) }
     ensures fault { IsErrOf result WaveFault.NoMemory → ⊥ }
-    ensures ends { IsErrOf result WaveFault.ReadFault → Ends limit (M.call_counts media.old) (M.call_counts media.new) }
+    ensures ends { ReadFaultEnds limit (M.call_counts media.old) (M.call_counts media.new) result }
     ensures stays { M.all_bytes media.new ≡ M.all_bytes media.old }
     ensures keeps { KeepsTo limit (M.call_counts media.old) (M.call_counts media.new) }
     ensures calm { NoFewer (M.call_counts media.old) (M.call_counts media.new) }
@@ -99,7 +99,7 @@ fn layout_after<M: Media>(
         (λ next. sound_after rate layout (chunk_of bytes part ∷ more) ≡ sound_after rate next more)
         (λ fault. Refuses fault (sound_after rate layout (chunk_of bytes part ∷ more)))) }
     ensures fault { IsErrOf result WaveFault.NoMemory → ⊥ }
-    ensures ends { IsErrOf result WaveFault.ReadFault → Ends limit (M.call_counts media.old) (M.call_counts media.new) }
+    ensures ends { ReadFaultEnds limit (M.call_counts media.old) (M.call_counts media.new) result }
     ensures stays { M.all_bytes media.new ≡ M.all_bytes media.old }
     ensures keeps { KeepsTo limit (M.call_counts media.old) (M.call_counts media.new) }
     ensures calm { NoFewer (M.call_counts media.old) (M.call_counts media.new) }

@@ -1,8 +1,8 @@
 //! The names of the items of lists, and the texts that they hold.
-ghost use Rattle.std.specs.Prelude.{◌≡◌, Some, None, false, IfOk, MatchOption};
+ghost use Rattle.std.specs.Prelude.{◌≡◌, false, IfOk, MatchOption};
 ghost use Rattle.wave.specs.Texts.{counts, CountsAs};
 ghost use Rattle.wave.specs.Everyday.{spelled, everyday_text};
-ghost use Rattle.wave.specs.Found.{IsNameOf, base_text, text_in};
+ghost use Rattle.wave.specs.Found.{IsBaseText, IsNameOf, text_in};
 
 use id3_tags::windows_1252;
 use mpd_text::{Text, has_no_control, up_to_zero};
@@ -84,7 +84,7 @@ fn counted(bytes: &[u8]) -> Option<&str>
 
 /// The text of a content in the base profile, if it is not skipped.
 fn base_text(content: &[u8]) -> Option<&str>
-    ensures { MatchOption result (base_text content.now ≡ None) (λ text. base_text content.now ≡ Some text.now) }
+    ensures { IsBaseText content.now result }
 {
     counted(up_to_zero(content))
 }

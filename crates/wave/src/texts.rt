@@ -4,8 +4,8 @@ ghost use Rattle.std.specs.Str.{bytes_eq};
 ghost use Rattle.counted_devices.specs.CallCounts.{NoFewer};
 ghost use Rattle.wave.specs.Texts.{is_info};
 ghost use Rattle.wave.specs.Devices.{GivesOfBytes, Ends, KeepsTo, IsOutside};
-ghost use Rattle.wave.specs.Parts.{content_of, chunk_of, chunks_within};
-ghost use Rattle.wave.specs.Found.{text_in, file_texts, TakesItem, TakesItems};
+ghost use Rattle.wave.specs.Parts.{content_of, chunk_of};
+ghost use Rattle.wave.specs.Found.{file_texts, item_text, GivesWithItem, GivesWithList};
 
 use crate::device::read_at;
 use crate::fault::{Unread, WaveFault};
@@ -25,7 +25,7 @@ pub(crate) fn read_texts<M: Media>(
     everyday: bool,
 ) -> Result<Texts, WaveFault>
     requires { IfSome (M.all_bytes media.old) (λ bytes. end ≤ length bytes) }
-    ensures value { IfSome (M.all_bytes media.old) (λ bytes. IfOk result (λ texts. texts ≡ file_texts everyday bytes end)) }
+    ensures value { GivesOfBytes (M.all_bytes media.old) (λ bytes. file_texts everyday bytes end) result }
     ensures fault { IfErr result (IsOutside limit (M.call_counts media.old) (M.call_counts media.new)) }
     ensures stays { M.all_bytes media.new ≡ M.all_bytes media.old }
     ensures keeps { KeepsTo limit (M.call_counts media.old) (M.call_counts media.new) }
@@ -79,8 +79,7 @@ fn read_list<M: Media>(
     requires long { 4 ≤ list.len }
     requires within { IfSome (M.all_bytes media.old) (λ bytes. list.place + list.len ≤ length bytes) }
     requires fits { list.place + list.len < 2 ^ 64 }
-    ensures value { IfSome (M.all_bytes media.old) (λ bytes. IfOk result
-        (TakesItems everyday texts (chunks_within bytes (list.place + 4) (list.place + list.len)))) }
+    ensures value { GivesWithList (M.all_bytes media.old) everyday list texts result }
     ensures fault { IfErr result (IsOutside limit (M.call_counts media.old) (M.call_counts media.new)) }
     ensures stays { M.all_bytes media.new ≡ M.all_bytes media.old }
     ensures keeps { KeepsTo limit (M.call_counts media.old) (M.call_counts media.new) }
@@ -105,7 +104,7 @@ fn take_item<M: Media>(
     everyday: bool,
 ) -> Result<Texts, WaveFault>
     requires { IfSome (M.all_bytes media.old) (λ bytes. length (content_of bytes item) ≡ item.len) }
-    ensures value { IfSome (M.all_bytes media.old) (λ bytes. IfOk result (TakesItem everyday texts (chunk_of bytes item))) }
+    ensures value { GivesWithItem (M.all_bytes media.old) everyday item texts result }
     ensures fault { IfErr result (IsOutside limit (M.call_counts media.old) (M.call_counts media.new)) }
     ensures stays { M.all_bytes media.new ≡ M.all_bytes media.old }
     ensures keeps { KeepsTo limit (M.call_counts media.old) (M.call_counts media.new) }
@@ -131,7 +130,7 @@ fn text_at<M: Media>(
     item: FoundChunk,
     everyday: bool,
 ) -> Result<Option<Text>, WaveFault>
-    ensures value { GivesOfBytes (M.all_bytes media.old) (λ bytes. text_in everyday (content_of bytes item)) result }
+    ensures value { GivesOfBytes (M.all_bytes media.old) (item_text everyday item) result }
     ensures fault { IfErr result (IsOutside limit (M.call_counts media.old) (M.call_counts media.new)) }
     ensures stays { M.all_bytes media.new ≡ M.all_bytes media.old }
     ensures keeps { KeepsTo limit (M.call_counts media.old) (M.call_counts media.new) }
