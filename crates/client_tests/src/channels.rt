@@ -3,7 +3,7 @@ use idle_notes::{ChannelFault, Channels, Message, is_channel_name};
 use std::alloc::{AllocError, Global};
 use std::mem;
 use std::test::Fail;
-use wanted::{Told, wants};
+use test_texts::{Told, wants};
 
 /// A call.
 #[derive(Clone, Copy)]

@@ -2,7 +2,7 @@
 use command_lists::{CommandList, ListCollector, ListForm, ListLine, Taken};
 use std::alloc::{AllocError, Global};
 use std::test::Fail;
-use wanted::{Told, wants};
+use test_texts::{Told, wants};
 
 /// Adds the form of a list, and each line after a bar.
 fn add_list(told: &mut Told, list: &CommandList) {

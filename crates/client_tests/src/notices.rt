@@ -3,7 +3,7 @@ use idle_notes::{Pending, SUBSYSTEMS, Subsystem, Subsystems};
 use mpd_text::Answer;
 use std::alloc::{AllocError, Global};
 use std::test::Fail;
-use wanted::wants;
+use test_texts::wants;
 
 /// A call, and what it answers.
 #[derive(Clone, Copy)]

@@ -22,7 +22,7 @@ use std::time::Clock;
 
 /// What the thread of an output takes with it.
 #[derive(Drop)]
-struct Post<L: Ledgers, O, G> {
+struct OutputArguments<L: Ledgers, O, G> {
     gate: Arc<G, Global>,
     output: usize,
     writer: O,
@@ -35,19 +35,19 @@ struct Post<L: Ledgers, O, G> {
 fn drain<L: Ledgers, O: Sink + Drop, G: Gate + Drop, R: Wait + Clock + Copy>(
     rt: R,
     house: Arc<House<L>, Global>,
-    post: Post<L, O, G>,
+    arguments: OutputArguments<L, O, G>,
     drainer: Drainer,
 ) -> OutputEnd<L>
     requires { has_failed drainer ≡ false }
     ensures ring { SameDrainer drainer result.drainer }
-    ensures runs { HasRun post.output drainer result.drainer }
+    ensures runs { HasRun arguments.output drainer result.drainer }
 {
-    let Post {
+    let OutputArguments {
         gate,
         output,
         writer,
         shares,
-    } = post;
+    } = arguments;
     Draining::new(&rt, &*house, &*gate, output, writer, shares).run(drainer)
 }
 
@@ -60,15 +60,15 @@ fn start_thread<
 >(
     rt: R,
     house: Arc<House<L>, Global>,
-    post: Post<L, O, G>,
+    arguments: OutputArguments<L, O, G>,
     drainer: Drainer,
 ) -> Result<PromisedHandle<OutputEnd<L>, OfOutput>, AllocError>
     requires { has_failed drainer ≡ false }
-    ensures output { IfOk result (λ handle. handle.promise.output ≡ post.output) }
+    ensures output { IfOk result (λ handle. handle.promise.output ≡ arguments.output) }
     ensures drainer { IfOk result (λ handle. handle.promise.drainer.value ≡ drainer) }
 {
     let of_output = OfOutput {
-        output: post.output,
+        output: arguments.output,
         drainer: Snapshot::of(&drainer),
     };
     let handle = thread::spawn_with(
@@ -76,8 +76,8 @@ fn start_thread<
         of_output,
         move || -> OutputEnd<L>
             requires { has_failed drainer ≡ false }
-            ensures { HandsBack post.output drainer result.drainer }
-        { drain(rt, house, post, drainer) },
+            ensures { HandsBack arguments.output drainer result.drainer }
+        { drain(rt, house, arguments, drainer) },
     )?;
     Ok(handle)
 }
@@ -110,12 +110,12 @@ pub(crate) fn start_output<
     let house = Arc::try_clone(house)?;
     let gate = Arc::try_clone(gate)?;
     let first = Snapshot::of(&feeder);
-    let post = Post {
+    let arguments = OutputArguments {
         gate,
         output,
         writer,
         shares,
     };
-    let handle = start_thread(rt, house, post, drainer)?;
+    let handle = start_thread(rt, house, arguments, drainer)?;
     Ok((OutputRun { handle, first }, feeder))
 }

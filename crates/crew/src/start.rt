@@ -59,7 +59,7 @@ pub struct Crew<L: Ledgers> {
 
 /// What a decoder's thread takes with it.
 #[derive(Drop)]
-struct Bench<L: Ledgers, S> {
+struct DecoderArguments<L: Ledgers, S> {
     alloc: Global,
     source: S,
     rate: u32,
@@ -75,21 +75,21 @@ struct Bench<L: Ledgers, S> {
 fn decode<L: Ledgers, S: SongSource<M> + Drop, M: Media + Drop, R: Wait + Clock + Copy>(
     rt: R,
     house: Arc<House<L>, Global>,
-    bench: Bench<L, S>,
+    arguments: DecoderArguments<L, S>,
     feeders: Vec<Feeder>,
 ) -> DecoderEnd<L>
-    requires { (bench.room.items ≡ []) × (vec_len feeders ≤ vec_capacity bench.room) }
+    requires { (arguments.room.items ≡ []) × (vec_len feeders ≤ vec_capacity arguments.room) }
     ensures rings { Each EndsFeeder feeders.items result.ends.items }
-    ensures decodes { RunsDecoder bench.rate feeders.items result.ends.items }
+    ensures decodes { RunsDecoder arguments.rate feeders.items result.ends.items }
 {
-    let Bench {
+    let DecoderArguments {
         alloc,
         source,
         rate,
         ring,
         share,
         room,
-    } = bench;
+    } = arguments;
     let decoder: Decoder<L, S, M, R> = Decoder::new(&rt, alloc, &*house, source, rate, ring, share);
     decoder.run(feeders, room)
 }
@@ -103,24 +103,24 @@ fn start_thread<
 >(
     rt: R,
     house: Arc<House<L>, Global>,
-    bench: Bench<L, S>,
+    arguments: DecoderArguments<L, S>,
     feeders: Vec<Feeder>,
 ) -> Result<PromisedHandle<DecoderEnd<L>, OfFeeders>, AllocError>
-    requires { (bench.room.items ≡ []) × (vec_len feeders ≤ vec_capacity bench.room) }
-    ensures rate { IfOk result (λ handle. handle.promise.rate ≡ bench.rate) }
+    requires { (arguments.room.items ≡ []) × (vec_len feeders ≤ vec_capacity arguments.room) }
+    ensures rate { IfOk result (λ handle. handle.promise.rate ≡ arguments.rate) }
     ensures feeders { IfOk result (λ handle. handle.promise.feeders.value ≡ feeders) }
 {
     let of_feeders = OfFeeders {
-        rate: bench.rate,
+        rate: arguments.rate,
         feeders: Snapshot::of(&feeders),
     };
     let handle = thread::spawn_with(
         &rt,
         of_feeders,
         move || -> DecoderEnd<L>
-            requires { (bench.room.items ≡ []) × (vec_len feeders ≤ vec_capacity bench.room) }
-            ensures { HandsBackAll bench.rate feeders.items result.ends.items }
-        { decode::<L, S, M, R>(rt, house, bench, feeders) },
+            requires { (arguments.room.items ≡ []) × (vec_len feeders ≤ vec_capacity arguments.room) }
+            ensures { HandsBackAll arguments.rate feeders.items result.ends.items }
+        { decode::<L, S, M, R>(rt, house, arguments, feeders) },
     )?;
     Ok(handle)
 }
@@ -194,7 +194,7 @@ pub fn start_decoder<
         ends: room,
     } = make_rooms(alloc, runs.len(), feeders.len())?;
     let house = Arc::try_clone(house)?;
-    let bench = Bench {
+    let arguments = DecoderArguments {
         alloc,
         source,
         rate,
@@ -202,7 +202,7 @@ pub fn start_decoder<
         share,
         room,
     };
-    let decoder = start_thread::<L, S, M, R>(rt, house, bench, feeders)?;
+    let decoder = start_thread::<L, S, M, R>(rt, house, arguments, feeders)?;
     Ok(Crew {
         decoder,
         outputs: runs,

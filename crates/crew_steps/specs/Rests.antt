@@ -16,14 +16,14 @@ rest_for blocks rate = max 1000 (min 100000 (microseconds_of (min 4 blocks * 102
 -- Whether frames are taken fast: since its last rest the decoder decoded more blocks than a rest is for, and one that
 -- went while the rest was over late.
 abbrev pub is_fast_after : ℕ → ℕ → Bool
-is_fast_after blocks streak = nat_lt (blocks + 1) streak
+is_fast_after blocks since_rest = nat_lt (blocks + 1) since_rest
 
 -- How many microseconds the decoder rests after so many blocks: 100 where frames are taken fast, else twice as long as
 -- before, and no longer than it may.
 abbrev pub next_rest : ℕ → ℕ → ℕ → ℕ → ℕ
-next_rest blocks streak before longest = if is_fast_after blocks streak then 100 else min (2 * before) longest
+next_rest blocks since_rest before longest = if is_fast_after blocks since_rest then 100 else min (2 * before) longest
 
--- how many seconds the decoder rests at most where nothing is played and it does not look by time: one while frames wait
--- for room in a ring, and an hour while none do
+-- how many seconds the decoder rests at most where nothing is played and it does not poll: one while frames wait for room
+-- in a ring, and an hour while none do
 abbrev pub idle_seconds : Bool → ℕ
 idle_seconds owes = if owes then 1 else 3600

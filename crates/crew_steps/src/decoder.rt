@@ -29,7 +29,7 @@ use std::time::{Clock, Duration};
 const PAUSE: u64 = 50;
 
 /// How often it looks at full rings before it rests, where it decoded several blocks without a rest.
-const LOOKS: u32 = 200;
+const SPINS: u32 = 200;
 
 /// How many microseconds it rests after more blocks than a rest is for: frames are taken fast.
 const SHORT_REST: u64 = 100;
@@ -42,8 +42,8 @@ const MOST_BLOCKS: u64 = 4;
 
 const LONGEST_REST: u64 = 100_000;
 
-/// How often it looks by time at rings into which no frame goes, before it looks each second.
-const VAIN_LOOKS: u32 = 16;
+/// How often it polls rings into which no frame goes, before it polls them each second.
+const MOST_POLLS: u32 = 16;
 
 /// After how many jobs, given one after the other, it asks again which partitions there are.
 const JOBS_IN_A_ROW: u8 = 16;
@@ -81,9 +81,9 @@ pub struct Decoder<'h, L: Ledgers, S: SongSource<M> + Drop, M: Media + Drop, R: 
     /// How many microseconds it rests now.
     wait: u64,
     /// How many blocks it decoded since its last rest.
-    streak: u64,
-    /// How often it rested since a frame went into a ring.
-    vain: u32,
+    since_rest: u64,
+    /// How often it rested to poll the rings since a frame went into one.
+    polls_without_progress: u32,
     /// Of the first eight rings those that had no room, however often it looked.
     stalled: [bool; 8],
     ghost part: { share.parts ≡ 1 },
@@ -197,8 +197,8 @@ impl<'h, L: Ledgers, S: SongSource<M> + Drop, M: Media + Drop, R: Wait + Clock> 
             blocks,
             look: time_of(blocks, rate),
             wait: SHORT_REST,
-            streak: 0,
-            vain: 0,
+            since_rest: 0,
+            polls_without_progress: 0,
             stalled: [false; 8],
         }
     }
@@ -335,8 +335,8 @@ impl<'h, L: Ledgers, S: SongSource<M> + Drop, M: Media + Drop, R: Wait + Clock> 
         ensures passed { self.new.idle ≡ passed_after self.old.idle partitions }
         ensures seen { self.new.seen ≡ seen_by self.old.idle self.old.seen changes }
         // A rest ends what it decoded without one.
-        ensures rests { all_passed self.old.idle partitions ≡ true → self.new.streak ≡ 0 }
-        ensures goes_on { all_passed self.old.idle partitions ≡ false → self.new.streak ≡ self.old.streak }
+        ensures rests { all_passed self.old.idle partitions ≡ true → self.new.since_rest ≡ 0 }
+        ensures goes_on { all_passed self.old.idle partitions ≡ false → self.new.since_rest ≡ self.old.since_rest }
         ensures rate { self.new.songs.rate ≡ self.old.songs.rate }
     {
         self.given = 0;
@@ -365,10 +365,14 @@ impl<'h, L: Ledgers, S: SongSource<M> + Drop, M: Media + Drop, R: Wait + Clock> 
         ensures kept { Each TakesNone feeders.old.items feeders.new.items }
         ensures rate { self.new.songs.rate ≡ self.old.songs.rate }
     {
-        let looks = if self.is_fast() { LOOKS } else { 1 };
-        for _ in 0..looks {
+        let spins = if self.is_fast() { SPINS } else { 1 };
+        for _ in 0..spins {
             let pushed = push_all(feeders);
-            self.vain = if pushed.moves { 0 } else { self.vain };
+            self.polls_without_progress = if pushed.moves {
+                0
+            } else {
+                self.polls_without_progress
+            };
             let owes = owing(feeders);
             if are_among(owes, self.stalled) {
                 self.stalled = owes;
@@ -376,7 +380,7 @@ impl<'h, L: Ledgers, S: SongSource<M> + Drop, M: Media + Drop, R: Wait + Clock> 
             }
             thread::yield_now();
         }
-        if looks > 1 {
+        if spins > 1 {
             self.stalled = owing(feeders);
         }
     }
@@ -419,7 +423,7 @@ impl<'h, L: Ledgers, S: SongSource<M> + Drop, M: Media + Drop, R: Wait + Clock> 
         ensures feeds { FeedsRead place job.now read result self.old feeders.old self.new feeders.new }
         ensures songs { self.new.songs ≡ self.old.songs }
     {
-        self.streak = self.streak.saturating_add(1);
+        self.since_rest = self.since_rest.saturating_add(1);
         let told = self.have(place, job.number, read.frames.len() as u64);
         hand_out(self.rt, feeders, job, read, &told);
         told
@@ -444,7 +448,7 @@ impl<'h, L: Ledgers, S: SongSource<M> + Drop, M: Media + Drop, R: Wait + Clock> 
     /// Opens the song of this id as the current one, unless it is open.
     fn open_current(&mut self, place: u8, id: u32) -> Result<(), NoFrames>
         ensures open { OnOk result (is_song place id (open_of self.new).current ≡ true) }
-        ensures shut { OnErr result (is_song place id (open_of self.new).current ≡ false) }
+        ensures closed { OnErr result (is_song place id (open_of self.new).current ≡ false) }
         ensures fault { IfErr result (IsFaultOf false) }
         ensures cause { IfFailed false result (IsNotOpenedBy self.old place id) }
         ensures kept { KeepsSeat self.old self.new }
@@ -459,7 +463,7 @@ impl<'h, L: Ledgers, S: SongSource<M> + Drop, M: Media + Drop, R: Wait + Clock> 
     /// Opens the song that a job fades into as the partner, if it fades, unless it is open.
     fn open_partner(&mut self, place: u8, fade: Option<FadePart>) -> Result<(), NoFrames>
         ensures open { OnOk result (is_partner place fade (open_of self.new).partner ≡ true) }
-        ensures shut { OnErr result (is_partner place fade (open_of self.new).partner ≡ false) }
+        ensures closed { OnErr result (is_partner place fade (open_of self.new).partner ≡ false) }
         ensures fault { IfErr result (IsFaultOf true) }
         ensures cause { IfFailed true result (PartnerIsNotOpenedBy self.old place fade) }
         ensures current { (open_of self.new).current ≡ (open_of self.old).current }
@@ -482,7 +486,7 @@ impl<'h, L: Ledgers, S: SongSource<M> + Drop, M: Media + Drop, R: Wait + Clock> 
         ensures other { KeepsOther partner (open_of self.old) (open_of self.new) }
         ensures fault { IfErr result (IsFaultOf partner) }
         ensures cause { IfFailed partner result (IsNotOpenedBy self.old place id) }
-        ensures shut { OnErr result (open_of self.new ≡ open_of self.old) }
+        ensures unchanged { OnErr result (open_of self.new ≡ open_of self.old) }
         ensures kept { KeepsSeat self.old self.new }
         ensures rate { self.new.songs.rate ≡ self.old.songs.rate }
     {
@@ -529,16 +533,16 @@ impl<'h, L: Ledgers, S: SongSource<M> + Drop, M: Media + Drop, R: Wait + Clock> 
     /// Whether it decoded more blocks since its last rest than that was for, and one that went while the rest
     /// was over late: frames are taken fast.
     fn is_fast(&self) -> bool
-        ensures { result ≡ is_fast_after self.now.blocks self.now.streak }
+        ensures { result ≡ is_fast_after self.now.blocks self.now.since_rest }
     {
-        self.streak > self.blocks.saturating_add(1)
+        self.since_rest > self.blocks.saturating_add(1)
     }
 
-    /// Rests until something changes. While frames still leave the rings it looks by time, since nothing
+    /// Rests until something changes. While frames still leave the rings it polls them, since nothing
     /// tells of them, whether a song is played or the last one has ended.
     fn rest(&mut self, seen: u64, owes: bool)
-        ensures rests { self.new.streak ≡ 0 }
-        ensures wait { self.new.wait ≡ next_rest self.old.blocks self.old.streak self.old.wait self.old.look }
+        ensures rests { self.new.since_rest ≡ 0 }
+        ensures wait { self.new.wait ≡ next_rest self.old.blocks self.old.since_rest self.old.wait self.old.look }
         ensures kept { (self.new.idle ≡ self.old.idle) × (self.new.seen ≡ self.old.seen) }
         ensures rate { self.new.songs.rate ≡ self.old.songs.rate }
     {
@@ -547,18 +551,18 @@ impl<'h, L: Ledgers, S: SongSource<M> + Drop, M: Media + Drop, R: Wait + Clock> 
         } else {
             self.wait.saturating_mul(2).min(self.look)
         };
-        self.streak = 0;
+        self.since_rest = 0;
         let wait = Duration::from_micros(self.wait);
-        let looks = owes && self.vain < VAIN_LOOKS;
-        self.vain = if looks {
-            self.vain.saturating_add(1)
+        let polls = owes && self.polls_without_progress < MOST_POLLS;
+        self.polls_without_progress = if polls {
+            self.polls_without_progress.saturating_add(1)
         } else {
-            self.vain
+            self.polls_without_progress
         };
-        if looks && self.wait <= LONGEST_SLEEP {
+        if polls && self.wait <= LONGEST_SLEEP {
             thread::sleep(self.rt, wait);
         } else {
-            let idle = if looks { wait } else { idle_rest(owes) };
+            let idle = if polls { wait } else { idle_rest(owes) };
             let _ = self.house.rest(self.rt, seen, wait, idle);
         }
     }
@@ -568,7 +572,7 @@ impl<'h, L: Ledgers, S: SongSource<M> + Drop, M: Media + Drop, R: Wait + Clock> 
     }
 }
 
-/// How long it rests at most where nothing is played, and it does not look by time.
+/// How long it rests at most where nothing is played, and it does not poll the rings.
 fn idle_rest(owes: bool) -> Duration
     ensures { as_nanos result ≡ idle_seconds owes * 1_000_000_000 }
 {

@@ -31,7 +31,7 @@ const SOON: u64 = 100;
 const PAUSE: u64 = 20;
 
 /// How often it looks at an empty ring before it has its turn, where several hands came without a rest.
-const LOOKS: u32 = 200;
+const SPINS: u32 = 200;
 
 /// An output that runs: it writes or discards the frames of its ring.
 #[derive(Drop)]
@@ -48,7 +48,7 @@ pub struct Draining<'h, L: Ledgers, O: Sink + Drop, G: Gate, R: Wait + Clock> {
     /// How often the house had changed when it last looked for frames.
     seen: u64,
     /// How many hands came since its last rest.
-    streak: u64,
+    since_rest: u64,
     ghost parts: { HasOnePart shares },
     ghost own: { seat.number ≡ 5 + min output 7 },
 }
@@ -83,7 +83,7 @@ impl<'h, L: Ledgers, O: Sink + Drop, G: Gate, R: Wait + Clock> Draining<'h, L, O
             failed: false,
             shares,
             seen: 0,
-            streak: 0,
+            since_rest: 0,
         }
     }
 
@@ -127,7 +127,7 @@ impl<'h, L: Ledgers, O: Sink + Drop, G: Gate, R: Wait + Clock> Draining<'h, L, O
             self.pause();
             return None;
         }
-        let popped = fill(drainer, if self.streak > 1 { LOOKS } else { 1 });
+        let popped = fill(drainer, if self.since_rest > 1 { SPINS } else { 1 });
         let Some(told) = self.tell(drainer.fates()) else {
             self.pause();
             return None;
@@ -171,7 +171,7 @@ impl<'h, L: Ledgers, O: Sink + Drop, G: Gate, R: Wait + Clock> Draining<'h, L, O
     {
         self.failed = self.failed || wrote.failed;
         if popped > 0 {
-            self.streak = self.streak.saturating_add(1);
+            self.since_rest = self.since_rest.saturating_add(1);
         } else if !wrote.some {
             self.rest(changes, enabled);
         }
@@ -204,7 +204,7 @@ impl<'h, L: Ledgers, O: Sink + Drop, G: Gate, R: Wait + Clock> Draining<'h, L, O
     fn rest(&mut self, changes: u64, enabled: bool)
         ensures { KeepsWriter self.old self.new }
     {
-        self.streak = 0;
+        self.since_rest = 0;
         if enabled && self.seen != changes {
             self.seen = changes;
             thread::sleep(self.rt, Duration::from_micros(SOON));
@@ -233,17 +233,17 @@ impl<'h, L: Ledgers, O: Sink + Drop, G: Gate, R: Wait + Clock> Draining<'h, L, O
             failed: _failed,
             shares,
             seen: _seen,
-            streak: _streak,
+            since_rest: _since_rest,
         } = self;
         OutputEnd { drainer, shares }
     }
 }
 
 /// Fills the hand from the ring, and says by how many frames. It looks so often before it gives up.
-fn fill(drainer: &mut Drainer, looks: u32) -> usize
+fn fill(drainer: &mut Drainer, spins: u32) -> usize
     ensures { (came : List CutFrame) × Pops drainer.old drainer.new came }
 {
-    for _ in 0..looks {
+    for _ in 0..spins {
         let popped = drainer.pop();
         if popped > 0 {
             return popped;

@@ -7,7 +7,7 @@ use crate::wire::add_right;
 use crate::wired::told_with_lines;
 use std::alloc::{AllocError, Global};
 use std::test::Fail;
-use wanted::wants;
+use test_texts::wants;
 
 fn write_told<R: Host>(rt: R, alloc: Global) -> Result<String, AllocError> {
     let script = "add a.wav

@@ -4,7 +4,7 @@ use crate::tunes::{Tone, Tune, listed, lost_tune, tune_of};
 use crate::wired::{told_with_lines, wired_day};
 use std::alloc::{AllocError, Global};
 use std::test::Fail;
-use wanted::wants;
+use test_texts::wants;
 
 fn told<R: Host>(
     rt: R,

@@ -64,16 +64,16 @@ impl<R: Clock> Watch<R> for Rooms {
     }
 }
 
-/// An output for each word, which says whether it is behind a door that is shut. The writers there go on after so
-/// many milliseconds.
+/// An output for each value of `behind_door`, which says whether it is behind a door that is closed. The writers there
+/// go on after so many milliseconds.
 fn writers_of<R: Clock + Copy + Drop>(
     rt: R,
     alloc: Global,
-    shut: &[bool],
+    behind_door: &[bool],
     patience: u32,
 ) -> Result<(Vec<Counting<Behind<R>>>, Rooms), AllocError> {
     let rooms = [100_000; 6];
-    let (wired, wires) = wires_of(alloc, &rooms[..shut.len().min(6)])?;
+    let (wired, wires) = wires_of(alloc, &rooms[..behind_door.len().min(6)])?;
     let door = shared(
         alloc,
         Door {
@@ -84,7 +84,7 @@ fn writers_of<R: Clock + Copy + Drop>(
     )?;
     let mut writers = Vec::new(alloc);
     for wire in wired {
-        let theirs = if shut.get(writers.len()) == Some(&true) {
+        let theirs = if behind_door.get(writers.len()) == Some(&true) {
             Some(Arc::try_clone(&door)?)
         } else {
             None
@@ -99,15 +99,16 @@ fn writers_of<R: Clock + Copy + Drop>(
     Ok((writers, Rooms { wires, door }))
 }
 
-/// Songs are played into an output for each word of `shut`, which says whether it is behind a door, as a script says.
+/// Songs are played, as a script says, into an output for each value of `behind_door`, which says whether it is behind
+/// a door.
 pub(crate) fn behind_a_door<R: Host>(
     rt: R,
     alloc: Global,
     tunes: Result<Vec<Tune>, AllocError>,
-    shut: &[bool],
+    behind_door: &[bool],
     patience: u32,
     script: &str,
 ) -> Result<(Day, Rooms), AllocError> {
-    let ends = writers_of(rt, alloc, shut, patience);
+    let ends = writers_of(rt, alloc, behind_door, patience);
     day_through(rt, alloc, tunes, ends, script)
 }

@@ -5,7 +5,7 @@ use crate::tunes::{Tone, saw_and_steps};
 use crate::wired::{told_with_lines, wired_day};
 use std::alloc::{AllocError, Global};
 use std::test::Fail;
-use wanted::wants;
+use test_texts::wants;
 
 fn told<R: Host>(rt: R, alloc: Global) -> Result<String, AllocError> {
     let script = "crossfade 1\nsetvol 50\nadd a.wav\nadd b.wav\nplay\n~ hall 14000\n~ attic 14000";

@@ -5,7 +5,7 @@ use crate::wire::add_right;
 use crate::wired::wired_day;
 use std::alloc::{AllocError, Global};
 use std::test::Fail;
-use wanted::wants;
+use test_texts::wants;
 
 fn told<R: Host>(rt: R, alloc: Global, room: usize) -> Result<String, AllocError> {
     let script = "add a.wav

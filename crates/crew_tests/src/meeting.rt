@@ -1,5 +1,5 @@
 //! Two outputs run at once: each one's first asking waits for the other's.
-use crate::rooms::{Blind, Host, Stage, one_day, shared};
+use crate::rooms::{Blind, DaySetup, Host, one_day, shared};
 use crate::tunes::{Tone, saw_alone};
 use crate::wire::{add_right, wires_of};
 use crew_steps::Gate;
@@ -8,7 +8,7 @@ use std::sync::Arc;
 use std::sync::atomic::{AtomicU32, Ordering};
 use std::test::Fail;
 use std::thread;
-use wanted::wants;
+use test_texts::wants;
 
 /// Lets an output go on once the other has asked too. An output gives up after a million looks.
 #[derive(Drop)]
@@ -45,14 +45,14 @@ fn told<R: Host>(rt: R, alloc: Global) -> Result<String, AllocError> {
         missed: AtomicU32::new(0),
     };
     let gate = shared(alloc, meeting)?;
-    let stage = Stage {
+    let setup = DaySetup {
         tunes: saw_alone(alloc, 3_000)?,
         writers,
         gate: Arc::try_clone(&gate)?,
         scanner: Blind,
     };
     let script = "add a.wav\nplay\n~ hall 3000\n~ attic 3000";
-    let mut told = one_day(rt, alloc, stage, script, &mut wires).told();
+    let mut told = one_day(rt, alloc, setup, script, &mut wires).told();
     add_right(&mut wires, &[Tone::Saw, Tone::Saw], &mut told);
     let has_missed = gate.missed.load(Ordering::SeqCst) != 0;
     told.add(format_args!("missed: {has_missed}\n"));

@@ -7,7 +7,7 @@ use crate::wire::add_right;
 use crate::wired::told_apart;
 use std::alloc::{AllocError, Global};
 use std::test::Fail;
-use wanted::wants;
+use test_texts::wants;
 
 fn apart<R: Host>(rt: R, alloc: Global) -> Result<String, AllocError> {
     let script = "newpartition k

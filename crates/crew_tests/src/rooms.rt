@@ -12,7 +12,6 @@ use crew_steps::{Gate, Open, output_setups};
 use frame_ledger::{OutputShares, SettleFault, Settled};
 use held_player::{Blanks, CrewShares, Settlement};
 use house::House;
-use house_rooms::{comes, says};
 use mpd_text::SharedText;
 use partition::{Partition, PartitionFault};
 use player_state::Outputs;
@@ -25,12 +24,13 @@ use std::sync::{Arc, Wait};
 use std::thread;
 use std::thread::Threads;
 use std::time::{Clock, Duration};
-use wanted::Told;
+use test_houses::{comes, says};
+use test_texts::Told;
 
 /// What a house is opened with: its songs, what its outputs write to (the first of `OUTPUTS`), what lets them go on,
 /// and what scans.
 #[derive(Drop)]
-pub(crate) struct Stage<O: Drop, G: Drop, N: Drop> {
+pub(crate) struct DaySetup<O: Drop, G: Drop, N: Drop> {
     pub(crate) tunes: Vec<Tune>,
     pub(crate) writers: Vec<O>,
     pub(crate) gate: Arc<G, Global>,
@@ -305,18 +305,18 @@ fn crew_of<
     alloc: Global,
     house: &Arc<House<L>, Global>,
     shares: CrewShares<L>,
-    stage: Stage<O, G, N>,
+    setup: DaySetup<O, G, N>,
     opened: Arc<AtomicU32, Global>,
 ) -> Result<Crew<L>, PartitionFault>
     requires parts { HasAllParts shares.decoded.parts shares.outputs }
     requires empty { AreEmpty shares.outputs }
 {
-    let Stage {
+    let DaySetup {
         tunes,
         writers,
         gate,
         scanner,
-    } = stage;
+    } = setup;
     let CrewShares { decoded, outputs } = shares;
     let outputs = outputs_of(rt, alloc, house, &gate, writers, outputs)?;
     let files = Files { tunes, opened };
@@ -368,7 +368,7 @@ fn day_in<
     house: &Arc<House<L>, Global>,
     seat: &mut Seat<L>,
     shares: CrewShares<L>,
-    stage: Stage<O, G, N>,
+    setup: DaySetup<O, G, N>,
     script: &str,
     watch: &mut V,
     day: &mut Day,
@@ -382,7 +382,7 @@ fn day_in<
     let Ok(theirs) = Arc::try_clone(&opened) else {
         return false;
     };
-    let Ok(crew) = crew_of(rt, alloc, house, shares, stage, theirs) else {
+    let Ok(crew) = crew_of(rt, alloc, house, shares, setup, theirs) else {
         return false;
     };
     let went_well = day_with(&rt, alloc, house, seat, crew, script, watch, day);
@@ -402,7 +402,7 @@ fn day_of_a_seat<
     alloc: Global,
     house: &Arc<House<L>, Global>,
     shares: CrewShares<L>,
-    stage: Stage<O, G, N>,
+    setup: DaySetup<O, G, N>,
     script: &str,
     watch: &mut V,
     day: &mut Day,
@@ -412,7 +412,7 @@ fn day_of_a_seat<
 {
     match house.seat(&rt) {
         Ok(mut seat) => day_in(
-            rt, alloc, house, &mut seat, shares, stage, script, watch, day,
+            rt, alloc, house, &mut seat, shares, setup, script, watch, day,
         ),
         Err(_) => false,
     }
@@ -429,14 +429,14 @@ fn run_day<
     rt: R,
     alloc: Global,
     blanks: Blanks,
-    stage: Stage<O, G, N>,
+    setup: DaySetup<O, G, N>,
     script: &String,
     watch: &mut V,
     day: &mut Day,
 ) -> bool
     requires blanks { AreFor L.names blanks }
 {
-    let Ok(player) = player(alloc, &stage.tunes, stage.writers.len()) else {
+    let Ok(player) = player(alloc, &setup.tunes, setup.writers.len()) else {
         return false;
     };
     let Ok((house, shares)) = House::<L>::open(alloc, blanks, player) else {
@@ -450,7 +450,7 @@ fn run_day<
         alloc,
         &house,
         shares,
-        stage,
+        setup,
         script.as_str(),
         watch,
         day,
@@ -464,7 +464,7 @@ pub(crate) fn one_day<
     N: Scanner + Drop + Send + 'static,
     V: Watch<R>,
     R: Host,
->(rt: R, alloc: Global, stage: Stage<O, G, N>, script: &str, watch: &mut V) -> Day {
+>(rt: R, alloc: Global, setup: DaySetup<O, G, N>, script: &str, watch: &mut V) -> Day {
     let mut day = Day {
         heard: Told::new(alloc),
         opened: 0,
@@ -477,7 +477,7 @@ pub(crate) fn one_day<
                 rt,
                 alloc,
                 Blanks::new(),
-                stage,
+                setup,
                 &script,
                 watch,
                 &mut day,
@@ -502,12 +502,12 @@ pub(crate) fn day_through<O: Sink + Drop + Send + 'static, V: Watch<R> + Drop, R
 ) -> Result<(Day, V), AllocError> {
     let tunes = tunes?;
     let (writers, mut watch) = ends?;
-    let stage = Stage {
+    let setup = DaySetup {
         tunes,
         writers,
         gate: shared(alloc, Open)?,
         scanner: Blind,
     };
-    let day = one_day(rt, alloc, stage, script, &mut watch);
+    let day = one_day(rt, alloc, setup, script, &mut watch);
     Ok((day, watch))
 }

@@ -1,5 +1,5 @@
 //! A scan that is made while a song is played.
-use crate::rooms::{Host, Stage, Watch, is_raised, one_day, shared};
+use crate::rooms::{DaySetup, Host, Watch, is_raised, one_day, shared};
 use crate::tunes::{Tone, saw_alone};
 use crate::wire::{Wires, wires_of};
 use crate::wired::told_with_lines;
@@ -13,7 +13,7 @@ use std::test::Fail;
 use std::thread;
 use std::time::{Clock, Duration};
 use test_songs::{library, song};
-use wanted::wants;
+use test_texts::wants;
 
 const SCRIPT: &str = "add a.wav
 update
@@ -97,13 +97,13 @@ fn told<R: Host>(rt: R, alloc: Global) -> Result<String, AllocError> {
         begun: Arc::try_clone(&begun)?,
         may_end: Arc::try_clone(&may_end)?,
     };
-    let stage = Stage {
+    let setup = DaySetup {
         tunes: saw_alone(alloc, 12_000)?,
         writers,
         gate: shared(alloc, Open)?,
         scanner: Slow { rt, begun, may_end },
     };
-    let day = one_day(rt, alloc, stage, SCRIPT, &mut scans);
+    let day = one_day(rt, alloc, setup, SCRIPT, &mut scans);
     told_with_lines(day, &mut scans.wires, Tone::Saw)
 }
 
@@ -117,7 +117,7 @@ fn late_told<R: Host>(rt: R, alloc: Global) -> Result<String, AllocError> {
         begun: Arc::try_clone(&begun)?,
         may_end: Arc::try_clone(&has_ended)?,
     };
-    let stage = Stage {
+    let setup = DaySetup {
         tunes: saw_alone(alloc, 1_000)?,
         writers,
         gate: shared(alloc, Open)?,
@@ -127,7 +127,7 @@ fn late_told<R: Host>(rt: R, alloc: Global) -> Result<String, AllocError> {
             has_ended,
         },
     };
-    let mut day = one_day(rt, alloc, stage, "update\n~ the scan has begun", &mut scans);
+    let mut day = one_day(rt, alloc, setup, "update\n~ the scan has begun", &mut scans);
     let has_ended = scans.may_end.load(Ordering::SeqCst);
     day.heard
         .add(format_args!("scans that have ended: {has_ended}\n"));

@@ -7,7 +7,7 @@ use std::alloc::{AllocError, Global};
 use std::io::{ErrorKind, Write};
 use std::time::{Clock, Duration};
 use std::{io, thread};
-use wanted::Told;
+use test_texts::Told;
 
 /// The end of a wire that an output writes to. It fails once it is full, and nobody empties it before the
 /// outputs are settled.

@@ -4,14 +4,14 @@ ghost use Rattle.std.specs.Prelude.{◌≡◌, ◌+◌, ◌<◌, IfOk};
 use crate::rooms::{alone, seat_of};
 use counted_player::{Ledgers, Seat};
 use house::House;
-use house_rooms::{adds_a_song, comes};
 use partition::PartitionFault;
 use std::alloc::Global;
 use std::sync::Wait;
 use std::thread;
 use std::thread::Threads;
 use std::time::Clock;
-use wanted::Told;
+use test_houses::{adds_a_song, comes};
+use test_texts::Told;
 
 /// A client comes, and adds a song a hundred times.
 fn adds<L: Ledgers>(

@@ -16,7 +16,7 @@ use std::alloc::{AllocError, Global};
 use std::sync::Wait;
 use std::sync::ledger::Share;
 use std::time::Clock;
-use wanted::Told;
+use test_texts::Told;
 
 /// A song plays, and the decoder wants a job.
 const STEPS: &str = "comes 1

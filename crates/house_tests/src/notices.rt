@@ -2,13 +2,13 @@
 use crate::rooms::seat_of;
 use counted_player::{Ledgers, Seat};
 use house::House;
-use house_rooms::{comes, hears, says};
 use std::alloc::Global;
 use std::sync::Wait;
 use std::sync::atomic::{AtomicU32, Ordering};
 use std::thread;
 use std::thread::Threads;
-use wanted::Told;
+use test_houses::{comes, hears, says};
+use test_texts::Told;
 
 /// How many notices came from the outbox and how many in front of an answer, and how many more than one a
 /// change.

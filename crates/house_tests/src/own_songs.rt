@@ -2,13 +2,13 @@
 use crate::rooms::seat_of;
 use counted_player::{Ledgers, Seat};
 use house::House;
-use house_rooms::{comes, hears};
 use mpd_text::number;
 use std::alloc::Global;
 use std::sync::Wait;
 use std::thread;
 use std::thread::Threads;
-use wanted::Told;
+use test_houses::{comes, hears};
+use test_texts::Told;
 
 /// How often a thread found its own song by the id that it was given, and these ids.
 #[derive(Drop)]

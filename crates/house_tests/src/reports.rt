@@ -1,6 +1,6 @@
 //! What a scanner, the decoder and the outputs are told, in words.
 use player_state::{Feed, Report};
-use wanted::Told;
+use test_texts::Told;
 
 /// Adds how frames are fed, and to which of three outputs.
 fn add_feed(feed: &Feed, told: &mut Told) {

@@ -4,14 +4,14 @@ use crate::rooms::seat_of;
 use crate::session::{changes, session};
 use counted_player::{Ledgers, Seat};
 use house::House;
-use house_rooms::says;
 use std::alloc::Global;
 use std::sync::Wait;
 use std::sync::atomic::{AtomicU32, Ordering};
 use std::thread;
 use std::thread::Threads;
 use std::time::{Clock, Duration};
-use wanted::Told;
+use test_houses::says;
+use test_texts::Told;
 
 /// Two clients come, of whom the first waits for another volume than the one that is set at once, and the
 /// second has two songs played.

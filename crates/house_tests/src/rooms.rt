@@ -8,7 +8,6 @@ use crate::{callers, days, frames, notices, own_songs, rests};
 use counted_player::{Ledgers, Seat};
 use held_player::{Blanks, CrewShares};
 use house::House;
-use house_rooms::opened;
 use partition::PartitionFault;
 use std::alloc::{AllocError, Global};
 use std::marker::Brand;
@@ -16,7 +15,8 @@ use std::sync::Wait;
 use std::test::Fail;
 use std::thread::Threads;
 use std::time::Clock;
-use wanted::{Told, wants};
+use test_houses::opened;
+use test_texts::{Told, wants};
 
 /// What is done in a house.
 #[derive(Clone, Copy)]

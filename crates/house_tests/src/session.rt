@@ -6,13 +6,13 @@ use crate::reports::add_told;
 use counted_player::{Ledgers, Seat};
 use held_player::{News, Reported};
 use house::House;
-use house_rooms::{comes, hears, says};
 use partition::PartitionFault;
 use queue_tests::steps::{first_word, number_of};
 use std::alloc::Global;
 use std::sync::Wait;
 use std::time::{Clock, Duration};
-use wanted::Told;
+use test_houses::{comes, hears, says};
+use test_texts::Told;
 
 /// The news of a step, if it is one: a client comes or goes, a scanner asks for a scan or has found nothing, or
 /// the decoder wants a job.

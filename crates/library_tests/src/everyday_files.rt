@@ -2,7 +2,7 @@
 use crate::wave_files::{START, digits, tell_tags_of};
 use std::alloc::{AllocError, Global};
 use std::test::Fail;
-use wanted::{Told, wants};
+use test_texts::{Told, wants};
 
 /// The tags of a file whose format these digits follow, each after a bar, or that there are none.
 fn tags_told(alloc: Global, rest: &str, everyday: bool) -> Result<String, AllocError> {

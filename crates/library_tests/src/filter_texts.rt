@@ -4,7 +4,7 @@ use mpd_text::{TagName, Text};
 use std::alloc::{AllocError, Global};
 use std::test::Fail;
 use test_songs::{Tags, repeated_song};
-use wanted::{Told, wants};
+use test_texts::{Told, wants};
 
 /// A song: its URI, its tags, and how often the URI and each text are repeated.
 type Given = (&'static str, Tags, usize);

@@ -4,7 +4,7 @@ use id3_tags::{Id3Texts, frames_are_those_of_the_bytes, texts_of, windows_1252};
 use mpd_text::Text;
 use std::alloc::{AllocError, Global};
 use std::test::Fail;
-use wanted::{Told, wants};
+use test_texts::{Told, wants};
 
 /// Adds a name and its text after a bar, where there is a text.
 fn tell_text(told: &mut Told, name: &str, text: &Option<Text>) {

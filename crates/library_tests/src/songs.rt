@@ -4,7 +4,7 @@ use song_db::{Db, SharedSong};
 use std::alloc::{AllocError, Global};
 use std::test::Fail;
 use test_songs::{Tags, repeated_song};
-use wanted::{Told, wants, wants_made};
+use test_texts::{Told, wants, wants_made};
 
 /// The lines that a clone shows whose first handle is gone.
 fn kept(alloc: Global, uri: &str, given: Tags, times: usize) -> Result<String, AllocError> {

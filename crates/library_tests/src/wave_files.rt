@@ -5,7 +5,7 @@ use std::alloc::{AllocError, Global};
 use std::fs;
 use std::io::Cursor;
 use std::test::Fail;
-use wanted::{Told, wants, wants_made};
+use test_texts::{Told, wants, wants_made};
 use wave::{Head, Reader, chunks_are_those_of_the_bytes, read_head};
 
 /// 24 bits, one channel, a title, and a data size past the file's end.

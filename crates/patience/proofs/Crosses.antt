@@ -8,7 +8,7 @@ use Rattle.house.proofs.Crosses.{house_send, house_sync}
 use Rattle.partition.proofs.Crosses.{◌⨟◌}
 use Rattle.patient_output.proofs.watch.Watch.TheSendSync as watch
 use Rattle.patience.proofs.paths.PatientPath.TheSendSync as path
-use Rattle.patience.proofs.own_client.Voice.TheSendSync as voice
+use Rattle.patience.proofs.own_client.ClientSession.TheSendSync as session
 use Rattle.patience.specs.contracts.gates.Gates as Gates
 use Rattle.patience.specs.contracts.gates.Watched as Watched
 use Rattle.patience.specs.contracts.own_client.OwnClient as OwnClient
@@ -24,12 +24,12 @@ watched_sync = declared_sync Watched.the_type (path.the_sync ⨟ search (watch.t
 pub client_send : (L R : RattleType) (l : Ghosts L.Denot) → IsSend R → IsSend (OwnClient.the_row L R l)
 client_send L R l r = declared_send (OwnClient.the_type L R l) (
     search (r, parts) depth 60 fits 20000 ⨟ search parts depth 60 fits 20000 ⨟
-    search (house_send, house_sync, parts) depth 60 fits 20000 ⨟ search (voice.the_send, parts) depth 60 fits 20000 ⨟ tt)
+    search (house_send, house_sync, parts) depth 60 fits 20000 ⨟ search (session.the_send, parts) depth 60 fits 20000 ⨟ tt)
 
 pub client_sync : (L R : RattleType) (l : Ghosts L.Denot) → IsSync R → IsSync (OwnClient.the_row L R l)
 client_sync L R l y = declared_sync (OwnClient.the_type L R l) (
     search (y, parts) depth 60 fits 20000 ⨟ search parts depth 60 fits 20000 ⨟
-    search (house_send, house_sync, parts) depth 60 fits 20000 ⨟ search (voice.the_send, parts) depth 60 fits 20000 ⨟ tt)
+    search (house_send, house_sync, parts) depth 60 fits 20000 ⨟ search (session.the_send, parts) depth 60 fits 20000 ⨟ tt)
 
 pub gates_send : (L R : RattleType) (l : Ghosts L.Denot) → IsSend R → IsSend (Gates.the_row L R l)
 gates_send L R l r = declared_send (Gates.the_type L R l) (

@@ -142,9 +142,9 @@ impl<L: Ledgers, R: Wait + Clock + Copy> Gates<L, R> {
     fn ask_watch(&self, output: usize, watched: &Watched, client: &OwnClient<L, R>) -> Asked {
         let mut watch = watched.watch.lock(&self.rt);
         let now = self.now();
-        let sight = watched.through.passage.sight(&self.rt);
+        let progress = watched.through.tally.progress(&self.rt);
         let was_silent = watch.is_to_return();
-        let goes_on = watch.ask(sight, now, &OutputSwitch { client, output });
+        let goes_on = watch.ask(progress, now, &OutputSwitch { client, output });
         Asked {
             goes_on,
             was_silent,
@@ -182,7 +182,7 @@ impl<L: Ledgers, R: Wait + Clock + Copy> Gates<L, R> {
             if let Some(watched) = watched {
                 let passed = self.now().saturating_sub(start);
                 let most = Duration::from_millis(LAST.saturating_sub(passed));
-                let left = watched.through.passage.finish(&self.rt, most);
+                let left = watched.through.tally.finish(&self.rt, most);
                 if left > 0 {
                     let _told = eprintln!(*host;
                         "music_daemon: output {number}: {} did not take {left} bytes that were written",

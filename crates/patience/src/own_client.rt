@@ -21,7 +21,7 @@ const HOME: &str = "partition default";
 
 /// The seat of the client, and whether it is in another partition than the first one.
 #[derive(Drop)]
-struct Voice<L: Ledgers> {
+struct ClientSession<L: Ledgers> {
     seat: Seat<L>,
     is_away: bool,
 }
@@ -32,7 +32,7 @@ pub(crate) struct OwnClient<L: Ledgers, R: Wait + Copy> {
     host: HostRuntime,
     house: Arc<House<L>, Global>,
     /// Held for as long as it takes to say what belongs together.
-    voice: Mutex<Voice<L>>,
+    session: Mutex<ClientSession<L>>,
 }
 
 impl<L: Ledgers, R: Wait + Copy> Drop for OwnClient<L, R> {
@@ -41,7 +41,7 @@ impl<L: Ledgers, R: Wait + Copy> Drop for OwnClient<L, R> {
             rt: _,
             host: _,
             house: _,
-            voice: _,
+            session: _,
         } = self;
     }
 }
@@ -66,7 +66,7 @@ impl<L: Ledgers, R: Wait + Copy> OwnClient<L, R> {
             rt,
             host,
             house,
-            voice: Mutex::new(Voice {
+            session: Mutex::new(ClientSession {
                 seat,
                 is_away: false,
             }),
@@ -95,61 +95,61 @@ impl<L: Ledgers, R: Wait + Copy> OwnClient<L, R> {
 
     /// Whether an output is on. None where that cannot be told now.
     pub(crate) fn is_on(&self, output: usize) -> Option<bool> {
-        let mut voice = self.voice.lock(&self.rt);
-        let is_on = self.look(&mut *voice, output);
-        self.go_home(&mut *voice);
+        let mut session = self.session.lock(&self.rt);
+        let is_on = self.look(&mut *session, output);
+        self.go_home(&mut *session);
         is_on
     }
 
     /// Switches an output off where something is played in its partition. None where that cannot be done now.
     pub(crate) fn switch_off(&self, output: usize) -> Option<Off> {
-        let mut voice = self.voice.lock(&self.rt);
-        let off = self.off(&mut *voice, output);
-        self.go_home(&mut *voice);
+        let mut session = self.session.lock(&self.rt);
+        let off = self.off(&mut *session, output);
+        self.go_home(&mut *session);
         off
     }
 
     /// Switches an output on that is off. None where that cannot be done now.
     pub(crate) fn switch_on(&self, output: usize) -> Option<()> {
-        let mut voice = self.voice.lock(&self.rt);
-        let switched = match self.look(&mut *voice, output) {
+        let mut session = self.session.lock(&self.rt);
+        let switched = match self.look(&mut *session, output) {
             Some(true) => Some(()),
-            Some(false) => self.on(&mut *voice, output),
+            Some(false) => self.on(&mut *session, output),
             None => None,
         };
-        self.go_home(&mut *voice);
+        self.go_home(&mut *session);
         switched
     }
 
-    fn off(&self, voice: &mut Voice<L>, output: usize) -> Option<Off> {
-        self.look(voice, output)?;
-        let status = self.say(voice, "status")?;
+    fn off(&self, session: &mut ClientSession<L>, output: usize) -> Option<Off> {
+        self.look(session, output)?;
+        let status = self.say(session, "status")?;
         if !status.as_str().lines().any(|line| line == "state: play") {
             return Some(Off::Rests);
         }
         // Both at one moment, so that what another client switches off is not taken for what this one does.
         let lines = format!(in self.host.alloc(); "outputs\ndisableoutput {output}").ok()?;
-        let shown = self.say(voice, lines.as_str())?;
+        let shown = self.say(session, lines.as_str())?;
         let was_on = is_output_on(self.host.alloc(), shown.as_str(), output).ok()??;
         Some(Off::IsOff(was_on))
     }
 
-    fn on(&self, voice: &mut Voice<L>, output: usize) -> Option<()> {
+    fn on(&self, session: &mut ClientSession<L>, output: usize) -> Option<()> {
         let line = format!(in self.host.alloc(); "enableoutput {output}").ok()?;
-        self.say(voice, line.as_str())?;
+        self.say(session, line.as_str())?;
         Some(())
     }
 
     /// Whether an output is on. The client then is in the partition that has the output: first it looks where it
     /// is, and then in all partitions.
-    fn look(&self, voice: &mut Voice<L>, output: usize) -> Option<bool> {
-        if let Some(is_on) = self.look_here(voice, output) {
+    fn look(&self, session: &mut ClientSession<L>, output: usize) -> Option<bool> {
+        if let Some(is_on) = self.look_here(session, output) {
             return Some(is_on);
         }
-        let names = self.say(voice, "listpartitions")?;
+        let names = self.say(session, "listpartitions")?;
         for line in names.as_str().lines() {
             if let Some(name) = line.strip_prefix("partition: ") {
-                if let Some(is_on) = self.look_in(voice, name, output) {
+                if let Some(is_on) = self.look_in(session, name, output) {
                     return Some(is_on);
                 }
             }
@@ -158,34 +158,34 @@ impl<L: Ledgers, R: Wait + Copy> OwnClient<L, R> {
     }
 
     /// The same in the partition of a name.
-    fn look_in(&self, voice: &mut Voice<L>, name: &str, output: usize) -> Option<bool> {
+    fn look_in(&self, session: &mut ClientSession<L>, name: &str, output: usize) -> Option<bool> {
         let alloc = self.host.alloc();
         let name = quote(alloc, name).ok()?;
         let line = format!(in alloc; "partition {}", name.as_str()).ok()?;
-        self.say(voice, line.as_str())?;
-        voice.is_away = true;
-        self.look_here(voice, output)
+        self.say(session, line.as_str())?;
+        session.is_away = true;
+        self.look_here(session, output)
     }
 
     /// The same in the partition in which the client is. None where the output is not there.
-    fn look_here(&self, voice: &mut Voice<L>, output: usize) -> Option<bool> {
-        let shown = self.say(voice, "outputs")?;
+    fn look_here(&self, session: &mut ClientSession<L>, output: usize) -> Option<bool> {
+        let shown = self.say(session, "outputs")?;
         is_output_on(self.host.alloc(), shown.as_str(), output).ok()?
     }
 
     /// Goes back from another partition; where that cannot be done now, the next time. At home it says nothing.
-    fn go_home(&self, voice: &mut Voice<L>)
-        ensures home { voice.old.is_away ≡ false → voice.new ≡ voice.old }
-        ensures away { voice.new.is_away ≡ true → voice.old.is_away ≡ true }
+    fn go_home(&self, session: &mut ClientSession<L>)
+        ensures home { session.old.is_away ≡ false → session.new ≡ session.old }
+        ensures away { session.new.is_away ≡ true → session.old.is_away ≡ true }
     {
-        if voice.is_away && self.say(voice, HOME).is_some() {
-            voice.is_away = false;
+        if session.is_away && self.say(session, HOME).is_some() {
+            session.is_away = false;
         }
     }
 
     /// Says lines, all at one moment, and gives their answers. None where one is refused.
-    fn say(&self, voice: &mut Voice<L>, lines: &str) -> Option<String>
-        ensures { voice.new.is_away ≡ voice.old.is_away }
+    fn say(&self, session: &mut ClientSession<L>, lines: &str) -> Option<String>
+        ensures { session.new.is_away ≡ session.old.is_away }
     {
         let alloc = self.host.alloc();
         let requests = requests_of(alloc, lines).ok()?;
@@ -195,7 +195,7 @@ impl<L: Ledgers, R: Wait + Copy> OwnClient<L, R> {
             .house
             .list(
                 &self.rt,
-                &mut voice.seat,
+                &mut session.seat,
                 &mut shelf,
                 SWITCHER,
                 ListForm::Plain,

@@ -4,7 +4,9 @@ ghost use Rattle.patience.specs.Through.{AreForPatience};
 
 use crate::output_file::{OutputFile, OutputPath};
 use counted_devices::Counting;
-use patient_output::{Load, Passage, PatientWriter, carry, patient_output};
+use patient_output::{
+    PathWriterArguments, PatientWriter, SharedTally, copy_to_path, patient_output,
+};
 use settings::OutputSettings;
 use std::alloc::{AllocError, Global};
 use std::sync::{Arc, Wait};
@@ -14,7 +16,7 @@ use std::time::Clock;
 /// What an output with patience writes through.
 #[derive(Drop)]
 pub struct PatientPath {
-    pub(crate) passage: Arc<Passage, Global>,
+    pub(crate) tally: Arc<SharedTally, Global>,
     pub(crate) path: String,
     /// For how many seconds the path may take nothing.
     pub(crate) seconds: u32,
@@ -80,26 +82,26 @@ fn patient_path<R: Threads + Wait + Clock + Copy + Send + 'static>(
     path: String,
     seconds: u32,
 ) -> Result<(PatientWriter<R>, PatientPath), AllocError> {
-    let passage = Arc::new(host.alloc(), Passage::new())?;
-    let (writer, load) = patient_output(rt, host.alloc(), &passage)?;
+    let tally = Arc::new(host.alloc(), SharedTally::new())?;
+    let (writer, arguments) = patient_output(rt, host.alloc(), &tally)?;
     let own = String::from_str(host.alloc(), path.as_str())?;
     let file = OutputFile::new(host, host.alloc(), number, own, true);
-    start_carrier(rt, load, file)?;
+    start_path_writer(rt, arguments, file)?;
     Ok((
         writer,
         PatientPath {
-            passage,
+            tally,
             path,
             seconds,
         },
     ))
 }
 
-fn start_carrier<R: Threads + Wait + Clock + Copy + Send + 'static>(
+fn start_path_writer<R: Threads + Wait + Clock + Copy + Send + 'static>(
     rt: R,
-    load: Load,
+    arguments: PathWriterArguments,
     path: OutputFile<HostRuntime>,
 ) -> Result<(), AllocError> {
-    let _detached = thread::spawn(&rt, move || carry(&rt, load, path))?;
+    let _detached = thread::spawn(&rt, move || copy_to_path(&rt, arguments, path))?;
     Ok(())
 }

@@ -1,1 +1,1 @@
-mod Carries
+mod PathWrites

@@ -1,8 +1,8 @@
 -- When an output whose path may stand still goes on, and when it is switched off and on (this profile's).
 use Rattle.std.specs.Prelude.{ℕ, ◌-◌, Bool, not, nat_le, nat_lt, is_some, ◌==◌, ◌&&◌, ◌||◌, if◌then◌else◌}
-use Rattle.patient_output.specs.declared.sight.Sight.{Sight}
-use Rattle.patient_output.specs.declared.stall.Stall.{Stall}
+use Rattle.patient_output.specs.declared.progress.PathProgress.{PathProgress}
 use Rattle.patient_output.specs.declared.tally.Tally.{Tally}
+use Rattle.patient_output.specs.declared.timer.StallTimer.{StallTimer}
 use Rattle.patient_output.specs.declared.watch.Mode.{Mode}
 use Rattle.patient_output.specs.declared.watch.Mode.TheVariants.{Plays, IsOff}
 use Rattle.patient_output.specs.declared.watch.Step.{Step}
@@ -22,36 +22,36 @@ is_due t = nat_lt 0 (waiting t) || t.ends
 abbrev pub is_over : Tally → Bool
 is_over t = is_some t.fault || (waiting t == 0)
 
-abbrev pub sight_of : Tally → Sight
-sight_of t = record { waiting = waiting t; taken = t.taken; fails = is_some t.fault }
+abbrev pub progress_of : Tally → PathProgress
+progress_of t = record { waiting = waiting t; taken = t.taken; fails = is_some t.fault }
 
 -- more bytes wait than an output goes on with: two hands of 1,024 frames
-abbrev pub is_held_up : Sight → Bool
-is_held_up sight = nat_lt 8192 sight.waiting
+abbrev pub is_held_up : PathProgress → Bool
+is_held_up progress = nat_lt 8192 progress.waiting
 
 -- ---- for how long the path took nothing
 
-abbrev pub stall_at : ℕ → ℕ → Stall
-stall_at taken now = record { taken = taken; since = now }
+abbrev pub timer_at : ℕ → ℕ → StallTimer
+timer_at taken now = record { taken = taken; since = now }
 
 -- the output is held up, and the path took nothing since it was last seen to
-abbrev pub stands : Stall → Sight → Bool
-stands s sight = is_held_up sight && (sight.taken == s.taken)
+abbrev pub is_stalled : StallTimer → PathProgress → Bool
+is_stalled s progress = is_held_up progress && (progress.taken == s.taken)
 
-abbrev pub stood : Stall → Sight → ℕ → ℕ
-stood s sight now = if stands s sight then now - s.since else 0
+abbrev pub stalled_for : StallTimer → PathProgress → ℕ → ℕ
+stalled_for s progress now = if is_stalled s progress then now - s.since else 0
 
-abbrev pub after_look : Stall → Sight → ℕ → Stall
-after_look s sight now = if stands s sight then s else stall_at sight.taken now
+abbrev pub after_look : StallTimer → PathProgress → ℕ → StallTimer
+after_look s progress now = if is_stalled s progress then s else timer_at progress.taken now
 
 -- ---- what is done
 
-abbrev pub step_in : Mode → Sight → ℕ → ℕ → Step
-step_in Plays sight stood patience =
-    if not (is_held_up sight) then Opens
-    else if nat_le patience stood then SwitchesOff
+abbrev pub step_in : Mode → PathProgress → ℕ → ℕ → Step
+step_in Plays progress stalled_for patience =
+    if not (is_held_up progress) then Opens
+    else if nat_le patience stalled_for then SwitchesOff
     else Waits
-step_in (IsOff was_on) sight stood patience = if sight.waiting == 0 then Returns else Looks
+step_in (IsOff was_on) progress stalled_for patience = if progress.waiting == 0 then Returns else Looks
 
-abbrev pub step_of : Mode → Sight → ℕ → ℕ → Bool → Step
-step_of mode sight stood patience ended = if ended || sight.fails then Opens else step_in mode sight stood patience
+abbrev pub step_of : Mode → PathProgress → ℕ → ℕ → Bool → Step
+step_of mode progress stalled_for patience ended = if ended || progress.fails then Opens else step_in mode progress stalled_for patience

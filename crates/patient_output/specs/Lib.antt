@@ -1,5 +1,5 @@
 pub mod Asking
-pub mod Carrying
 pub mod Gates
+pub mod PathWriting
 pub mod Watches
 pub mod Writers

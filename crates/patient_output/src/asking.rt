@@ -1,5 +1,5 @@
 //! What becomes of an output that asks whether it may go on.
-use crate::sight::Sight;
+use crate::progress::PathProgress;
 use crate::watch::{Off, Step, Watch};
 
 /// Who sees an output and switches it. What each call may answer is its own.
@@ -38,33 +38,33 @@ impl Watch {
 
     /// Whether an output of which this is seen at a moment goes on. It is switched off and on, and looked at, where that
     /// is the step to be taken, and not else.
-    pub fn ask<S: Switch>(&mut self, sight: Sight, now: u64, switch: &S) -> bool
-        ensures { Goes S.may_have_ended S.may_see S.may_switch_off S.may_switch_on switch.now self.old sight now self.new result }
+    pub fn ask<S: Switch>(&mut self, progress: PathProgress, now: u64, switch: &S) -> bool
+        ensures { Goes S.may_have_ended S.may_see S.may_switch_off S.may_switch_on switch.now self.old progress now self.new result }
     {
-        match self.look(sight, now, switch.has_ended()) {
+        match self.look(progress, now, switch.has_ended()) {
             Step::Opens => true,
             Step::Waits => false,
             Step::SwitchesOff => {
-                self.was_to_be_off(switch.switch_off(), sight, now);
+                self.was_to_be_off(switch.switch_off(), progress, now);
                 // Whether it is off is looked at when it asks again.
                 false
             }
             Step::Returns => {
-                self.come_back(sight, now, switch);
+                self.come_back(progress, now, switch);
                 true
             }
-            Step::Looks => self.was_looked_at(switch.is_on(), sight, now),
+            Step::Looks => self.was_looked_at(switch.is_on(), progress, now),
         }
     }
 
     /// It returns, and is switched on again where it was on before.
-    fn come_back<S: Switch>(&mut self, sight: Sight, now: u64, switch: &S)
-        ensures { Returned S.may_switch_on switch.now (is_to_return self.old.mode) self.old sight now self.new }
+    fn come_back<S: Switch>(&mut self, progress: PathProgress, now: u64, switch: &S)
+        ensures { Returned S.may_switch_on switch.now (is_to_return self.old.mode) self.old progress now self.new }
     {
         if self.is_to_return() {
-            self.was_to_return(switch.switch_on(), sight, now);
+            self.was_to_return(switch.switch_on(), progress, now);
         } else {
-            self.was_to_return(false, sight, now);
+            self.was_to_return(false, progress, now);
         }
     }
 }

@@ -3,19 +3,19 @@
 #![tactic(auto)]
 
 mod asking;
-mod carrier;
-mod passage;
-mod sight;
-mod stall;
+mod path_writer;
+mod progress;
+mod shared_tally;
 mod tally;
+mod timer;
 mod watch;
 mod writer;
 
 pub use asking::Switch;
-pub use carrier::{Carried, Load, Reopening, carry};
-pub use passage::Passage;
-pub use sight::{MOST_BYTES, MOST_WAITING, Sight};
-pub use stall::Stall;
+pub use path_writer::{PathWriterArguments, PathWriterEnd, Reopening, copy_to_path};
+pub use progress::{MOST_BYTES, MOST_WAITING, PathProgress};
+pub use shared_tally::SharedTally;
 pub use tally::Tally;
+pub use timer::StallTimer;
 pub use watch::{Mode, Off, Step, Watch, decide};
 pub use writer::{PatientWriter, patient_output};

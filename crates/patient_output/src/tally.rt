@@ -2,7 +2,7 @@
 ghost use Rattle.std.specs.Prelude.{◌≤◌, ◌≢◌, Some};
 ghost use Rattle.std.specs.declared.io.ErrorKind.TheVariants.{WouldBlock};
 
-use crate::sight::Sight;
+use crate::progress::PathProgress;
 use std::io::ErrorKind;
 
 /// How many bytes an output gave, and how many its path took; and whether there will be more. A count stops at
@@ -19,7 +19,7 @@ pub struct Tally {
 
 impl Tally {
     ghost use Rattle.std.specs.Prelude.{◌≡◌, ◌≢◌, ◌+◌, ◌-◌, ◌^◌, ◌<◌, ◌≤◌, Some, None, false, true, min, is_some, if◌then◌else◌};
-    ghost use Rattle.patient_output.specs.Gates.{waiting, sight_of, is_due, is_over};
+    ghost use Rattle.patient_output.specs.Gates.{waiting, progress_of, is_due, is_over};
 
     /// Nothing was given yet.
     pub fn new() -> Tally
@@ -94,7 +94,7 @@ impl Tally {
         self.fault
     }
 
-    /// Whether the thread that carries has nothing more to wait for: bytes wait, or none will come.
+    /// Whether the thread that writes to the path has nothing more to wait for: bytes wait, or none will come.
     pub fn is_due(&self) -> bool
         ensures { result ≡ is_due self.now }
     {
@@ -115,10 +115,10 @@ impl Tally {
     }
 
     /// What is seen of it.
-    pub fn sight(&self) -> Sight
-        ensures { result ≡ sight_of self.now }
+    pub fn progress(&self) -> PathProgress
+        ensures { result ≡ progress_of self.now }
     {
-        Sight {
+        PathProgress {
             waiting: self.waiting(),
             taken: self.taken,
             fails: self.fault.is_some(),

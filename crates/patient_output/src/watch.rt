@@ -4,8 +4,8 @@ ghost use Rattle.patient_output.specs.Gates.{step_of};
 ghost use Rattle.patient_output.specs.declared.watch.Mode.TheVariants as mode;
 ghost use Rattle.patient_output.specs.declared.watch.Step.TheVariants as steps;
 
-use crate::sight::Sight;
-use crate::stall::Stall;
+use crate::progress::PathProgress;
+use crate::timer::StallTimer;
 
 /// How an output stands.
 #[derive(Clone, Copy, PartialEq, Eq)]
@@ -42,28 +42,34 @@ pub enum Off {
 
 /// What is done for an output of which this is seen, where it was held up for so many milliseconds while its path
 /// took nothing and it has patience for so many; and once the daemon has ended.
-pub fn decide(mode: Mode, sight: Sight, stood: u64, patience: u64, ended: bool) -> Step
-    ensures step { result ≡ step_of mode sight stood patience ended }
+pub fn decide(
+    mode: Mode,
+    progress: PathProgress,
+    stalled_for: u64,
+    patience: u64,
+    ended: bool,
+) -> Step
+    ensures step { result ≡ step_of mode progress stalled_for patience ended }
     // What goes on without a look is not held up, but for a path that failed and at the end, where nothing is kept
     // for the path.
-    ensures room { result ≡ steps.Opens → (ended ≡ true) ⊎ (sight.fails ≡ true) ⊎ (sight.waiting ≤ 8192) }
+    ensures room { result ≡ steps.Opens → (ended ≡ true) ⊎ (progress.fails ≡ true) ⊎ (progress.waiting ≤ 8192) }
     // An output waits no longer than it has patience, and is not switched off before.
-    ensures waits { result ≡ steps.Waits → stood < patience }
-    ensures patient { result ≡ steps.SwitchesOff → patience ≤ stood }
+    ensures waits { result ≡ steps.Waits → stalled_for < patience }
+    ensures patient { result ≡ steps.SwitchesOff → patience ≤ stalled_for }
     // The end and a fault are waited for by none.
     ensures end { ended ≡ true → result ≡ steps.Opens }
-    ensures fault { sight.fails ≡ true → result ≡ steps.Opens }
+    ensures fault { progress.fails ≡ true → result ≡ steps.Opens }
     // It comes back only where its path has taken all.
-    ensures back { result ≡ steps.Returns → sight.waiting ≡ 0 }
+    ensures back { result ≡ steps.Returns → progress.waiting ≡ 0 }
 {
-    if ended || sight.fails {
+    if ended || progress.fails {
         return Step::Opens;
     }
     match mode {
-        Mode::Plays if !sight.is_held_up() => Step::Opens,
-        Mode::Plays if stood >= patience => Step::SwitchesOff,
+        Mode::Plays if !progress.is_held_up() => Step::Opens,
+        Mode::Plays if stalled_for >= patience => Step::SwitchesOff,
         Mode::Plays => Step::Waits,
-        Mode::IsOff(_) if sight.waiting == 0 => Step::Returns,
+        Mode::IsOff(_) if progress.waiting == 0 => Step::Returns,
         Mode::IsOff(_) => Step::Looks,
     }
 }
@@ -72,24 +78,24 @@ pub fn decide(mode: Mode, sight: Sight, stood: u64, patience: u64, ended: bool) 
 #[derive(Clone, Copy, PartialEq, Eq)]
 pub struct Watch {
     mode: Mode,
-    stall: Stall,
+    timer: StallTimer,
     /// In milliseconds.
     patience: u64,
 }
 
 impl Watch {
     ghost use Rattle.std.specs.Prelude.{◌≡◌, ◌*◌};
-    ghost use Rattle.patient_output.specs.Gates.{stall_at, step_of, stood};
-    ghost use Rattle.patient_output.specs.Watches.{after_off, after_return, after_sight, anew, is_seen_off, is_to_return, looked};
+    ghost use Rattle.patient_output.specs.Gates.{timer_at};
+    ghost use Rattle.patient_output.specs.Watches.{after_check, after_off, after_return, anew, is_seen_off, is_to_return, looked, step_at};
     ghost use Rattle.patient_output.specs.declared.watch.Mode.TheVariants.{Plays};
 
     /// An output that plays, with patience for so many seconds.
     pub fn new(seconds: u32, now: u64) -> Watch
-        ensures { (result.mode ≡ Plays) × (result.stall ≡ stall_at 0 now) × (result.patience ≡ 1000 * seconds) }
+        ensures { (result.mode ≡ Plays) × (result.timer ≡ timer_at 0 now) × (result.patience ≡ 1000 * seconds) }
     {
         Watch {
             mode: Mode::Plays,
-            stall: Stall::new(0, now),
+            timer: StallTimer::new(0, now),
             patience: 1_000 * u64::from(seconds),
         }
     }
@@ -101,12 +107,12 @@ impl Watch {
     }
 
     /// What is done at a moment at which this is seen.
-    pub fn look(&mut self, sight: Sight, now: u64, ended: bool) -> Step
-        ensures step { result ≡ step_of self.old.mode sight (stood self.old.stall sight now) self.old.patience ended }
-        ensures watch { self.new ≡ looked self.old sight now }
+    pub fn look(&mut self, progress: PathProgress, now: u64, ended: bool) -> Step
+        ensures step { result ≡ step_at self.old progress now ended }
+        ensures watch { self.new ≡ looked self.old progress now }
     {
-        let stood = self.stall.look(sight, now);
-        decide(self.mode, sight, stood, self.patience, ended)
+        let stalled_for = self.timer.look(progress, now);
+        decide(self.mode, progress, stalled_for, self.patience, ended)
     }
 
     /// Whether it is off for its path, and was on before: then it is to be switched on again.
@@ -118,36 +124,36 @@ impl Watch {
 
     /// It was to be switched off; none where that could not be done now. Where nothing is played its patience begins
     /// anew.
-    pub fn was_to_be_off(&mut self, off: Option<Off>, sight: Sight, now: u64)
-        ensures { self.new ≡ after_off self.old off sight now }
+    pub fn was_to_be_off(&mut self, off: Option<Off>, progress: PathProgress, now: u64)
+        ensures { self.new ≡ after_off self.old off progress now }
     {
         match off {
             Some(Off::IsOff(was_on)) => self.mode = Mode::IsOff(was_on),
-            Some(Off::Rests) => self.plays(sight, now),
+            Some(Off::Rests) => self.plays(progress, now),
             None => {}
         }
     }
 
     /// It returns, and was to be switched on again where it was on before; whether that was done. Where it was not, it is
     /// tried when the output asks again.
-    pub fn was_to_return(&mut self, is_done: bool, sight: Sight, now: u64)
-        ensures { self.new ≡ after_return self.old is_done sight now }
+    pub fn was_to_return(&mut self, is_done: bool, progress: PathProgress, now: u64)
+        ensures { self.new ≡ after_return self.old is_done progress now }
     {
         if is_done || !self.is_to_return() {
-            self.plays(sight, now);
+            self.plays(progress, now);
         }
     }
 
     /// It was off for its path, and is seen to be on or off; none where that could not be seen now. Whether it goes on:
     /// where it is off. Where it is on, somebody wants it to play, and its patience begins anew.
-    pub fn was_looked_at(&mut self, is_on: Option<bool>, sight: Sight, now: u64) -> bool
+    pub fn was_looked_at(&mut self, is_on: Option<bool>, progress: PathProgress, now: u64) -> bool
         ensures goes_on { result ≡ is_seen_off is_on }
-        ensures watch { self.new ≡ after_sight self.old is_on sight now }
+        ensures watch { self.new ≡ after_check self.old is_on progress now }
     {
         match is_on {
             Some(is_on) => {
                 if is_on {
-                    self.plays(sight, now);
+                    self.plays(progress, now);
                 }
                 !is_on
             }
@@ -156,10 +162,10 @@ impl Watch {
     }
 
     /// It plays from a moment on, at which this was seen: its patience begins anew.
-    fn plays(&mut self, sight: Sight, now: u64)
-        ensures { self.new ≡ anew self.old sight now }
+    fn plays(&mut self, progress: PathProgress, now: u64)
+        ensures { self.new ≡ anew self.old progress now }
     {
         self.mode = Mode::Plays;
-        self.stall = Stall::new(sight.taken, now);
+        self.timer = StallTimer::new(progress.taken, now);
     }
 }

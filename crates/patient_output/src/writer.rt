@@ -2,9 +2,9 @@
 ghost use Rattle.std.specs.Prelude.{◌≡◌, [], Some, IfOk};
 ghost use Rattle.rtrb.specs.Ring.{IsPair, known_free, producer_capacity, received, sent};
 
-use crate::carrier::Load;
-use crate::passage::Passage;
-use crate::sight::MOST_BYTES;
+use crate::path_writer::PathWriterArguments;
+use crate::progress::MOST_BYTES;
+use crate::shared_tally::SharedTally;
 use rtrb::{Producer, RingBuffer};
 use std::alloc::{AllocError, Global};
 use std::io;
@@ -16,31 +16,32 @@ use std::sync::{Arc, Wait};
 pub struct PatientWriter<R: Wait + Copy> {
     rt: R,
     producer: Producer<u8>,
-    passage: Arc<Passage, Global>,
+    tally: Arc<SharedTally, Global>,
 }
 
-/// The two ends of a new ring: the writer for the output, and what the thread carries that writes to its path.
+/// The two ends of a new ring: the writer for the output, and what the thread that writes to its path is started
+/// with.
 pub fn patient_output<R: Wait + Copy>(
     rt: R,
     alloc: Global,
-    passage: &Arc<Passage, Global>,
-) -> Result<(PatientWriter<R>, Load), AllocError>
+    tally: &Arc<SharedTally, Global>,
+) -> Result<(PatientWriter<R>, PathWriterArguments), AllocError>
     ensures pair { IfOk result (λ r. IsPair r.0.producer r.1.consumer) }
     ensures room { IfOk result (λ r. producer_capacity r.0.producer ≡ 65536) }
     ensures empty { IfOk result (λ r. (sent r.0.producer ≡ []) × (received r.1.consumer ≡ [])) }
 {
-    let to = Arc::try_clone(passage)?;
-    let from = Arc::try_clone(passage)?;
+    let to = Arc::try_clone(tally)?;
+    let from = Arc::try_clone(tally)?;
     let (producer, consumer) = RingBuffer::new(alloc, MOST_BYTES as usize)?;
     Ok((
         PatientWriter {
             rt,
             producer,
-            passage: to,
+            tally: to,
         },
-        Load {
+        PathWriterArguments {
             consumer,
-            passage: from,
+            tally: from,
         },
     ))
 }
@@ -60,12 +61,12 @@ impl<R: Wait + Copy> Write for PatientWriter<R> {
         ensures whole { IfOk result (λ n. n ≡ length buf.now) }
         ensures full { BlocksWhereFull (known_free self.new.producer) buf.now result }
     {
-        if let Some(kind) = self.passage.fault(&self.rt) {
+        if let Some(kind) = self.tally.fault(&self.rt) {
             return Err(io::Error::from(kind));
         }
         match self.producer.push_entire_slice(buf) {
             Ok(()) => {
-                self.passage.gave(&self.rt, buf.len());
+                self.tally.gave(&self.rt, buf.len());
                 Ok(buf.len())
             }
             Err(_) => Err(io::Error::from(ErrorKind::WouldBlock)),

@@ -8,7 +8,7 @@ use queue_tests::steps::{first_word, number_of, two_numbers};
 use song_queue::{Entry, Queue};
 use std::alloc::{AllocError, Global};
 use std::collections::HashSet;
-use wanted::Told;
+use test_texts::Told;
 
 #[derive(Drop)]
 struct Course {

@@ -2,7 +2,7 @@
 //! with 0.
 use crate::course::told;
 use std::test::Fail;
-use wanted::wants;
+use test_texts::wants;
 
 /// A random order has each song once.
 const RANDOM: &str = "add 1

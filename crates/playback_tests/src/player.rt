@@ -2,7 +2,7 @@
 //! random order.
 use crate::seat::told;
 use std::test::Fail;
-use wanted::wants;
+use test_texts::wants;
 
 const MANY: u32 = 4294967295;
 

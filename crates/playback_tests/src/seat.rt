@@ -7,7 +7,7 @@ use player_core::{Job, Playback, Player, PlayerFault};
 use queue_tests::steps::{first_word, number_of, two_numbers};
 use song_queue::Queue;
 use std::alloc::{AllocError, Global};
-use wanted::Told;
+use test_texts::Told;
 
 /// Frames a second.
 const RATE: u32 = 8000;

@@ -8,7 +8,7 @@ use song_db::SharedSong;
 use std::alloc::{AllocError, Global};
 use std::mem;
 use test_songs::song;
-use wanted::Told;
+use test_texts::Told;
 
 /// The song of a letter, without tags: `a`, `b` and `c` are of one, two and three seconds, others of four
 /// frames.

@@ -7,7 +7,7 @@ use mpd_command::{
 };
 use std::alloc::{AllocError, Global};
 use std::test::Fail;
-use wanted::{Told, wants};
+use test_texts::{Told, wants};
 
 /// A command that has no argument.
 fn bare(command: &Command) -> &'static str {

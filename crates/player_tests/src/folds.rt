@@ -5,7 +5,7 @@ use crate::sessions::{ROOMS, ROOMS_TELL, SCANS, SCANS_TELL, add_numbered};
 use crate::shelf_sizes::{add_doubled, add_doubling};
 use std::alloc::{AllocError, Global};
 use std::test::Fail;
-use wanted::{Told, wants, wants_made};
+use test_texts::{Told, wants, wants_made};
 
 /// The most events of the windows in which each session is run.
 const WINDOWS: [u32; 4] = [1, 2, 3, 4096];

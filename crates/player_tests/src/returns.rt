@@ -3,7 +3,7 @@ use crate::session::session_over;
 use kept_state::{kept_of, state_text};
 use std::alloc::{AllocError, Global};
 use std::test::Fail;
-use wanted::{Told, wants_made};
+use test_texts::{Told, wants_made};
 
 const SONGS: &str = "a.wav\nb.wav\nc.wav";
 

@@ -4,7 +4,7 @@ use crate::session::session_over;
 use kept_state::{partitions_of, player_text};
 use std::alloc::{AllocError, Global};
 use std::test::Fail;
-use wanted::wants_made;
+use test_texts::wants_made;
 
 const SONGS: &str = "a.wav\nb.wav\nc.wav";
 

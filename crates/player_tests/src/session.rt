@@ -15,8 +15,8 @@ use song_db::SharedDb;
 use std::alloc::{AllocError, Global};
 use test_players::{library, list_answer, player, requests};
 use test_songs::song;
+use test_texts::Told;
 use transitions::{Next, Stand};
-use wanted::Told;
 
 /// A song of one second for each line, without tags.
 fn songs(alloc: Global, uris: &str) -> Result<Vec<Song>, AllocError> {

@@ -12,7 +12,7 @@ use partition_laws::{
 };
 use std::alloc::{AllocError, Global};
 use std::test::Fail;
-use wanted::{Told, wants, wants_made};
+use test_texts::{Told, wants, wants_made};
 
 const WAITING: &str = "comes 2
 comes 1

@@ -2,7 +2,7 @@
 use crate::session::session;
 use std::alloc::{AllocError, Global};
 use std::test::Fail;
-use wanted::{Told, wants_made};
+use test_texts::{Told, wants_made};
 
 /// Adds steps after which the queue has 16,384 entries: it is saved and loaded 14 times, and so doubles each
 /// time.

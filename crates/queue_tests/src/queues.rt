@@ -9,7 +9,7 @@ use std::alloc::{AllocError, Global};
 use std::ops::Range;
 use std::test::Fail;
 use test_songs::song;
-use wanted::{Told, wants};
+use test_texts::{Told, wants};
 
 fn songs(alloc: Global, count: usize) -> Result<Vec<SharedSong>, AllocError> {
     let mut songs = Vec::new(alloc);

@@ -8,7 +8,7 @@ use std::os::unix::fs::symlink;
 use std::rt::Files;
 use std::test::Fail;
 use std::{fs, io};
-use wanted::{Told, wants};
+use test_texts::{Told, wants};
 
 /// 24 bits, one channel, a title, and a data size past the file's end: two frames at 8,000 a second.
 pub const WAVE: [u8; 75] =

@@ -4,7 +4,7 @@
 use library_scan::{ScanFault, Scanned};
 use mpd_text::{Song, TagName};
 use std::alloc::{AllocError, Global};
-use wanted::Told;
+use test_texts::Told;
 
 /// A song of this URI, so many frames, and one tag, its artist.
 pub fn song(alloc: Global, uri: &str, frames: u64, artist: &str) -> Result<Song, AllocError> {

@@ -7,7 +7,7 @@ use mpd_text::Text;
 use song_db::Rate;
 use std::alloc::{AllocError, Global};
 use std::test::Fail;
-use wanted::{Told, wants};
+use test_texts::{Told, wants};
 
 /// One folder of so many songs, each of one frame.
 #[derive(Drop)]

@@ -11,7 +11,7 @@ use std::io::ErrorKind;
 use std::rt::Files;
 use std::test::Fail;
 use std::{fs, io};
-use wanted::{Told, wants};
+use test_texts::{Told, wants};
 
 /// What a folder tells; the second has a folder below it whose listing breaks off after its first name.
 const ODD: &[u8] = b"a.wav\0\xff.wav\0shut.wav\0far.wav\0b.wav\0broken\0gone\0c.wav\0";

@@ -7,7 +7,7 @@ use std::fmt::Display;
 use std::io;
 use std::test::Fail;
 use std::time::{Clock, Duration};
-use wanted::wants;
+use test_texts::wants;
 
 /// A terminal that counts what is written on it. Its clock goes on by a quarter of a second whenever it is read.
 #[derive(Drop)]

@@ -9,7 +9,7 @@ use song_search::{counted, find, is_folder, list_folder, under};
 use std::alloc::{AllocError, Global};
 use std::test::Fail;
 use test_songs::library;
-use wanted::{Told, wants};
+use test_texts::{Told, wants};
 
 /// Songs in folders: their URIs, frames and artists. The folder `a` comes before `a-b`, though `a-b/y.wav`
 /// comes before `a/x.wav`.

@@ -6,7 +6,7 @@ use scan_report::{found_text, per_second, rate_text, report_of};
 use song_db::Rate;
 use std::alloc::{AllocError, Global};
 use std::test::Fail;
-use wanted::wants;
+use test_texts::wants;
 
 fn songs(alloc: Global) -> Result<Vec<Song>, AllocError> {
     let mut songs = Vec::new(alloc);

@@ -2,7 +2,7 @@
 use settings::{OneLine, Settings, SettingsFault, settings};
 use std::alloc::{AllocError, Global};
 use std::test::Fail;
-use wanted::{Told, wants};
+use test_texts::{Told, wants};
 
 /// The settings that a text says, or the key for which it is refused.
 fn told(alloc: Global, before: &str, lines: &str) -> Result<String, AllocError> {

@@ -2,7 +2,7 @@
 use kept_state::{kept_of, partitions_of, player_text, state_text};
 use std::alloc::{AllocError, Global};
 use std::test::Fail;
-use wanted::{wants, wants_made};
+use test_texts::{wants, wants_made};
 
 /// What a player with two partitions answered, the other one first.
 const PARTITIONS: &str = "partition: bath

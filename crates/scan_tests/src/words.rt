@@ -2,7 +2,7 @@
 use command_line::{LineFault, Program, command_line};
 use std::alloc::{AllocError, Global};
 use std::test::Fail;
-use wanted::wants;
+use test_texts::wants;
 
 fn words_of(alloc: Global, line: &str) -> Result<Vec<String>, AllocError> {
     let mut words = Vec::new(alloc);

@@ -9,7 +9,7 @@ use selections::{
 use std::alloc::{AllocError, Global};
 use std::test::Fail;
 use test_songs::song;
-use wanted::{Told, wants};
+use test_texts::{Told, wants};
 
 /// The lines again, which have words of a command with `|` between them, ` => `, and what is wanted of it, with
 /// what is told of it.

@@ -5,7 +5,7 @@ use song_groups::{count_groups, distinct, order, push_counts, push_tuples, tuple
 use std::alloc::{AllocError, Global};
 use std::test::Fail;
 use test_songs::{Tags, song};
-use wanted::{Told, wants, wants_made};
+use test_texts::{Told, wants, wants_made};
 
 /// The URI of a song, its frames and its tags.
 type Given = (&'static str, u64, Tags);

@@ -8,8 +8,8 @@ use parts::{Crossing, Greatest, Openings, Parts, opened};
 use player_state::{Client, Outputs};
 use std::alloc::{AllocError, Global};
 use std::test::Fail;
+use test_texts::{Told, wants};
 use transitions::{Asked, Move, Stand, Transition};
-use wanted::{Told, wants};
 
 /// The partitions of a daemon, and its two clients.
 #[derive(Drop)]

@@ -9,7 +9,7 @@ use song_db::{Rate, SharedSong, push_song, texts_and_length_are_the_song};
 use std::alloc::{AllocError, Global};
 use std::test::Fail;
 use test_songs::{Tags, song};
-use wanted::{Told, wants};
+use test_texts::{Told, wants};
 
 /// The 31 names, in letters of which every second one is large.
 const ODD_WORDS: &str =

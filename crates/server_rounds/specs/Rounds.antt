@@ -8,8 +8,8 @@ use Rattle.server_rounds.specs.declared.place.Turn.{Turn}
 use Rattle.server_rounds.specs.declared.place.Turn.TheVariants as turn
 use Rattle.server_rounds.specs.declared.step.ListenerState.{ListenerState}
 use Rattle.server_rounds.specs.declared.step.ListenerState.TheVariants.{Idle, Ready, TryLater}
-use Rattle.server_rounds.specs.declared.step.Stage.{Stage}
-use Rattle.server_rounds.specs.declared.step.Stage.TheVariants.{LettingIn, Turns, Notices, Over}
+use Rattle.server_rounds.specs.declared.step.Phase.{Phase}
+use Rattle.server_rounds.specs.declared.step.Phase.TheVariants.{LettingIn, Turns, Notices, Over}
 use Rattle.server_rounds.specs.declared.step.Step.{Step}
 use Rattle.server_rounds.specs.declared.step.Step.TheVariants.{Sleep, LetIn, Visit, Ask, End}
 use Rattle.server_rounds.specs.Places.{IsTimeLeft, has_turn, heard, is_free, is_looked_at, is_ready, may_wait, place_after}
@@ -21,11 +21,11 @@ pub record RoundsData : Type 0 where
   pub called : List Bool
   pub listener : ListenerState
   pub is_woken : Bool
-  pub stage : Stage
+  pub phase : Phase
 
 -- The first round begins with the clients that waited before.
 abbrev pub opening : RoundsData
-opening = record { places = replicate 64 Free; called = replicate 64 false; listener = Ready; is_woken = false; stage = LettingIn 64 }
+opening = record { places = replicate 64 Free; called = replicate 64 false; listener = Ready; is_woken = false; phase = LettingIn 64 }
 
 abbrev pub place_of : RoundsData → ℕ → Place
 place_of r slot = slice_index_or r.places slot Free
@@ -46,8 +46,8 @@ IsCalledFrom called from slot = (from ≤ slot) × (slice_index_or called slot f
 abbrev pub IsFreeAt : RoundsData → ℕ → Type 0
 IsFreeAt r slot = (slot < 64) × (is_free (place_of r slot) ≡ true)
 
--- those whose visit is to come in this stage of the round
-abbrev pub IsDue : Stage → RoundsData → ℕ → Type 0
+-- those whose visit is to come in this phase of the round
+abbrev pub IsDue : Phase → RoundsData → ℕ → Type 0
 IsDue (LettingIn left) r slot = HasTurnFrom r.places 0 slot
 IsDue (Turns from) r slot = HasTurnFrom r.places from slot
 IsDue (Notices from) r slot = IsCalledFrom r.called from slot
@@ -61,18 +61,18 @@ abbrev pub IsNobody : (ℕ → Type 0) → Type 0
 IsNobody Set = (slot : ℕ) → Set slot → ⊥
 
 -- A client may wait to be let in, and not as many were in this round as may be.
-abbrev pub LetsIn : Stage → RoundsData → Type 0
+abbrev pub LetsIn : Phase → RoundsData → Type 0
 LetsIn (LettingIn left) r = (0 < left) × (r.listener ≢ Idle)
 LetsIn _ r = ⊥
 
 -- Turns come, of the places from this one on, once no more clients are let in.
-abbrev pub IsFrom : Stage → ℕ → Type 0
+abbrev pub IsFrom : Phase → ℕ → Type 0
 IsFrom (LettingIn left) from = from ≡ 0
 IsFrom (Turns first) from = from ≡ first
 IsFrom _ from = ⊥
 
 -- All turns of the round come before it is asked for whom notices wait, which is done where a client may wait for one.
-abbrev pub AsksYet : Stage → RoundsData → Type 0
+abbrev pub AsksYet : Phase → RoundsData → Type 0
 AsksYet (LettingIn left) r = list_any may_wait r.places ≡ true
 AsksYet (Turns from) r = list_any may_wait r.places ≡ true
 AsksYet _ r = ⊥
@@ -101,21 +101,21 @@ longest_sleep r = if is_at_once r then Some 0 else (if is_soon r then Some 50 el
 -- What is done next: clients are let in, then the visits that are due are made, by place; then, once, it is asked for
 -- whom notices wait; and where nothing is left the server sleeps. It ends where a client ended the daemon.
 abbrev pub IsNext : RoundsData → Step → Type 0
-IsNext r LetIn = LetsIn r.stage r
-IsNext r (Visit slot) = (LetsIn r.stage r → ⊥) × IsLeast (IsDue r.stage r) slot
-IsNext r Ask = (LetsIn r.stage r → ⊥) × IsNobody (IsDue r.stage r) × AsksYet r.stage r
+IsNext r LetIn = LetsIn r.phase r
+IsNext r (Visit slot) = (LetsIn r.phase r → ⊥) × IsLeast (IsDue r.phase r) slot
+IsNext r Ask = (LetsIn r.phase r → ⊥) × IsNobody (IsDue r.phase r) × AsksYet r.phase r
 IsNext r (Sleep most) =
-    (LetsIn r.stage r → ⊥) × IsNobody (IsDue r.stage r) × (AsksYet r.stage r → ⊥) × (r.stage ≢ Over) × (most ≡ longest_sleep r)
-IsNext r End = r.stage ≡ Over
+    (LetsIn r.phase r → ⊥) × IsNobody (IsDue r.phase r) × (AsksYet r.phase r → ⊥) × (r.phase ≢ Over) × (most ≡ longest_sleep r)
+IsNext r End = r.phase ≡ Over
 
 -- how far the round is after a step
-abbrev pub stage_after : Stage → Step → Stage
-stage_after (LettingIn left) LetIn = LettingIn (left - 1)
-stage_after (Notices from) (Visit slot) = Notices (slot + 1)
-stage_after _ (Visit slot) = Turns (slot + 1)
-stage_after _ Ask = Notices 0
-stage_after _ (Sleep most) = LettingIn 64
-stage_after stage _ = stage
+abbrev pub phase_after : Phase → Step → Phase
+phase_after (LettingIn left) LetIn = LettingIn (left - 1)
+phase_after (Notices from) (Visit slot) = Notices (slot + 1)
+phase_after _ (Visit slot) = Turns (slot + 1)
+phase_after _ Ask = Notices 0
+phase_after _ (Sleep most) = LettingIn 64
+phase_after phase _ = phase
 
 -- Who is called is known only once it is asked.
 abbrev pub called_after : List Bool → Step → List Bool
@@ -123,7 +123,7 @@ called_after called Ask = replicate 64 false
 called_after called _ = called
 
 abbrev pub after : RoundsData → Step → RoundsData
-after r step = record r { stage = stage_after r.stage step; called = called_after r.called step }
+after r step = record r { phase = phase_after r.phase step; called = called_after r.called step }
 
 -- another thread wakes the server, or none
 abbrev pub woken : RoundsData → Bool → RoundsData
@@ -136,12 +136,12 @@ heard_from r number ends =
     else (if nat_le number 64 then with_place r (number - 1) (heard ends (place_of r (number - 1))) else r)
 
 -- the listener gave no client: none waits, or one could not be let in
-abbrev pub shut : Stage → Stage
-shut (LettingIn left) = LettingIn 0
-shut stage = stage
+abbrev pub end_letting_in : Phase → Phase
+end_letting_in (LettingIn left) = LettingIn 0
+end_letting_in phase = phase
 
 abbrev pub nobody_came : RoundsData → Bool → RoundsData
-nobody_came r none_waits = record r { listener = if none_waits then Idle else TryLater; stage = shut r.stage }
+nobody_came r none_waits = record r { listener = if none_waits then Idle else TryLater; phase = end_letting_in r.phase }
 
 -- For a client that is open and not ready, and has to be told something, a notice waits. Clients have the numbers of
 -- their places and one more.
@@ -156,7 +156,7 @@ IsCalledBy r clients slot = IsCalledAmong r.places clients slot
 
 -- a turn ends: the client's place, or the daemon
 abbrev pub turned : RoundsData → ℕ → Turn → Option Instant → RoundsData
-turned r slot turn.Killed left = record r { stage = Over }
+turned r slot turn.Killed left = record r { phase = Over }
 turned r slot other left = with_place r slot (place_after (place_of r slot) other left)
 
 -- for so long as its client may still read

@@ -8,7 +8,7 @@ use crate::place::{
     Arrival, Place, Turn, arrived, has_socket, has_turn, heard, is_free, is_looked_at, is_ready,
     may_read, may_wait, owes_notice, place_after, time_left, told,
 };
-use crate::step::{ListenerState, Stage, Step};
+use crate::step::{ListenerState, Phase, Step};
 use std::marker::Model;
 use std::time::Instant;
 
@@ -36,7 +36,7 @@ pub struct Rounds {
     listener: ListenerState,
     /// Whether another thread wakes the server where a notice waits.
     is_woken: bool,
-    stage: Stage,
+    phase: Phase,
 }
 
 impl Model for Rounds {
@@ -45,7 +45,7 @@ impl Model for Rounds {
 
     ghost Value = { RoundsData };
 
-    ghost view = { λ r. record { places = r.places; called = r.called; listener = r.listener; is_woken = r.is_woken; stage = r.stage } };
+    ghost view = { λ r. record { places = r.places; called = r.called; listener = r.listener; is_woken = r.is_woken; phase = r.phase } };
 
     ghost invariant = { λ r. (length r.places ≡ 64) × (length r.called ≡ 64) };
 }
@@ -64,7 +64,7 @@ impl Rounds {
             called: [false; 64],
             listener: ListenerState::Ready,
             is_woken: false,
-            stage: Stage::LettingIn(MAX_LET_IN),
+            phase: Phase::LettingIn(MAX_LET_IN),
         }
     }
 
@@ -93,17 +93,17 @@ impl Rounds {
         ensures new { self.new ≡ after self.old result }
         ensures within { (slot : ℕ) → result ≡ Step.Visit slot → slot < 64 }
     {
-        match self.stage {
-            Stage::LettingIn(left) => self.let_in(left),
-            Stage::Turns(from) => self.turn(from),
-            Stage::Notices(from) => self.notice(from),
-            Stage::Over => Step::End,
+        match self.phase {
+            Phase::LettingIn(left) => self.let_in(left),
+            Phase::Turns(from) => self.turn(from),
+            Phase::Notices(from) => self.notice(from),
+            Phase::Over => Step::End,
         }
     }
 
     /// Clients are let in, and then turns come.
     fn let_in(&mut self, left: u32) -> Step
-        requires { self.old.stage ≡ Stage.LettingIn left }
+        requires { self.old.phase ≡ Phase.LettingIn left }
         ensures next { IsNext self.old result }
         ensures new { self.new ≡ after self.old result }
         ensures within { (slot : ℕ) → result ≡ Step.Visit slot → slot < 64 }
@@ -111,25 +111,25 @@ impl Rounds {
         if left == 0 || self.listener == ListenerState::Idle {
             return self.turn(0);
         }
-        self.stage = Stage::LettingIn(left - 1);
+        self.phase = Phase::LettingIn(left - 1);
         Step::LetIn
     }
 
     /// The next turn, of the places from one on; after all of them it is asked for notices.
     fn turn(&mut self, from: usize) -> Step
-        requires shut { LetsIn self.old.stage self.old → ⊥ }
-        requires stage { IsFrom self.old.stage from }
+        requires none_to_let_in { LetsIn self.old.phase self.old → ⊥ }
+        requires phase { IsFrom self.old.phase from }
         ensures next { IsNext self.old result }
         ensures new { self.new ≡ after self.old result }
         ensures within { (slot : ℕ) → result ≡ Step.Visit slot → slot < 64 }
     {
         if let Some(slot) = next_turn(&self.places, from) {
-            self.stage = Stage::Turns(slot + 1);
+            self.phase = Phase::Turns(slot + 1);
             return Step::Visit(slot);
         }
         if any_may_wait(&self.places) {
             self.called = [false; 64];
-            self.stage = Stage::Notices(0);
+            self.phase = Phase::Notices(0);
             return Step::Ask;
         }
         self.rest()
@@ -137,13 +137,13 @@ impl Rounds {
 
     /// The next client that is called, of the places from one on.
     fn notice(&mut self, from: usize) -> Step
-        requires { self.old.stage ≡ Stage.Notices from }
+        requires { self.old.phase ≡ Phase.Notices from }
         ensures next { IsNext self.old result }
         ensures new { self.new ≡ after self.old result }
         ensures within { (slot : ℕ) → result ≡ Step.Visit slot → slot < 64 }
     {
         if let Some(slot) = next_called(&self.called, from) {
-            self.stage = Stage::Notices(slot + 1);
+            self.phase = Phase::Notices(slot + 1);
             return Step::Visit(slot);
         }
         self.rest()
@@ -152,10 +152,10 @@ impl Rounds {
     /// The round is over.
     fn rest(&mut self) -> Step
         ensures step { result ≡ Step.Sleep (longest_sleep_lem self.old) }
-        ensures new { self.new ≡ record self.old { stage = Stage.LettingIn 64 } }
+        ensures new { self.new ≡ record self.old { phase = Phase.LettingIn 64 } }
     {
         let most = self.longest_sleep();
-        self.stage = Stage::LettingIn(MAX_LET_IN);
+        self.phase = Phase::LettingIn(MAX_LET_IN);
         Step::Sleep(most)
     }
 
@@ -210,8 +210,8 @@ impl Rounds {
         } else {
             ListenerState::TryLater
         };
-        if let Stage::LettingIn(_) = self.stage {
-            self.stage = Stage::LettingIn(0);
+        if let Phase::LettingIn(_) = self.phase {
+            self.phase = Phase::LettingIn(0);
         }
     }
 
@@ -261,7 +261,7 @@ impl Rounds {
         let place = self.places[slot];
         let left = time_left(place, now);
         if let Turn::Killed = turn {
-            self.stage = Stage::Over;
+            self.phase = Phase::Over;
         } else {
             self.places[slot] = place_after(place, turn, left);
         }

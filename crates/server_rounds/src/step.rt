@@ -29,7 +29,7 @@ pub enum ListenerState {
 
 /// How far a round is.
 #[derive(Clone, Copy, PartialEq, Eq)]
-pub enum Stage {
+pub enum Phase {
     /// So many more clients may be let in, and then all turns come.
     LettingIn(u32),
     /// Turns come, of the places from this one on.

@@ -7,7 +7,6 @@ use counted_devices::Counting;
 use counted_player::{Ledgers, Seat};
 use held_player::{Blanks, News};
 use house::House;
-use house_rooms::opened;
 use mpd_answers::Asker;
 use mpd_command::CommandSet;
 use mpd_session::{End, Session, SessionFault};
@@ -15,7 +14,8 @@ use shelf::MemShelf;
 use std::alloc::{AllocError, Global};
 use std::marker::Brand;
 use std::sync::Wait;
-use wanted::Told;
+use test_houses::opened;
+use test_texts::Told;
 
 /// A step of a day.
 #[derive(Clone, Copy)]
@@ -34,7 +34,7 @@ pub(crate) enum Step<'a> {
 
 /// A client with its session, and what its session wrote.
 #[derive(Drop)]
-struct Guest {
+struct TestClient {
     client: u32,
     session: Session,
     wire: Counting<Pipe>,
@@ -47,15 +47,15 @@ fn reads<L: Ledgers>(
     house: &House<L>,
     seat: &mut Seat<L>,
     shelf: &mut MemShelf,
-    guest: &mut Guest,
+    test_client: &mut TestClient,
     bytes: &[u8],
     then: Then,
 ) -> Option<SessionFault> {
     let mut feed = Counting::new(Feed::new(bytes, then));
     for _ in 0..1_000_000u32 {
-        let left = guest
+        let left = test_client
             .session
-            .turn(rt, &mut feed, &mut guest.wire, house, seat, shelf);
+            .turn(rt, &mut feed, &mut test_client.wire, house, seat, shelf);
         match left {
             Ok(None) if !feed.inner().is_empty() => {}
             Ok(_) => return None,
@@ -91,11 +91,11 @@ fn fault_name(fault: SessionFault) -> &'static str {
 /// The clients that came, and what was told of faults.
 #[derive(Drop)]
 struct Log {
-    guests: Vec<Guest>,
+    test_clients: Vec<TestClient>,
     told: Told,
 }
 
-/// A client comes, and is one of the guests.
+/// A client comes, and is one of the test clients.
 fn greets<L: Ledgers>(
     rt: &impl Wait,
     alloc: Global,
@@ -119,17 +119,17 @@ fn greets<L: Ledgers>(
         log.told.fail();
         return;
     };
-    let guest = Guest {
+    let test_client = TestClient {
         client,
         session,
         wire: Counting::new(Pipe::new(Vec::new(alloc), takes)),
     };
-    if log.guests.push(guest).is_err() {
+    if log.test_clients.push(test_client).is_err() {
         log.told.fail();
     }
 }
 
-/// A guest's session reads some bytes, and its fault is told.
+/// A test client's session reads some bytes, and its fault is told.
 fn reads_of<L: Ledgers>(
     rt: &impl Wait,
     alloc: Global,
@@ -141,9 +141,9 @@ fn reads_of<L: Ledgers>(
     bytes: &[u8],
     then: Then,
 ) {
-    for guest in &mut log.guests {
-        if guest.client == client {
-            if let Some(fault) = reads(rt, alloc, house, seat, shelf, guest, bytes, then) {
+    for test_client in &mut log.test_clients {
+        if test_client.client == client {
+            if let Some(fault) = reads(rt, alloc, house, seat, shelf, test_client, bytes, then) {
                 log.told.add(fault_name(fault));
             }
         }
@@ -184,10 +184,13 @@ fn step_of<L: Ledgers>(
 
 /// What was told of faults, and of each client how its session is and what was written to it.
 fn told_of(log: Log) -> Result<String, AllocError> {
-    let Log { guests, mut told } = log;
-    for guest in &guests {
-        let text = str::from_utf8(guest.wire.inner().bytes()).unwrap_or("no text\n");
-        let (client, state) = (guest.client, state(&guest.session));
+    let Log {
+        test_clients,
+        mut told,
+    } = log;
+    for test_client in &test_clients {
+        let text = str::from_utf8(test_client.wire.inner().bytes()).unwrap_or("no text\n");
+        let (client, state) = (test_client.client, state(&test_client.session));
         told.add(format_args!("{client} {state}\n{text}"));
     }
     told.into_text()
@@ -203,7 +206,7 @@ fn steps_of<L: Ledgers>(
 ) -> Result<String, AllocError> {
     let mut shelf = MemShelf::new(alloc);
     let mut log = Log {
-        guests: Vec::new(alloc),
+        test_clients: Vec::new(alloc),
         told: Told::new(alloc),
     };
     for step in steps {

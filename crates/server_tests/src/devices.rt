@@ -4,7 +4,7 @@ use crate::wires::Takes;
 use std::alloc::{AllocError, Global};
 use std::sync::Wait;
 use std::test::Fail;
-use wanted::{Told, wants, wants_made};
+use test_texts::{Told, wants, wants_made};
 
 const LINES: &[u8] =
     b"ping\nadd a.wav\nplchangesposid 0\ncommand_list_ok_begin\nping\nping\ncommand_list_end\nfoo\n";

@@ -4,7 +4,7 @@ use crate::wires::{Takes, without_x};
 use std::alloc::{AllocError, Global};
 use std::sync::Wait;
 use std::test::Fail;
-use wanted::{Told, wants};
+use test_texts::{Told, wants};
 
 const ROW: &[u8] = b"ping\ncommand_list_ok_begin\nping\ncommand_list_end\n";
 

@@ -6,7 +6,6 @@ use crate::scanner::start_scanner;
 use counted_player::{Ledgers, Seat};
 use held_player::Blanks;
 use house::House;
-use house_rooms::opened;
 use mio::net::TcpListener as Door;
 use mpd_command::CommandSet;
 use mpd_server::{ServeFault, Server, bind, start_waker};
@@ -20,6 +19,7 @@ use std::test::Fail;
 use std::thread;
 use std::thread::Threads;
 use std::time::Clock;
+use test_houses::opened;
 
 const GREETING: &[u8] = b"OK MPD 0.23.0\n";
 
@@ -144,13 +144,13 @@ fn serves_at_brand<R: Threads + Wait + Net + Clock + Copy + Send + 'static>(
 /// A client on its socket. A fault of it is kept, and after one it says and hears nothing more: who lets it act
 /// need not ask after each line.
 #[derive(Drop)]
-struct Guest {
+struct TestClient {
     alloc: Global,
     stream: TcpStream,
     went_well: bool,
 }
 
-impl Guest {
+impl TestClient {
     /// It counts as a fault where something is not so.
     fn needs(&mut self, is_so: bool) {
         self.went_well = self.went_well && is_so;
@@ -222,7 +222,7 @@ impl Guest {
     }
 
     /// Sends no more from then on.
-    fn shuts(&mut self) {
+    fn closes_writing(&mut self) {
         self.went_well = self.went_well && self.stream.shutdown(Shutdown::Write).is_ok();
     }
 
@@ -243,17 +243,21 @@ fn comes<R: Net<Listener = TcpListener, Stream = TcpStream>>(
     rt: &R,
     alloc: Global,
     address: SocketAddr,
-) -> Option<Guest> {
+) -> Option<TestClient> {
     let Ok(stream) = TcpStream::connect(rt, address) else {
         return None;
     };
-    let mut guest = Guest {
+    let mut test_client = TestClient {
         alloc,
         stream,
         went_well: true,
     };
-    guest.hears(GREETING);
-    if guest.went_well { Some(guest) } else { None }
+    test_client.hears(GREETING);
+    if test_client.went_well {
+        Some(test_client)
+    } else {
+        None
+    }
 }
 
 /// So many clients come, or fewer after a fault.
@@ -262,7 +266,7 @@ fn others<R: Net<Listener = TcpListener, Stream = TcpStream>>(
     alloc: Global,
     address: SocketAddr,
     count: u32,
-) -> Vec<Guest> {
+) -> Vec<TestClient> {
     let mut others = Vec::new(alloc);
     for _client in 0..count {
         let Some(other) = comes(rt, alloc, address) else {
@@ -310,7 +314,7 @@ fn one_finds_a_place<R: Net<Listener = TcpListener, Stream = TcpStream>>(
     one_goes(rt, alloc, address, b"ping\n", b"OK\n", b"")
 }
 
-fn one_closes(client: Option<Guest>) -> bool {
+fn one_closes(client: Option<TestClient>) -> bool {
     let Some(mut last) = client else {
         return false;
     };
@@ -324,7 +328,7 @@ fn many_come<R: Net<Listener = TcpListener, Stream = TcpStream>>(
     rt: &R,
     alloc: Global,
     address: SocketAddr,
-    first: &mut Guest,
+    first: &mut TestClient,
 ) {
     let mut clients = others(rt, alloc, address, 63);
     let went_well = clients.len() == 63
@@ -335,7 +339,7 @@ fn many_come<R: Net<Listener = TcpListener, Stream = TcpStream>>(
     first.pings(1);
 }
 
-fn one_reads_slowly(first: &mut Guest, slow: &mut Guest) {
+fn one_reads_slowly(first: &mut TestClient, slow: &mut TestClient) {
     let length = slow.length_of_commands();
     slow.asks(4_000);
     first.pings(100);
@@ -346,11 +350,11 @@ fn one_reads_slowly(first: &mut Guest, slow: &mut Guest) {
 /// The answers take about 10 MB: more than a socket takes that nobody reads, and less than may be unsent. All
 /// is asked before the other client pings. In a round one of its pings is answered, and 4,096 bytes of this
 /// client are read: so it is closed, with answers unsent, before it reads.
-fn one_reads_late(first: &mut Guest, late: &mut Guest, sends_no_more: bool) {
+fn one_reads_late(first: &mut TestClient, late: &mut TestClient, sends_no_more: bool) {
     let length = late.length_of_commands();
     late.asks(8_000);
     if sends_no_more {
-        late.shuts();
+        late.closes_writing();
     } else {
         late.writes(b"close\n");
     }
@@ -361,7 +365,7 @@ fn one_reads_late(first: &mut Guest, late: &mut Guest, sends_no_more: bool) {
 }
 
 /// Without a change of the first one the other would wait for ever.
-fn one_waits(first: &mut Guest, waiting: &mut Guest) {
+fn one_waits(first: &mut TestClient, waiting: &mut TestClient) {
     for _change in 0..50u32 {
         waiting.writes(b"idle options\n");
         first.needs(waiting.went_well);
@@ -373,7 +377,7 @@ fn one_waits(first: &mut Guest, waiting: &mut Guest) {
     }
 }
 
-fn one_line_is_long(first: &mut Guest, long: &mut Guest) {
+fn one_line_is_long(first: &mut TestClient, long: &mut TestClient) {
     let Ok(bytes) = Vec::from_elem(long.alloc, b'x', 100_000) else {
         long.went_well = false;
         return;
@@ -385,9 +389,9 @@ fn one_line_is_long(first: &mut Guest, long: &mut Guest) {
 }
 
 /// What was asked before the client closed its writing half is answered.
-fn one_sends_no_more(first: &mut Guest, half: &mut Guest) {
+fn one_sends_no_more(first: &mut TestClient, half: &mut TestClient) {
     half.writes(b"add a.wav\nplchangesposid 0\nping\n");
-    half.shuts();
+    half.closes_writing();
     half.hears(b"OK\ncpos: 0\nId: 1\nOK\nOK\n");
     first.pings(1);
     half.needs(first.went_well);
@@ -399,7 +403,7 @@ fn beside_another<R: Net<Listener = TcpListener, Stream = TcpStream>>(
     rt: &R,
     alloc: Global,
     address: SocketAddr,
-    first: &mut Guest,
+    first: &mut TestClient,
     party: Party,
 ) {
     let Some(mut second) = comes(rt, alloc, address) else {
@@ -422,7 +426,7 @@ fn one_is_followed<R: Net<Listener = TcpListener, Stream = TcpStream>>(
     rt: &R,
     alloc: Global,
     address: SocketAddr,
-    first: &mut Guest,
+    first: &mut TestClient,
 ) {
     let Some(mut last) = comes(rt, alloc, address) else {
         first.went_well = false;
@@ -440,7 +444,7 @@ fn beside_many<R: Net<Listener = TcpListener, Stream = TcpStream>>(
     rt: &R,
     alloc: Global,
     address: SocketAddr,
-    first: &mut Guest,
+    first: &mut TestClient,
     is_at_once: bool,
 ) {
     let others = others(rt, alloc, address, 62);
@@ -462,7 +466,7 @@ fn many_go<R: Net<Listener = TcpListener, Stream = TcpStream>>(
     rt: &R,
     alloc: Global,
     address: SocketAddr,
-    first: &mut Guest,
+    first: &mut TestClient,
     count: u32,
     lines: &[&[u8]; 4],
 ) {
@@ -477,7 +481,7 @@ fn acts<R: Net<Listener = TcpListener, Stream = TcpStream>>(
     rt: &R,
     alloc: Global,
     address: SocketAddr,
-    first: &mut Guest,
+    first: &mut TestClient,
     party: Party,
 ) {
     match party {
@@ -501,12 +505,12 @@ fn visits<R: Net<Listener = TcpListener, Stream = TcpStream>>(
     rt: &R,
     alloc: Global,
     address: SocketAddr,
-    guests: Party,
+    party: Party,
 ) -> bool {
     let Some(mut first) = comes(rt, alloc, address) else {
         return false;
     };
-    acts(rt, alloc, address, &mut first, guests);
+    acts(rt, alloc, address, &mut first, party);
     let is_said = first.stream.write_all(b"kill\n").is_ok();
     is_said && is_at_its_end(&mut first.stream) && first.went_well
 }
@@ -520,7 +524,7 @@ fn goes_well<
         + Send
         + Sync
         + 'static,
->(rt: R, alloc: Global, guests: Party) -> bool {
+>(rt: R, alloc: Global, party: Party) -> bool {
     let Ok(door) = bind(&rt, "127.0.0.1:0") else {
         return false;
     };
@@ -530,7 +534,7 @@ fn goes_well<
     let (served, visited) = thread::join(
         &rt,
         move || serves_at_brand(rt, alloc, door),
-        move || visits(&rt, alloc, address, guests),
+        move || visits(&rt, alloc, address, party),
     );
     served.is_ok() && visited
 }
@@ -555,7 +559,7 @@ fn first_that_fails<
 }
 
 /// In a scan the loop sleeps, and the thread that wakes it is told of the notice that a scanner makes.
-const GUESTS: &[Party] = &[
+const PARTIES: &[Party] = &[
     Party::Scan,
     Party::One,
     Party::Many,
@@ -580,11 +584,11 @@ fn is_listened_at_once<R: Net>(rt: &R, alloc: Global) -> bool {
 }
 
 #[test]
-fn guests_are_served(rt: HostRuntime) -> Result<(), Fail> {
+fn clients_are_served(rt: HostRuntime) -> Result<(), Fail> {
     assert!(rt; bind(&rt, "127.0.0.1:0").is_ok());
     assert!(rt; bind(&rt, "nowhere").is_err());
     assert!(rt; is_listened_at_once(&rt, rt.alloc()));
-    assert_eq!(rt; first_that_fails(rt, rt.alloc(), GUESTS), None);
+    assert_eq!(rt; first_that_fails(rt, rt.alloc(), PARTIES), None);
     Ok(())
 }
 
@@ -598,7 +602,7 @@ const ENDS: &[Party] = &[
 ];
 
 #[test]
-fn guests_end(rt: HostRuntime) -> Result<(), Fail> {
+fn clients_end(rt: HostRuntime) -> Result<(), Fail> {
     assert_eq!(rt; first_that_fails(rt, rt.alloc(), ENDS), None);
     Ok(())
 }

@@ -20,7 +20,7 @@ fn no_songs(alloc: Global) -> Option<SharedDb> {
 }
 
 /// Looks whether a scan runs, and ends it a while later; it found no song. False where the daemon has ended.
-fn looks<L: Ledgers, R: Wait + Clock>(
+fn scans_once<L: Ledgers, R: Wait + Clock>(
     rt: &R,
     alloc: Global,
     house: &House<L>,
@@ -44,7 +44,7 @@ fn looks<L: Ledgers, R: Wait + Clock>(
 fn scans<L: Ledgers, R: Wait + Clock>(rt: &R, alloc: Global, house: &House<L>) {
     let mut seat = Seat::of_crew(9);
     for _ in rt.forever() {
-        if !looks(rt, alloc, house, &mut seat) {
+        if !scans_once(rt, alloc, house, &mut seat) {
             return;
         }
     }

@@ -2,7 +2,7 @@
 use crate::days::{Step, told_where};
 use crate::wires::Takes;
 use std::test::Fail;
-use wanted::wants;
+use test_texts::wants;
 
 /// A session in a house of its own.
 struct Row<'a> {

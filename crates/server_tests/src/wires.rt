@@ -2,7 +2,7 @@
 use std::alloc::{AllocError, Global};
 use std::io;
 use std::io::{ErrorKind, Read, Write};
-use wanted::Told;
+use test_texts::Told;
 
 /// What a reader does once its bytes are read.
 #[derive(Clone, Copy)]

@@ -4,7 +4,7 @@ ghost use Rattle.serving.specs.Restoring.{IsTextTold};
 
 use crate::fault::DaemonFault;
 use crate::folder::tell;
-use crate::hall::Hall;
+use crate::player_handles::PlayerHandles;
 use crate::state_file::{Disk, read_state, set_aside};
 use counted_player::{Ledgers, Seat};
 use held_player::{Answered, News};
@@ -54,17 +54,17 @@ impl<'h, L: Ledgers, S: Shelf + Drop, R: Wait> Model for Restorer<'h, L, S, R> {
 pub(crate) fn restore<L: Ledgers, R: Wait>(
     rt: &R,
     host: &HostRuntime,
-    hall: Hall<L>,
+    player_handles: PlayerHandles<L>,
     path: &str,
-) -> Result<Hall<L>, DaemonFault> {
+) -> Result<PlayerHandles<L>, DaemonFault> {
     let Some(text) = read_state(host, path)? else {
-        return Ok(hall);
+        return Ok(player_handles);
     };
-    let Hall {
+    let PlayerHandles {
         house,
         mut seat,
         shares,
-    } = hall;
+    } = player_handles;
     house
         .notice(rt, &mut seat, News::Comes(KEEPER))
         .map_err(DaemonFault::Player)?;
@@ -76,7 +76,7 @@ pub(crate) fn restore<L: Ledgers, R: Wait>(
     if set_aside(&mut Disk { host: *host }, host.alloc(), path, refused).is_err() {
         tell(host, "the state with refused lines cannot be kept");
     }
-    Ok(Hall {
+    Ok(PlayerHandles {
         house,
         seat,
         shares,

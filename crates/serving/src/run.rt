@@ -3,9 +3,9 @@ ghost use Rattle.frame_ledger.specs.Shares.{AreEmpty, HasAllParts};
 ghost use Rattle.std.specs.Prelude.{◌≤◌, vec_len};
 
 use crate::fault::DaemonFault;
-use crate::gear::Gear;
-use crate::hall::{Hall, shared};
 use crate::keeper::start_keeper_for;
+use crate::player_handles::{PlayerHandles, shared};
+use crate::resources::ThreadResources;
 use crate::summary::{print_summary, tell_end};
 use counted_devices::{Media, Sink};
 use counted_player::{Ledgers, Seat};
@@ -25,7 +25,7 @@ use std::time::{Clock, Duration};
 
 /// How a daemon plays and serves.
 #[derive(Clone, Copy)]
-pub(crate) struct Manner {
+pub(crate) struct ServingOptions {
     /// Frames a second.
     pub(crate) rate: u32,
     /// How many frames the ring of an output holds.
@@ -51,36 +51,36 @@ pub(crate) fn run<
 >(
     rt: R,
     host: &HostRuntime,
-    hall: Hall<L>,
-    gear: Gear<O, N, C>,
+    player_handles: PlayerHandles<L>,
+    resources: ThreadResources<O, N, C>,
     server: Server,
     shelf: &mut S,
-    manner: Manner,
+    options: ServingOptions,
     state: Option<String>,
 ) -> Result<(), DaemonFault> {
     let alloc = host.alloc();
-    let Hall {
+    let PlayerHandles {
         house,
         mut seat,
         shares,
-    } = hall;
-    let Gear {
+    } = player_handles;
+    let ThreadResources {
         writers,
         source,
         scanner,
         patient,
-    } = gear;
+    } = resources;
     let mut server = server;
     let gates = gates_of(rt, *host, &house, patient).map_err(DaemonFault::Player)?;
     let gates = shared(alloc, gates)?;
     let mut crew = start_crew::<L, O, N, M, R>(
-        rt, alloc, &house, &gates, writers, source, shares, manner,
+        rt, alloc, &house, &gates, writers, source, shares, options,
     )?;
     // Without this thread the server looks for notices by itself.
     let waking = start_waker(rt, &house, &mut server).ok();
     let keeping = start_keeper_for(rt, *host, &house, &gates, state);
     let served = match start_scanner(rt, alloc, &house, &mut crew, scanner) {
-        Ok(()) => server.serve(&rt, alloc, &house, &mut seat, shelf, manner.commands),
+        Ok(()) => server.serve(&rt, alloc, &house, &mut seat, shelf, options.commands),
         Err(_) => Err(ServeFault::NoMemory),
     };
     end(
@@ -111,16 +111,16 @@ fn start_crew<
     writers: Vec<O>,
     source: N,
     shares: CrewShares<L>,
-    manner: Manner,
+    options: ServingOptions,
 ) -> Result<Crew<L>, AllocError>
     requires few { vec_len writers ≤ 8 }
     requires parts { HasAllParts shares.decoded.parts shares.outputs }
     requires empty { AreEmpty shares.outputs }
 {
     let CrewShares { decoded, outputs } = shares;
-    let rings = output_setups(alloc, manner.ring, writers)?;
+    let rings = output_setups(alloc, options.ring, writers)?;
     let outputs = start_outputs(rt, alloc, house, gates, rings, outputs)?;
-    let (rate, ring) = (manner.rate, manner.ring);
+    let (rate, ring) = (options.rate, options.ring);
     start_decoder::<L, N, M, R>(rt, alloc, house, source, rate, ring, outputs, decoded)
 }
 

@@ -9,10 +9,10 @@ use crate::address::{address_of, listen_at};
 use crate::checked::print_found;
 use crate::fault::DaemonFault;
 use crate::folder::{Found, songs_of, tell};
-use crate::gear::gear_of;
-use crate::hall::open_hall;
+use crate::player_handles::open_player_handles;
+use crate::resources::resources_of;
 use crate::restoring::restore;
-use crate::run::{Manner, run};
+use crate::run::{ServingOptions, run};
 use crate::state_file::read_state;
 use counted_player::Ledgers;
 use crew::second_now;
@@ -148,24 +148,24 @@ fn serve_with<
     let alloc = host.alloc();
     let Found { songs, told } = found;
     let player = player_of(alloc, settings, songs, second_now(&rt))?;
-    let opened = open_hall::<L, R>(&rt, alloc, blanks, player)?;
-    let hall = match &settings.state {
+    let opened = open_player_handles::<L, R>(&rt, alloc, blanks, player)?;
+    let player_handles = match &settings.state {
         Some(path) => restore(&rt, &host, opened, path.as_str())?,
         None => opened,
     };
     let listener = listen_at(&rt, alloc, settings.listen.as_str())?;
     let server = Server::open(&rt, alloc, listener)?;
-    let gear = gear_of(rt, host, settings)?;
+    let resources = resources_of(rt, host, settings)?;
     tell(&host, told.as_str());
     let state = state_of(alloc, settings)?;
     run(
         rt,
         &host,
-        hall,
-        gear,
+        player_handles,
+        resources,
         server,
         shelf,
-        manner_of(settings),
+        serving_options_of(settings),
         state,
     )
 }
@@ -180,10 +180,10 @@ fn state_of(alloc: Global, settings: &Settings) -> Result<Option<String>, AllocE
     }
 }
 
-fn manner_of(settings: &Settings) -> Manner
+fn serving_options_of(settings: &Settings) -> ServingOptions
     ensures { result ≡ record { rate = settings.now.rate; ring = settings.now.ring; commands = commands_for settings.now } }
 {
-    Manner {
+    ServingOptions {
         rate: settings.rate.frames(),
         ring: settings.ring as usize,
         commands: commands_of(settings),

@@ -5,7 +5,7 @@ use shelf_tests::calls::{add_uris, uri_list};
 use shelf_tests::cases::{CASES, look_at};
 use std::alloc::{AllocError, Global};
 use std::test::Fail;
-use wanted::{Told, wants};
+use test_texts::{Told, wants};
 
 /// Looks at an empty shelf in each case. Here alone it is proved that this is a shelf: once, and not in each
 /// test.

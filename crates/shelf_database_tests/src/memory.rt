@@ -6,7 +6,7 @@ use shelf_tests::cases::{CASES, Case, look_at};
 use sqlite::{Connection, MemStore, params};
 use std::alloc::Global;
 use std::test::Fail;
-use wanted::{Told, wants};
+use test_texts::{Told, wants};
 
 pub(crate) fn over(
     alloc: Global,

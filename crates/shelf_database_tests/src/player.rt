@@ -8,8 +8,8 @@ use shelf::Shelf;
 use std::alloc::{AllocError, Global};
 use test_players::{library, list_answer, player, requests};
 use test_songs::song;
+use test_texts::Told;
 use transitions::Stand;
-use wanted::Told;
 
 /// A player over a song of one second and one of four frames, without outputs, whose window has at most two events.
 fn opened(alloc: Global) -> Result<Partition, AllocError> {

@@ -4,7 +4,7 @@ use crate::memory::{after, over};
 use crate::stops::{Call, Disks, Side, Step, Visit, disks_before, look_again, visited};
 use std::alloc::{AllocError, Global};
 use std::test::Fail;
-use wanted::{Told, wants};
+use test_texts::{Told, wants};
 
 const LISTS: &str = "add s.wav
 save x

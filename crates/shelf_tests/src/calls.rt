@@ -3,7 +3,7 @@
 use shelf::{Entry, Shelf, ShelfFault, StickerKind, UriList};
 use std::alloc::{AllocError, Global};
 use std::test::Fail;
-use wanted::{Told, wants};
+use test_texts::{Told, wants};
 
 /// A call, with names, URIs and texts as the trait has them.
 #[derive(Clone, Copy)]

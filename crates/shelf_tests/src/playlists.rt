@@ -4,7 +4,7 @@ use crate::calls::{Call, Step, follow};
 use shelf::{Shelf, UriList};
 use std::alloc::{AllocError, Global};
 use std::test::Fail;
-use wanted::{Told, wants};
+use test_texts::{Told, wants};
 
 /// A list is kept once, read, renamed, and then missed under its first name.
 pub const KEPT_AND_RENAMED: &[Step<'_>] = &[

@@ -1,6 +1,6 @@
 //! An output with patience: what is seen of a path that takes nothing, and that the thread which writes to the
 //! path goes on whenever bytes come.
-use patient_output::{Passage, Reopening, carry, patient_output};
+use patient_output::{Reopening, SharedTally, copy_to_path, patient_output};
 use std::alloc::{AllocError, Global};
 use std::io::Write;
 use std::sync::{Arc, Wait};
@@ -8,7 +8,7 @@ use std::test::Fail;
 use std::thread::Threads;
 use std::time::{Clock, Duration};
 use std::{io, thread};
-use wanted::{Told, wants};
+use test_texts::{Told, wants};
 
 /// A path that takes all that it is given.
 #[derive(Drop)]
@@ -28,17 +28,17 @@ impl Reopening for Open {
     fn let_go(&mut self) {}
 }
 
-fn passage_of(alloc: Global) -> Result<Arc<Passage, Global>, AllocError> {
-    match Arc::new(alloc, Passage::new()) {
-        Ok(passage) => Ok(passage),
+fn shared_tally_of(alloc: Global) -> Result<Arc<SharedTally, Global>, AllocError> {
+    match Arc::new(alloc, SharedTally::new()) {
+        Ok(tally) => Ok(tally),
         Err(_) => Err(AllocError),
     }
 }
 
 /// Waits ten seconds at most until the path has taken so many bytes. Whether it has.
-fn has_taken<R: Wait + Clock>(rt: &R, passage: &Passage, count: u64) -> bool {
+fn has_taken<R: Wait + Clock>(rt: &R, tally: &SharedTally, count: u64) -> bool {
     for _ in 0..10_000 {
-        if passage.sight(rt).taken == count {
+        if tally.progress(rt).taken == count {
             return true;
         }
         thread::sleep(rt, Duration::from_millis(1));
@@ -47,9 +47,9 @@ fn has_taken<R: Wait + Clock>(rt: &R, passage: &Passage, count: u64) -> bool {
 }
 
 /// Adds how many bytes wait, and whether these are too many for an output to go on.
-fn add_sight(rt: &impl Wait, passage: &Passage, told: &mut Told) {
-    let sight = passage.sight(rt);
-    let (waiting, held_up) = (sight.waiting, sight.is_held_up());
+fn add_progress(rt: &impl Wait, tally: &SharedTally, told: &mut Told) {
+    let progress = tally.progress(rt);
+    let (waiting, held_up) = (progress.waiting, progress.is_held_up());
     told.add(format_args!("{waiting} wait, held up: {held_up}\n"));
 }
 
@@ -57,27 +57,27 @@ fn told<R: Threads + Wait + Clock + Copy + Drop + Send + 'static>(
     rt: R,
     alloc: Global,
 ) -> Result<String, AllocError> {
-    let passage = passage_of(alloc)?;
-    let (mut writer, load) = patient_output(rt, alloc, &passage)?;
+    let tally = shared_tally_of(alloc)?;
+    let (mut writer, arguments) = patient_output(rt, alloc, &tally)?;
     let mut told = Told::new(alloc);
     // Nobody writes to the path yet.
     let _written = writer.write(&[0; 8_192]);
-    add_sight(&rt, &passage, &mut told);
+    add_progress(&rt, &tally, &mut told);
     let _written = writer.write(&[0; 4]);
-    add_sight(&rt, &passage, &mut told);
-    let Ok(carrier) = thread::spawn(&rt, move || carry(&rt, load, Open)) else {
+    add_progress(&rt, &tally, &mut told);
+    let Ok(path_writer) = thread::spawn(&rt, move || copy_to_path(&rt, arguments, Open)) else {
         return Err(AllocError);
     };
-    let at_once = has_taken(&rt, &passage, 8_196);
+    let at_once = has_taken(&rt, &tally, 8_196);
     told.add(format_args!("taken: {at_once}\n"));
     // The thread waits for bytes by now.
     thread::sleep(&rt, Duration::from_millis(200));
     let _written = writer.write(&[0; 100]);
-    let later = has_taken(&rt, &passage, 8_296);
+    let later = has_taken(&rt, &tally, 8_296);
     told.add(format_args!("taken later: {later}\n"));
-    let left = passage.finish(&rt, Duration::from_millis(10_000));
+    let left = tally.finish(&rt, Duration::from_millis(10_000));
     told.add(format_args!("left: {left}\n"));
-    let _carried = carrier.join(&rt);
+    let _end = path_writer.join(&rt);
     told.into_text()
 }
 
@@ -89,6 +89,6 @@ left: 0
 ";
 
 #[test]
-fn paths_are_carried_to(rt: HostRuntime) -> Result<(), Fail> {
+fn paths_are_written_to(rt: HostRuntime) -> Result<(), Fail> {
     wants(told(rt, rt.alloc()), TELLS)
 }

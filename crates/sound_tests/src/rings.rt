@@ -8,7 +8,7 @@ use std::alloc::{AllocError, Global};
 use std::io;
 use std::io::{ErrorKind, Write};
 use std::test::Fail;
-use wanted::{Told, wants, wants_made};
+use test_texts::{Told, wants, wants_made};
 
 const FIRST: Cut = Cut {
     moves: 0,

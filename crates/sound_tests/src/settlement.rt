@@ -10,7 +10,7 @@ use std::alloc::{AllocError, Global};
 use std::marker::Brand;
 use std::sync::ledger::{Blank, Ledger};
 use std::test::Fail;
-use wanted::{Told, wants};
+use test_texts::{Told, wants};
 
 // A hand that is filled and written out, and perhaps reported.
 #[derive(Clone, Copy)]

@@ -3,7 +3,7 @@ use crate::tables::{Reads, all_agree, repeated};
 use mpd_text::{Answer, ErrorNumber, SharedText, Text, number};
 use std::alloc::{AllocError, Global};
 use std::test::Fail;
-use wanted::{Told, wants, wants_made};
+use test_texts::{Told, wants, wants_made};
 
 /// Adds the number of a text, or that there is none.
 pub fn add_number(told: &mut Told, text: &str) {

@@ -3,7 +3,7 @@ use crate::tables::repeated;
 use mpd_text::{Line, SplitFault, Splitter, any_cut, lines_make_the_stream, pieces_do_not_matter};
 use std::alloc::{AllocError, Global};
 use std::test::Fail;
-use wanted::{Told, wants, wants_made};
+use test_texts::{Told, wants, wants_made};
 
 fn text_of(line: &Line) -> &str {
     match line {

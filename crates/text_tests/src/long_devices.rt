@@ -6,7 +6,7 @@ use counted_devices::{Counting, FailAt, FailurePoint, Media};
 use std::alloc::{AllocError, Global};
 use std::io::{Cursor, ErrorKind};
 use std::test::Fail;
-use wanted::wants;
+use test_texts::wants;
 
 /// 40,000 bytes, each known by its place.
 fn pattern(alloc: Global) -> Result<Vec<u8>, AllocError> {

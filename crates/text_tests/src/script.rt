@@ -4,7 +4,7 @@ use crate::tables::{Reads, all_agree, read, repeated};
 use script_lines::{JobStep, LimitName, ScriptLine, Step};
 use std::alloc::{AllocError, Global};
 use std::test::Fail;
-use wanted::{Told, wants, wants_made};
+use test_texts::{Told, wants, wants_made};
 
 /// Adds whose line it is, and what follows in brackets.
 pub fn add_head(told: &mut Told, line: &str) {

@@ -2,7 +2,7 @@
 use mpd_text::{BASE_TAG_NAMES, Song, TAG_NAMES, Tag, TagName, text_of_tag};
 use std::alloc::{AllocError, Global};
 use std::test::Fail;
-use wanted::{Told, wants, wants_made};
+use test_texts::{Told, wants, wants_made};
 
 /// Adds the URI, the frames, and each tag after a bar.
 pub fn add_song(told: &mut Told, song: &Song) {

@@ -3,7 +3,7 @@ use crate::{answers, script, words};
 use mpd_text::quote;
 use std::alloc::{AllocError, Global};
 use std::test::Fail;
-use wanted::{Told, wants};
+use test_texts::{Told, wants};
 
 /// What reads the left side of a line of a table.
 #[derive(Clone, Copy)]

@@ -3,7 +3,7 @@ use crate::tables::{Reads, all_agree, read, repeated};
 use mpd_text::{WordsFault, one_reading, some_reading, words, words_read_quotes};
 use std::alloc::{AllocError, Global};
 use std::test::Fail;
-use wanted::{Told, wants, wants_made};
+use test_texts::{Told, wants, wants_made};
 
 fn add_each(told: &mut Told, words: &[String]) {
     for word in words {

@@ -1,7 +1,7 @@
-//! What passes from an output to its path.
+//! The counts of what passes from an output to its path, behind a lock.
 ghost use Rattle.std.specs.Prelude.{◌≢◌, Some};
 
-use crate::sight::Sight;
+use crate::progress::PathProgress;
 use crate::tally::Tally;
 use std::io::ErrorKind;
 use std::sync::{Condvar, Mutex, Wait};
@@ -9,7 +9,7 @@ use std::time::{Clock, Duration};
 
 /// Between an output, the thread that writes to its path, and its gate: how many bytes passed. The lock is held
 /// for a few instructions, and never while the path is written.
-pub struct Passage {
+pub struct SharedTally {
     tally: Mutex<Tally>,
     /// Rung where bytes came or the output ends.
     is_due: Condvar,
@@ -17,9 +17,9 @@ pub struct Passage {
     is_over: Condvar,
 }
 
-impl Drop for Passage {
+impl Drop for SharedTally {
     fn drop(self) {
-        let Passage {
+        let SharedTally {
             tally: _,
             is_due: _,
             is_over: _,
@@ -27,9 +27,9 @@ impl Drop for Passage {
     }
 }
 
-impl Passage {
-    pub fn new() -> Passage {
-        Passage {
+impl SharedTally {
+    pub fn new() -> SharedTally {
+        SharedTally {
             tally: Mutex::new(Tally::new()),
             is_due: Condvar::new(),
             is_over: Condvar::new(),
@@ -37,8 +37,8 @@ impl Passage {
     }
 
     /// What is seen of it now.
-    pub fn sight(&self, rt: &impl Wait) -> Sight {
-        self.tally.lock(rt).sight()
+    pub fn progress(&self, rt: &impl Wait) -> PathProgress {
+        self.tally.lock(rt).progress()
     }
 
     /// How the path failed, if it did.

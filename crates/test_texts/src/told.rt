@@ -1,7 +1,7 @@
 //! What a test is told, piece by piece.
 ghost use Rattle.std.specs.Prelude.{◌≡◌, None, Some, [], IfOk, IfSome, OnErr, string_bytes};
 ghost use Rattle.std.specs.Fmt.{AppendsText};
-ghost use Rattle.wanted.specs.Growing.{Grows};
+ghost use Rattle.test_texts.specs.Growing.{Grows};
 
 use std::alloc::{AllocError, Global};
 use std::fmt::Display;

@@ -2,9 +2,9 @@
 ghost use Rattle.std.specs.Prelude.{◌≡◌, ◌≤◌, length, take, true};
 ghost use Rattle.std.specs.Io.KnownBytes.{Appends};
 ghost use Rattle.rtrb.specs.Ring.{received};
-ghost use Rattle.patient_output.specs.Carrying.{WritesAll, WritesFirst};
+ghost use Rattle.patient_output.specs.PathWriting.{WritesAll, WritesFirst};
 
-use crate::passage::Passage;
+use crate::shared_tally::SharedTally;
 use rtrb::Consumer;
 use std::alloc::Global;
 use std::io::{ErrorKind, Write};
@@ -26,43 +26,47 @@ pub trait Reopening: Write {
         ensures { Self.contents self.new ≡ Self.contents self.old };
 }
 
-/// What a thread takes with it that writes to an output's path.
+/// What the thread that writes to an output's path takes with it.
 #[derive(Drop)]
-pub struct Load {
+pub struct PathWriterArguments {
     pub consumer: Consumer<u8>,
-    pub passage: Arc<Passage, Global>,
+    pub tally: Arc<SharedTally, Global>,
 }
 
 /// What it hands back.
 #[derive(Drop)]
-pub struct Carried<W> {
+pub struct PathWriterEnd<W> {
     pub consumer: Consumer<u8>,
     pub path: W,
 }
 
 /// Writes what is in the ring to the path until the output ends or the path fails. It waits for the path as long as
 /// that takes. Where the path's reader went away, it is opened anew, which waits for another.
-pub fn carry<R: Wait + Clock, W: Reopening + Drop>(rt: &R, load: Load, path: W) -> Carried<W>
-    ensures { WritesFirst (received load.consumer) (received result.consumer) (W.contents path) (W.contents result.path) }
+pub fn copy_to_path<R: Wait + Clock, W: Reopening + Drop>(
+    rt: &R,
+    arguments: PathWriterArguments,
+    path: W,
+) -> PathWriterEnd<W>
+    ensures { WritesFirst (received arguments.consumer) (received result.consumer) (W.contents path) (W.contents result.path) }
 {
-    let Load {
+    let PathWriterArguments {
         mut consumer,
-        passage,
-    } = load;
+        tally,
+    } = arguments;
     let mut path = path;
     for _ in rt.forever() {
-        if !carry_piece(rt, &mut consumer, &passage, &mut path) {
-            return Carried { consumer, path };
+        if !copy_piece(rt, &mut consumer, &tally, &mut path) {
+            return PathWriterEnd { consumer, path };
         }
     }
     unreachable!()
 }
 
 /// Writes a piece of what is in the ring, or waits until there is one. False where that was the last.
-fn carry_piece<R: Wait + Clock, W: Reopening>(
+fn copy_piece<R: Wait + Clock, W: Reopening>(
     rt: &R,
     consumer: &mut Consumer<u8>,
-    passage: &Passage,
+    tally: &SharedTally,
     path: &mut W,
 ) -> bool
     ensures first { WritesFirst (received consumer.old) (received consumer.new) (W.contents path.old) (W.contents path.new) }
@@ -70,15 +74,15 @@ fn carry_piece<R: Wait + Clock, W: Reopening>(
 {
     let mut piece = [0u8; PIECE];
     let count = consumer.pop_partial_slice(&mut piece);
-    let written = write_piece(rt, passage, path, &piece[..count]);
-    written == count && (count > 0 || passage.await_bytes(rt))
+    let written = write_piece(rt, tally, path, &piece[..count]);
+    written == count && (count > 0 || tally.await_bytes(rt))
 }
 
 /// Writes the bytes of a piece, and says how many: all, but where the path failed, or the output has ended and nobody
 /// reads.
 fn write_piece<R: Wait + Clock, W: Reopening>(
     rt: &R,
-    passage: &Passage,
+    tally: &SharedTally,
     path: &mut W,
     piece: &[u8],
 ) -> usize
@@ -94,12 +98,12 @@ fn write_piece<R: Wait + Clock, W: Reopening>(
             Ok(0) => ErrorKind::WriteZero,
             Ok(count) => {
                 done += count;
-                passage.took(rt, count);
+                tally.took(rt, count);
                 continue;
             }
             Err(fault) => fault.kind(),
         };
-        if !goes_on_after(rt, passage, path, kind) {
+        if !goes_on_after(rt, tally, path, kind) {
             return done;
         }
     }
@@ -110,7 +114,7 @@ fn write_piece<R: Wait + Clock, W: Reopening>(
 /// path has no room now.
 fn goes_on_after<R: Wait + Clock, W: Reopening>(
     rt: &R,
-    passage: &Passage,
+    tally: &SharedTally,
     path: &mut W,
     kind: ErrorKind,
 ) -> bool
@@ -120,18 +124,18 @@ fn goes_on_after<R: Wait + Clock, W: Reopening>(
         ErrorKind::Interrupted => true,
         ErrorKind::BrokenPipe => {
             path.let_go();
-            goes_on_after_pause(rt, passage)
+            goes_on_after_pause(rt, tally)
         }
-        ErrorKind::WouldBlock => goes_on_after_pause(rt, passage),
+        ErrorKind::WouldBlock => goes_on_after_pause(rt, tally),
         _ => {
-            passage.fail(rt, kind);
+            tally.fail(rt, kind);
             false
         }
     }
 }
 
 /// Waits for a while, and says whether the output still gives.
-fn goes_on_after_pause<R: Wait + Clock>(rt: &R, passage: &Passage) -> bool {
+fn goes_on_after_pause<R: Wait + Clock>(rt: &R, tally: &SharedTally) -> bool {
     thread::sleep(rt, Duration::from_millis(PAUSE));
-    !passage.ends(rt)
+    !tally.ends(rt)
 }

@@ -11,7 +11,7 @@ pub const MOST_WAITING: u64 = 8_192;
 
 /// What is seen of an output's path at a moment.
 #[derive(Clone, Copy, PartialEq, Eq)]
-pub struct Sight {
+pub struct PathProgress {
     /// How many bytes wait for the path.
     pub waiting: u64,
     /// How many bytes the path took so far.
@@ -20,7 +20,7 @@ pub struct Sight {
     pub fails: bool,
 }
 
-impl Sight {
+impl PathProgress {
     ghost use Rattle.std.specs.Prelude.{◌≡◌};
     ghost use Rattle.patient_output.specs.Gates.{is_held_up};
 

@@ -12,7 +12,7 @@ use std::sync::{Arc, Wait};
 
 /// A house, the seat of the thread that serves, and the shares of those that decode and write.
 #[derive(Drop)]
-pub(crate) struct Hall<L: Ledgers> {
+pub(crate) struct PlayerHandles<L: Ledgers> {
     pub(crate) house: Arc<House<L>, Global>,
     pub(crate) seat: Seat<L>,
     pub(crate) shares: CrewShares<L>,
@@ -21,18 +21,18 @@ pub(crate) struct Hall<L: Ledgers> {
 }
 
 /// The house of a player to which nothing happened.
-pub(crate) fn open_hall<L: Ledgers, R: Wait>(
+pub(crate) fn open_player_handles<L: Ledgers, R: Wait>(
     rt: &R,
     alloc: Global,
     blanks: Blanks,
     player: Partition,
-) -> Result<Hall<L>, AllocError>
+) -> Result<PlayerHandles<L>, AllocError>
     requires fresh { IsFresh player.present }
     requires blanks { AreFor L.names blanks }
 {
     let (house, shares) = House::<L>::open(alloc, blanks, player)?;
     match seated(rt, alloc, house) {
-        Ok((house, seat)) => Ok(Hall {
+        Ok((house, seat)) => Ok(PlayerHandles {
             house,
             seat,
             shares,

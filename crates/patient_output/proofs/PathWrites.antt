@@ -3,7 +3,7 @@ use Rattle.std.proofs.Common.{◌≡◌, ◌≤◌, ℕ, ◌+◌, ◌-◌, List,
 use Rattle.std.proofs.Math.Seq.{take-add}
 use Rattle.std.proofs.lemmas.List.{take-append-drop, length-drop}
 use Rattle.std.specs.Io.KnownBytes.{Appends}
-use Rattle.patient_output.specs.Carrying.{WritesAll, WritesFirst}
+use Rattle.patient_output.specs.PathWriting.{WritesAll, WritesFirst}
 
 pub Appends-trans : (a b c : Option (List ℕ)) (xs ys : List ℕ) → Appends a b xs → Appends b c ys → Appends a c (xs ++ ys)
 Appends-trans None b c xs ys p q = tt

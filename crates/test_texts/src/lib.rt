@@ -3,7 +3,7 @@
 #![tactic(auto)]
 
 ghost use Rattle.std.specs.Prelude.{◌≡◌, ◌≢◌, IfOk, IsOk, OnErr, OnOk, string_bytes};
-ghost use Rattle.wanted.specs.Both.{IfBoth};
+ghost use Rattle.test_texts.specs.Both.{IfBoth};
 
 mod parting;
 mod told;

@@ -1,6 +1,6 @@
 use Rattle.std.proofs.Common.{take, rules}
-use Rattle.patient_output.proofs.Carries.{first_of_piece}
-use Rattle.patient_output.proofs.carrier.carry_piece.Goals as goal
+use Rattle.patient_output.proofs.PathWrites.{first_of_piece}
+use Rattle.patient_output.proofs.path_writer.copy_piece.Goals as goal
 
 pub returns-else-written-count-clause-first : goal.returns-else-written-count-clause-first
 returns-else-written-count-clause-first g c =

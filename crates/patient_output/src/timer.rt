@@ -1,36 +1,36 @@
 //! For how long a path took nothing.
-use crate::sight::Sight;
+use crate::progress::PathProgress;
 
 /// For how long an output was held up while its path took nothing, as far as it was looked. Moments are milliseconds
 /// since any one of them.
 #[derive(Clone, Copy, PartialEq, Eq)]
-pub struct Stall {
+pub struct StallTimer {
     /// How many bytes the path had taken when it was last seen to take some, or the output not to be held up.
     taken: u64,
     /// When that was.
     since: u64,
 }
 
-impl Stall {
+impl StallTimer {
     ghost use Rattle.std.specs.Prelude.{◌≡◌};
-    ghost use Rattle.patient_output.specs.Gates.{stall_at, stood, after_look};
+    ghost use Rattle.patient_output.specs.Gates.{timer_at, stalled_for, after_look};
 
     /// Nothing stands still at this moment.
-    pub fn new(taken: u64, now: u64) -> Stall
-        ensures { result ≡ stall_at taken now }
+    pub fn new(taken: u64, now: u64) -> StallTimer
+        ensures { result ≡ timer_at taken now }
     {
-        Stall { taken, since: now }
+        StallTimer { taken, since: now }
     }
 
     /// For how many milliseconds nothing was taken while the output was held up, at a moment at which this is seen.
-    pub fn look(&mut self, sight: Sight, now: u64) -> u64
-        ensures stood { result ≡ stood self.old sight now }
-        ensures after { self.new ≡ after_look self.old sight now }
+    pub fn look(&mut self, progress: PathProgress, now: u64) -> u64
+        ensures stalled_for { result ≡ stalled_for self.old progress now }
+        ensures after { self.new ≡ after_look self.old progress now }
     {
-        if sight.is_held_up() && sight.taken == self.taken {
+        if progress.is_held_up() && progress.taken == self.taken {
             return now.saturating_sub(self.since);
         }
-        *self = Stall::new(sight.taken, now);
+        *self = StallTimer::new(progress.taken, now);
         0
     }
 }

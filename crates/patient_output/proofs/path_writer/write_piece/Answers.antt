@@ -1,7 +1,7 @@
 use Rattle.std.proofs.Common.{rules}
 use Rattle.std.proofs.lemmas.List.{take_rest}
-use Rattle.patient_output.proofs.Carries.{takes_more}
-use Rattle.patient_output.proofs.carrier.write_piece.Goals as goal
+use Rattle.patient_output.proofs.PathWrites.{takes_more}
+use Rattle.patient_output.proofs.path_writer.write_piece.Goals as goal
 
 pub loop-preserved-in-Ok : goal.loop-preserved-in-Ok
 loop-preserved-in-Ok g c = record {

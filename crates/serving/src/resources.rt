@@ -14,7 +14,7 @@ use std::time::Clock;
 
 /// What the outputs write to, where the songs are had, and who finds them anew.
 #[derive(Drop)]
-pub(crate) struct Gear<O, N, C> {
+pub(crate) struct ThreadResources<O, N, C> {
     pub(crate) writers: Vec<O>,
     pub(crate) source: N,
     pub(crate) scanner: C,
@@ -23,32 +23,32 @@ pub(crate) struct Gear<O, N, C> {
     ghost few: { vec_len writers ≤ 8 },
 }
 
-/// The gear of a daemon over the files of the system.
-pub(crate) type FileGear<R> = Gear<
+/// The resources of a daemon over the files of the system.
+pub(crate) type FileResources<R> = ThreadResources<
     Counting<OutputPath<HostRuntime, R>>,
     Folder<HostRuntime>,
     FolderScanner<HostRuntime>,
 >;
 
 /// The files and the folder that settings name.
-pub(crate) fn gear_of<R: Threads + Wait + Clock + Copy + Send + 'static>(
+pub(crate) fn resources_of<R: Threads + Wait + Clock + Copy + Send + 'static>(
     rt: R,
     host: HostRuntime,
     settings: &Settings,
-) -> Result<FileGear<R>, AllocError>
+) -> Result<FileResources<R>, AllocError>
     requires { vec_len settings.now.outputs ≤ 8 }
     // Clients have the folder of the music scanned again, at its rate and in the profile of the settings.
-    ensures folder { IfOk result (λ gear. string_bytes gear.scanner.folder ≡ string_bytes settings.now.music) }
-    ensures rate { IfOk result (λ gear. gear.scanner.rate ≡ settings.now.rate) }
-    ensures everyday { IfOk result (λ gear. gear.scanner.everyday ≡ settings.now.everyday) }
-    ensures writers { IfOk result (λ gear. vec_len gear.writers ≡ vec_len settings.now.outputs) }
-    ensures patient { IfOk result (λ gear. AreForPatience gear.patient.items settings.now.outputs.items) }
+    ensures folder { IfOk result (λ r. string_bytes r.scanner.folder ≡ string_bytes settings.now.music) }
+    ensures rate { IfOk result (λ r. r.scanner.rate ≡ settings.now.rate) }
+    ensures everyday { IfOk result (λ r. r.scanner.everyday ≡ settings.now.everyday) }
+    ensures writers { IfOk result (λ r. vec_len r.writers ≡ vec_len settings.now.outputs) }
+    ensures patient { IfOk result (λ r. AreForPatience r.patient.items settings.now.outputs.items) }
 {
     let alloc = host.alloc();
     let scanned = String::from_str(alloc, settings.music.as_str())?;
     let played = String::from_str(alloc, settings.music.as_str())?;
     let OutputPaths { writers, patient } = output_paths(rt, host, &settings.outputs)?;
-    Ok(Gear {
+    Ok(ThreadResources {
         writers,
         source: Folder::new(host, played),
         scanner: FolderScanner::new(host, scanned, settings.rate.copied(), settings.everyday),
