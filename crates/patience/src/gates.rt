@@ -1,5 +1,6 @@
 //! What lets each output go on.
-ghost use Rattle.std.specs.Prelude.{◌≡◌, IfOk, None, Some, is_some, map, slice_get, true};
+ghost use Rattle.std.specs.Prelude.{◌≡◌, IfOk, None, Some, false, is_some, map, slice_get, true};
+ghost use Rattle.patience.specs.Through.{IsOffOnlyWithPatience};
 
 use crate::own_client::OwnClient;
 use crate::paths::PatientPath;
@@ -163,15 +164,29 @@ impl<L: Ledgers, R: Wait + Clock + Copy> Gates<L, R> {
         }
     }
 
-    /// Which outputs are off for their paths, and were on before.
-    pub fn off_for_paths(&self) -> [bool; 8] {
-        let mut off = [false; 8];
-        for (number, watched) in self.outputs.iter().enumerate() {
-            if let (Some(watched), Some(slot)) = (watched, off.get_mut(number)) {
-                *slot = watched.watch.lock(&self.rt).is_to_return();
-            }
+    /// Which of the eight outputs are off for their paths, and were on before. An output without patience never is.
+    pub fn off_for_paths(&self) -> [bool; 8]
+        ensures { IsOffOnlyWithPatience self.now.outputs.items result }
+    {
+        [
+            self.is_off_for_path(0),
+            self.is_off_for_path(1),
+            self.is_off_for_path(2),
+            self.is_off_for_path(3),
+            self.is_off_for_path(4),
+            self.is_off_for_path(5),
+            self.is_off_for_path(6),
+            self.is_off_for_path(7),
+        ]
+    }
+
+    fn is_off_for_path(&self, output: usize) -> bool
+        ensures { slice_get self.now.outputs.items output ≡ Some None → result ≡ false }
+    {
+        match self.outputs.get(output) {
+            Some(Some(watched)) => watched.watch.lock(&self.rt).is_to_return(),
+            _ => false,
         }
-        off
     }
 
     /// The outputs give no more. Waits until the paths have taken what was written, half a second in all, and tells
