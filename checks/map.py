@@ -141,7 +141,7 @@ THEOREMS = [
     ('pcm_mix', 'mix', '', 'pcm_mix/Blocks', 'block_of', ''),
     ('shelf_database', 'SqlShelf::over', 'opened', 'shelf_database/Opens', 'Opens', ''),
     ('settings', 'settings', 'taken', 'settings/Values', 'Says', 'settings: one_cause'),
-    ('opened_player', 'player_of', 'opened', 'opened_player/Opened', 'opened_by', ''),
+    ('opened_player', 'player_of', 'opened', 'opened_player/Opened', 'opened_by', 'state_laws: settings_are_set_up'),
     ('kept_state', 'kept_of', '', 'kept_state/Told', 'IsTold', ''),
     ('kept_state', 'state_text', '', 'kept_state/Texts', 'state_text', 'kept_state: gives_back; state_laws: players_come_back told_texts_come_back'),
     ('kept_state', 'partitions_of', '', 'kept_state/Partitions', 'IsPlayerTold', ''),

@@ -28,3 +28,5 @@ mod Among
 mod Restored
 mod Everyone
 mod PlayerText
+mod SetUp
+mod Example

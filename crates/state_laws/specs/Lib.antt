@@ -5,3 +5,4 @@ pub mod Own
 pub mod Partitions
 pub mod Limits
 pub mod Telling
+pub mod Assumed

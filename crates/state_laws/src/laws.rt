@@ -1,4 +1,5 @@
 //! The laws of states. A caller that calls one may use it; each does nothing.
+ghost use Rattle.state_laws.specs.Assumed.{AssumptionsAreMet, SettingsAreSetUp, SettingsLeaveRoom};
 ghost use Rattle.state_laws.specs.Bytes.{BytesAreRead, LinesEnd, OpenedComesBack};
 ghost use Rattle.state_laws.specs.Limits.{AllStayWithin, OpenedStaysWithin};
 ghost use Rattle.state_laws.specs.Own.{PlacesComeBack, PlayersComeBack};
@@ -62,4 +63,13 @@ pub fn told_partitions_come_back()
     ensures text { PlayerTextIsLines }
     ensures back { PlayerTextComesBack }
     ensures players { ToldPartitionsComeBack }
+{}
+
+/// Whatever its settings say, the daemon opens its player as these laws assume: with at most eight outputs, each of
+/// another name, all in the first partition, none of which has failed or was moved; and with room for 16,384 songs in
+/// a queue. There are settings and partitions of which all holds that the laws assume.
+pub fn settings_are_set_up()
+    ensures outputs { SettingsAreSetUp }
+    ensures room { SettingsLeaveRoom }
+    ensures met { AssumptionsAreMet }
 {}
