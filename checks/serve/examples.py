@@ -4,8 +4,8 @@
     checks/serve/examples.py [PROGRAM]
 
 They are: three rooms, with snapserver, aplay and a file; two queues in two rooms; and ratings with stickers. It needs Debian's packages mpc and
-alsa-utils; if snapserver is not installed, another reader takes its place. The exit status is 1 if a room did not play what it should, or if an
-answer is wrong.
+alsa-utils; if snapserver or aplay is not installed, another reader takes its place. The exit status is 1 if a room did not play what it should,
+or if an answer is wrong.
 """
 import argparse
 import os
@@ -78,6 +78,8 @@ def check_three(table, program, folder):
     lines = block_under('examples/README.md', 'Rooms').replace('aplay -q', 'aplay -q -D null').splitlines()
     if shutil.which('snapserver') is None:
         lines = [re.sub(r'^snapserver .*', 'cat /tmp/living.fifo > /dev/null &', line) for line in lines]
+    if shutil.which('aplay') is None:
+        lines = [re.sub(r'^aplay .* (/tmp/\S+) &', r'cat \1 > /dev/null &', line) for line in lines]
     readers = subprocess.Popen(['bash', '-c', moved('\n'.join(lines[:-1] + ['wait']), folder, 0)], stdout=subprocess.DEVNULL, stderr=subprocess.DEVNULL, start_new_session=True)
     time.sleep(1)
     daemon = Example(program, folder, 'three_rooms.toml')
