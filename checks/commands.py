@@ -336,7 +336,7 @@ def most_missed(made):
 
 
 def written_readme(text, made):
-    return put(text, r'Even with it, these commands are missing: ([^\n]*?)\.$', ', '.join('`%s`' % name for name in most_missed(made)))
+    return put(text, r'Of the commands that are missing even with it, clients use these most: ([^\n]*?)\.$', ', '.join('`%s`' % name for name in most_missed(made)))
 
 
 def written_differences(text, made):
