@@ -25,8 +25,11 @@ pub fn outputs_join<S: Shelf>()
     ensures { (asker : Asker) → OutputsJoin (Answers S.standing S.failed asker) }
 {}
 
-/// What turns write one after the other is written over many turns, whoever is served between them, and however much time passes.
+/// What turns write one after the other is written over many turns, whoever is served between them; also where time
+/// passes, so that `stats` shows another number of seconds.
 pub fn outputs_join_over<S: Shelf>()
-    ensures { (asker : Asker) (uptime : Option ℕ) → OutputsJoinOver
+    ensures timeless { (asker : Asker) → OutputsJoinOver
+        (Answers S.standing S.failed asker) (Answers S.standing S.failed asker) HasGrown }
+    ensures sometime { (asker : Asker) (uptime : Option ℕ) → OutputsJoinOver
         (Answers S.standing S.failed (at_uptime asker uptime)) (AnswersSometime S.standing S.failed asker) HasGrown }
 {}

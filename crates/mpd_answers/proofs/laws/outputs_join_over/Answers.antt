@@ -9,8 +9,15 @@ stays p = (refl, omega arith)
 grows : {S : Type 0} (p q r : Caller S) → HasGrown p q → HasGrown q r → HasGrown p r
 grows p q r (n, m) (n', m') = (n' ∙ n, omega (arith, m, m'))
 
-pub returns : goal.returns
-returns g c = λ asker uptime. (
+pub returns-clause-timeless : goal.returns-clause-timeless
+returns-clause-timeless g c = λ asker. (
+  one_over (Answers g.S.Shelf.standing g.S.Shelf.failed asker) HasGrown stays grows
+      (Answers g.S.Shelf.standing g.S.Shelf.failed asker) (λ p one text next q it. it),
+  both_over (Answers g.S.Shelf.standing g.S.Shelf.failed asker) HasGrown stays grows,
+)
+
+pub returns-clause-sometime : goal.returns-clause-sometime
+returns-clause-sometime g c = λ asker uptime. (
   one_over (Answers g.S.Shelf.standing g.S.Shelf.failed (at_uptime asker uptime)) HasGrown stays grows
       (AnswersSometime g.S.Shelf.standing g.S.Shelf.failed asker) (λ p one text next q it. (uptime, it)),
   both_over (AnswersSometime g.S.Shelf.standing g.S.Shelf.failed asker) HasGrown stays grows,
