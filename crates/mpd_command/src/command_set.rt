@@ -10,7 +10,7 @@ pub struct CommandSet {
     /// Whether the commands and forms of the everyday profile are there.
     pub everyday: bool,
     /// How many seconds the daemon has been running, where somebody measures that. `stats` shows it.
-    pub uptime: Option<u64>,
+    pub uptime: Option<u32>,
 }
 
 impl CommandSet {

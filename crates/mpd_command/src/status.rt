@@ -24,7 +24,7 @@ pub enum StatusCommand {
     NoIdle,
     /// `stats`: how much there is to play, and how long was played; in the daemon first how many seconds it
     /// has been running.
-    Stats(Option<u64>),
+    Stats(Option<u32>),
     /// `status`: the state; in the everyday profile the time is in whole seconds too.
     Status(bool),
 }

@@ -38,7 +38,7 @@ impl Connection {
         seat: &mut Seat<L>,
         shelf: &mut S,
         may_read: bool,
-        uptime: Option<u64>,
+        uptime: Option<u32>,
     ) -> Turn {
         self.session.set_uptime(uptime);
         let mut reader = Counting::new(Inbox::new(&self.stream, may_read));

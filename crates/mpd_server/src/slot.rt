@@ -88,7 +88,7 @@ impl Slot {
         seat: &mut Seat<L>,
         shelf: &mut S,
         may_read: bool,
-        uptime: Option<u64>,
+        uptime: Option<u32>,
     ) -> Option<Turn> {
         match &mut self.connection {
             Some(connection) => Some(connection.turn(rt, house, seat, shelf, may_read, uptime)),

@@ -228,9 +228,9 @@ impl Server {
 }
 
 /// How many whole seconds there are between two times, where both are known.
-fn seconds_between(start: Option<Instant>, end: Option<Instant>) -> Option<u64> {
+fn seconds_between(start: Option<Instant>, end: Option<Instant>) -> Option<u32> {
     match (start, end) {
-        (Some(start), Some(end)) => Some(end.duration_since(start).as_secs()),
+        (Some(start), Some(end)) => u32::try_from(end.duration_since(start).as_secs()).ok(),
         _ => None,
     }
 }

@@ -90,7 +90,7 @@ impl Session {
 
     /// Takes down for how many seconds the daemon has been running, where that is known: `stats` shows it from
     /// now on.
-    pub fn set_uptime(&mut self, uptime: Option<u64>)
+    pub fn set_uptime(&mut self, uptime: Option<u32>)
         ensures { self.new ≡ told_uptime self.old uptime }
     {
         self.conversation.asker.commands.uptime = uptime;

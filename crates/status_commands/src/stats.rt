@@ -18,7 +18,7 @@ pub(crate) fn stats(
     asked: Asked,
     part: &Part,
     library: &Library,
-    uptime: Option<u64>,
+    uptime: Option<u32>,
 ) -> Result<Transition, AllocError>
     ensures { IsDecidedBy result (stats_lem asked part.now library.now uptime) }
 {
@@ -30,7 +30,7 @@ pub(crate) fn stats(
 }
 
 /// How many seconds the daemon has been running, where that is known.
-fn push_uptime(lines: &mut Answer, uptime: Option<u64>) -> Result<(), AllocError>
+fn push_uptime(lines: &mut Answer, uptime: Option<u32>) -> Result<(), AllocError>
     ensures { OnOk result (lines.new ≡ lines.old ++ uptime_line uptime) }
 {
     match uptime {
