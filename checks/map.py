@@ -37,7 +37,7 @@ LINE = [
     (6, 'partition', 'Partition::apply', 'a full history window is folded; the playlist store is asked'),
     (7, 'queue_commands', 'run', 'or another group: decides what to do; nothing changes yet'),
     (7, 'transitions', 'Transition::carry_out', 'the partition and the library change'),
-    (7, 'idle_clients', 'notify_all', 'changes become pending; waiting clients get their notices'),
+    (7, 'connected_clients', 'notify_all', 'changes become pending; waiting clients get their notices'),
     '---- the lock is free',
     (2, 'mpd_answers', 'Owed::push_to', 'the answer joins the unsent bytes'),
 ]

@@ -14,7 +14,7 @@ use Rattle.partition.specs.Image.{Image}
 use Rattle.partition.specs.Legal.{IsPast}
 use Rattle.player_state.specs.Outputs.{FrameBooks, books_after, can_count, can_count_all, decoded_by, discarded_by, is_output, total, written_by}
 use Rattle.partition.specs.Step.{absent, counts_frames, have, keeps_limits, limit_of, next_image, output_turn, place_at, report_at, transition}
-use Rattle.parts.specs.Parts.{part_at}
+use Rattle.partition_table.specs.Parts.{part_at}
 use Rattle.player_state.specs.declared.state.Part.{Part}
 use Rattle.transitions.specs.Transitions.{acts}
 use Rattle.counted_player.proofs.Eight.{grown_none, grown_sum, total_sum}

@@ -4,10 +4,10 @@ use Rattle.std.specs.Prelude.{codes, is_some}
 use Rattle.mpd_command.specs.declared.partitions.PartitionCommand.{PartitionCommand}
 use Rattle.mpd_command.specs.declared.partitions.PartitionCommand.TheVariants.{DelPartition, ListPartitions, MoveOutput, NewPartition, Partition}
 use Rattle.mpd_text.specs.declared.answers.answer.ErrorNumber.TheVariants.{Argument, Exist, System}
-use Rattle.parts.specs.Openings.{OpeningsData}
-use Rattle.parts.specs.Parts.{Known, free_place, holder, named}
-use Rattle.parts.specs.declared.crossing.Crossing.{Crossing}
-use Rattle.parts.specs.declared.crossing.Crossing.TheVariants.{Brings, Closes}
+use Rattle.partition_table.specs.Openings.{OpeningsData}
+use Rattle.partition_table.specs.Parts.{Known, free_place, holder, named}
+use Rattle.partition_table.specs.declared.crossing.Crossing.{Crossing}
+use Rattle.partition_table.specs.declared.crossing.Crossing.TheVariants.{Brings, Closes}
 use Rattle.partition_commands.specs.Partitions.{Seated, begins, brings, by_name, done, ends, ends_at, goes, is_partition_name, is_used, moves, new_partition, output_named, planned, refused}
 use Rattle.transitions.specs.declared.asked.Asked.{Asked}
 use Rattle.transitions.specs.CommandResults.{bad_name}

@@ -16,7 +16,7 @@ use Rattle.partition.specs.History.{Chronicle, joined_by}
 use Rattle.partition.specs.Image.{Image, no_events}
 use Rattle.partition.specs.Legal.{IsPast}
 use Rattle.partition.specs.Lent.{RecordsOnce, Refuses, question, writing}
-use Rattle.parts.specs.Parts.{part_at}
+use Rattle.partition_table.specs.Parts.{part_at}
 use Rattle.player_core.specs.declared.state.Playback.{Playback}
 use Rattle.player_core.specs.declared.state.Playback.TheVariants.{Play}
 use Rattle.player_state.specs.Outputs.{empty_books}

@@ -1,7 +1,7 @@
 //! Which partitions there are.
 ghost use Rattle.std.specs.Prelude.{◌≡◌, is_some};
 ghost use Rattle.counted_player.specs.Counts.{ArePlaces};
-ghost use Rattle.parts.specs.Parts.{part_at};
+ghost use Rattle.partition_table.specs.Parts.{part_at};
 
 use partition::Partition;
 

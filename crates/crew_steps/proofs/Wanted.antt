@@ -9,7 +9,7 @@ use Rattle.player_state.specs.declared.effect.CommandEffect.TheVariants.{Rests}
 use Rattle.player_state.specs.declared.effect.AudioStep.TheVariants.{Wants}
 use Rattle.player_state.specs.declared.report.Report.TheVariants.{Ended, Nothing, ToDecode}
 use Rattle.player_state.specs.Effects.{entries, report_after, wanted}
-use Rattle.parts.specs.Parts.{part_at, report_in}
+use Rattle.partition_table.specs.Parts.{part_at, report_in}
 use Rattle.player_state.specs.Outputs.{any_enabled, owes_any}
 use Rattle.partition.specs.Image.{Image}
 use Rattle.player_state.specs.declared.state.Part.{Part}

@@ -10,7 +10,7 @@ use Rattle.player_core.specs.declared.state.Job.{Job}
 use Rattle.player_events.specs.Outcomes.{OutcomeData}
 use Rattle.player_events.specs.declared.event.Event.{Event}
 use Rattle.player_events.specs.declared.event.Event.TheVariants as event
-use Rattle.parts.specs.Parts.{part_at}
+use Rattle.partition_table.specs.Parts.{part_at}
 use Rattle.partition.specs.History.{Chronicle}
 use Rattle.partition.specs.Legal.{IsPast}
 use Rattle.player_state.specs.Outputs.{owes_any}

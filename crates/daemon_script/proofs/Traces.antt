@@ -5,11 +5,11 @@ use Rattle.std.specs.List.{list_any}
 use Rattle.mpd_text.specs.Songs.Song.{SongData}
 use Rattle.partition.specs.History.{replay}
 use Rattle.partition.specs.Image.{Image, opening}
-use Rattle.idle_clients.specs.Clients.{client_of}
+use Rattle.connected_clients.specs.Clients.{client_of}
 use Rattle.partition.specs.Legal.{ReplaysWorlds}
 use Rattle.player_events.specs.Events.{with_store_reply}
 use Rattle.partition.specs.Step.{limit_of, next_image, told}
-use Rattle.parts.specs.Parts.{known, named}
+use Rattle.partition_table.specs.Parts.{known, named}
 use Rattle.partition.specs.World.{PartWorld, Trace, Listener, WorldTransition, part_in, client_in, image_of, trace_after_event, trace_from, trace_after, opening_trace}
 use Rattle.player_events.specs.declared.event.Event.{Event}
 use Rattle.partition.specs.declared.partition.PartitionFault.{PartitionFault}

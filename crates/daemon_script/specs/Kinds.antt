@@ -4,12 +4,12 @@ use Rattle.std.specs.Prelude.{ℕ, ◌+◌, nat_le, slice_index_or, if◌then◌
 use Rattle.mpd_text.specs.Songs.Song.{SongData}
 use Rattle.player_events.specs.Outcomes.{OutcomeData}
 use Rattle.partition.specs.Image.{Image, opening}
-use Rattle.idle_clients.specs.Clients.{client_of}
+use Rattle.connected_clients.specs.Clients.{client_of}
 use Rattle.player_state.specs.Outputs.{OutputsData, no_outputs, with_output}
 use Rattle.player_state.specs.Scans.{never_scanned}
 use Rattle.player_events.specs.Events.{with_store_reply}
 use Rattle.partition.specs.Step.{limit_of, next_image, told}
-use Rattle.parts.specs.Parts.{known, named}
+use Rattle.partition_table.specs.Parts.{known, named}
 use Rattle.partition.specs.World.{PartWorld, Trace, WorldTransition, is_there, image_of, trace_after_event, opening_trace}
 use Rattle.player_events.specs.declared.event.Event.{Event}
 use Rattle.player_events.specs.declared.event.LogEntry.{LogEntry}

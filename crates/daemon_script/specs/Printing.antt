@@ -6,7 +6,7 @@ use Rattle.command_lists.specs.declared.list.CommandList.{CommandList}
 use Rattle.daemon_script.specs.Kinds.{Shelved, images}
 use Rattle.daemon_script.specs.Pieces.{found_in}
 use Rattle.daemon_script.specs.Script.{LineRun, ScriptData, Shown, alone_run, asked_run, client_run, commands_run, connect_run, ending_of, event_line, found_first, found_then, line_run, lines_for, list_of, notices_by_number, notices_to, once_read, refusal, scan_result, shown_client, shown_of, shows_window, too_large_run, with_list}
-use Rattle.idle_clients.specs.declared.notices.Notice.{Notice}
+use Rattle.connected_clients.specs.declared.notices.Notice.{Notice}
 use Rattle.partition.specs.Lists.{Stop, answers_of, stop_text}
 use Rattle.player_events.specs.Outcomes.{OutcomeData}
 use Rattle.std.specs.List.{flat_map}

@@ -35,7 +35,7 @@ use Rattle.transitions.specs.declared.asked.Stand.TheVariants.{Alone, InList}
 use Rattle.player_events.specs.declared.event.Event.{Event}
 use Rattle.player_events.specs.declared.event.Event.TheVariants.{Connect, Disconnect, Line, ScanResult, Want, Have, Failed, OutputTurn}
 use Rattle.transitions.specs.declared.reply.Next.{Next}
-use Rattle.idle_clients.specs.declared.notices.Notice.{Notice}
+use Rattle.connected_clients.specs.declared.notices.Notice.{Notice}
 use Rattle.partition.specs.declared.partition.PartitionFault.{PartitionFault}
 use Rattle.partition.specs.declared.partition.PartitionFault.TheVariants.{HistoryFull, NoMemory}
 use Rattle.partition.specs.declared.state.Limits.{Limits}

@@ -11,7 +11,7 @@ use crate::lists::run_commands;
 use crate::memory::Memory;
 use crate::player::Player;
 use command_lists::{ListCollector, Taken};
-use idle_clients::Notice;
+use connected_clients::Notice;
 use mpd_command::{CommandSet, Request};
 use mpd_text::{Answer, ErrorNumber};
 use partition::PartitionFault;

@@ -12,7 +12,7 @@ use crate::client_lines::{push_lines, push_notice};
 use crate::memory::Memory;
 use crate::player::Player;
 use command_lists::{CommandList, ListLine};
-use idle_clients::Notice;
+use connected_clients::Notice;
 use mpd_command::{Ack, CommandSet, Request};
 use mpd_text::{Answer, ErrorNumber, Text};
 use partition::{ListFault, ListOutcome, PartitionFault};

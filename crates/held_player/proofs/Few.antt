@@ -11,11 +11,11 @@ use Rattle.partition.specs.declared.partition.PartitionFault.{PartitionFault}
 use Rattle.player_state.specs.declared.state.Client.{Client}
 use Rattle.transitions.specs.Answers.{ResponseData, closes}
 use Rattle.player_events.specs.Outcomes.{OutcomeData}
-use Rattle.idle_clients.specs.Clients.{is_other, notice_for, notice_to, notices_after, staying}
+use Rattle.connected_clients.specs.Clients.{is_other, notice_for, notice_to, notices_after, staying}
 use Rattle.partition.specs.Image.{Image}
 use Rattle.partition.specs.Lent.{Records}
 use Rattle.player_events.specs.Events.{with_store_reply}
-use Rattle.partition.specs.Step.{mover, raised_of, told, transition}
+use Rattle.partition.specs.Step.{sender_number, raised_of, told, transition}
 
 one : (n : ℕ) (names : Option Subsystems) → length (notice_to n names) ≤ 1
 one n None = omega arith
@@ -39,7 +39,7 @@ fewer_stay n response ks =
     elim (closes response.answer.next) as (λ b. length (if b then filter (is_other n) ks else ks) ≤ length ks) [ true ↦ rest | false ↦ omega arith ]
 
 -- what an event tells those who wait
-pub told_notices : (i : Image) (e : Event) → (told i e).notices ≡ notices_after (mover e) (raised_of i e (transition i e)) (transition i e).response i.clients
+pub told_notices : (i : Image) (e : Event) → (told i e).notices ≡ notices_after (sender_number e) (raised_of i e (transition i e)) (transition i e).response i.clients
 unfolding told
 told_notices i e = refl
 
@@ -47,9 +47,9 @@ told_notices i e = refl
 pub few_notices : (i : Image) (e : Event) → length (told i e).notices ≤ length i.clients
 few_notices i e =
     let raised : Client → Subsystems = raised_of i e (transition i e) in
-    let after = staying (mover e) (transition i e).response i.clients in
+    let after = staying (sender_number e) (transition i e).response i.clients in
     let many : length (told i e).notices ≡ length (flat_map (notice_for raised) after) = ap length (told_notices i e) in
-    omega (arith, many, few_for raised after, fewer_stay (mover e) (transition i e).response i.clients)
+    omega (arith, many, few_for raised after, fewer_stay (sender_number e) (transition i e).response i.clients)
 
 module _ {S : Type 0} (standing : S → Standing) (failed : S → S → Call → Type 0) where
   -- there is room for the notices of an event

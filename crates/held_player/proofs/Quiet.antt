@@ -29,18 +29,18 @@ use Rattle.player_state.specs.declared.state.Library.{Library}
 use Rattle.player_state.specs.declared.state.Part.{Part}
 use Rattle.player_events.specs.declared.event.LogEntry.{LogEntry}
 use Rattle.transitions.specs.Answers.{ResponseData, closes}
-use Rattle.idle_clients.specs.Clients.{clients_after, entered, is_other, move_of, moved, notice_for, notice_to, notified, shown, staying}
+use Rattle.connected_clients.specs.Clients.{clients_after, entered, is_other, move_of, moved, notice_for, notice_to, notified, shown, staying}
 use Rattle.status_commands.specs.Status.{Wish, ToWait, ToGoOn, ToShow, wish_of}
 use Rattle.transitions.specs.Transitions.{TransitionData, departs}
-use Rattle.parts.specs.Parts.{part_at}
+use Rattle.partition_table.specs.Parts.{part_at}
 use Rattle.partition.specs.Image.{Image, Overview, overview}
 use Rattle.partition.specs.Lists.{Answered, entries_of}
 use Rattle.player_events.specs.Events.{ends_list}
-use Rattle.idle_clients.specs.Rooms.{is_waiting, room_for}
+use Rattle.connected_clients.specs.Rooms.{is_waiting, room_for}
 use Rattle.transitions.specs.Shelves.{is_written}
-use Rattle.partition.specs.Step.{asked_by, ends_waiting, mover, next_image, once_written, place_at, raised_of, speaker_in, told, transition, transition_line, transition_of, transition_request, transition_run, transition_there, transition_wished, written_transition}
+use Rattle.partition.specs.Step.{asked_by, ends_waiting, sender_number, next_image, once_written, place_at, raised_of, sender_in, told, transition, transition_line, transition_of, transition_request, transition_run, transition_there, transition_wished, written_transition}
 use Rattle.counted_player.proofs.Plans.{planned_is}
-use Rattle.idle_clients.proofs.Tells.{fewer_wait}
+use Rattle.connected_clients.proofs.Tells.{fewer_wait}
 use Rattle.held_player.specs.Lists.{notices_in}
 use Rattle.held_player.proofs.Few.{told_notices}
 
@@ -187,7 +187,7 @@ fewer_stay number response clients =
     elim (closes response.answer.next) as (λ b. count_by is_waiting (if b then filter (is_other number) clients else clients) ≤ count_by is_waiting clients)
     [ true ↦ less | false ↦ omega arith ]
 
-next_clients : (seat : ℕ) (i : Image) (e : Event) → (next_image seat i e).clients ≡ clients_after (mover e) (raised_of i e (transition i e)) (transition i e).response i.clients
+next_clients : (seat : ℕ) (i : Image) (e : Event) → (next_image seat i e).clients ≡ clients_after (sender_number e) (raised_of i e (transition i e)) (transition i e).response i.clients
 unfolding next_image
 next_clients seat i e = refl
 
@@ -196,13 +196,13 @@ told_less : (seat : ℕ) (i : Image) (e : Event) → Stays (transition i e)
     → length (told i e).notices + count_by is_waiting (next_image seat i e).clients ≤ count_by is_waiting i.clients
 told_less seat i e quiet =
     let raised : Client → Subsystems = raised_of i e (transition i e) in
-    let there : List Client = staying (mover e) (transition i e).response i.clients in
+    let there : List Client = staying (sender_number e) (transition i e).response i.clients in
     let notices : length (told i e).notices ≡ length (flat_map (notice_for raised) there) = ap length (told_notices i e) in
-    let waiting : count_by is_waiting (next_image seat i e).clients ≡ count_by is_waiting (moved (mover e) (move_of (transition i e).response) (map (notified raised) there)) =
+    let waiting : count_by is_waiting (next_image seat i e).clients ≡ count_by is_waiting (moved (sender_number e) (move_of (transition i e).response) (map (notified raised) there)) =
     ap (count_by is_waiting) (next_clients seat i e) in
-    let went = moved_less (mover e) (move_of (transition i e).response) (map (notified raised) there) (quiet_so (transition i e).response quiet) in
+    let went = moved_less (sender_number e) (move_of (transition i e).response) (map (notified raised) there) (quiet_so (transition i e).response quiet) in
     let less = all_less raised there in
-    let fewer = fewer_stay (mover e) (transition i e).response i.clients in
+    let fewer = fewer_stay (sender_number e) (transition i e).response i.clients in
     omega (arith, notices, waiting, went, less, fewer)
 
 none_of : (n m : ℕ) → length (notices_in (map (λ (h : LogEntry). h.told) (take n []))) ≤ m
@@ -218,7 +218,7 @@ few_entries seat client form (suc n) place i [] = omega arith
 few_entries seat client form (suc n) place i (a ∷ more) =
     let event : Event = Line client (InList form place) a.0 a.1 in
     let next : Image = next_image seat i event in
-    let less = told_less seat i event (line_stays form place (overview i) (part_at (place_at i event) i.parts) i.shared.library (speaker_in i.clients event) client a.0 a.1) in
+    let less = told_less seat i event (line_stays form place (overview i) (part_at (place_at i event) i.parts) i.shared.library (sender_in i.clients event) client a.0 a.1) in
     let rest : List LogEntry = if ends_list (told i event) then [] else entries_of seat next client form (place + 1) more in
     let few : length (notices_in (map (λ (h : LogEntry). h.told) (take n rest))) ≤ count_by is_waiting next.clients =
     elim (ends_list (told i event))

@@ -6,10 +6,10 @@ use Rattle.player_events.specs.declared.event.Event.TheVariants.{Connect, Discon
 use Rattle.partition.specs.declared.partition.PartitionFault.{PartitionFault}
 use Rattle.player_events.specs.Outcomes.{OutcomeData}
 use Rattle.partition.specs.History.{Chronicle, joined_by}
-use Rattle.parts.specs.Parts.{part_at}
+use Rattle.partition_table.specs.Parts.{part_at}
 use Rattle.partition.specs.Image.{Image, Overview, overview}
 use Rattle.partition.specs.Legal.{IsPast}
-use Rattle.partition.specs.Step.{failure, limit_of, next_image, place_at, speaker_in, told, transition, transition_of, want}
+use Rattle.partition.specs.Step.{failure, limit_of, next_image, place_at, sender_in, told, transition, transition_of, want}
 use Rattle.partition.specs.Steps.{RefusesStep}
 use Rattle.player_events.specs.Events.{is_line}
 use Rattle.player_state.specs.Outputs.{FrameBooks}
@@ -55,7 +55,7 @@ news_frameless o part library client (news.Failed place number partner) = failur
 -- the same of the whole image
 quiet_frameless : (i : Image) (piece : News) → is_frameless (transition i (event_of piece)).effect ≡ true
 quiet_frameless i piece =
-    news_frameless (overview i) (part_at (place_at i (event_of piece)) i.parts) i.shared.library (speaker_in i.clients (event_of piece)) piece
+    news_frameless (overview i) (part_at (place_at i (event_of piece)) i.parts) i.shared.library (sender_in i.clients (event_of piece)) piece
 
 -- it gives no more notices than there are clients
 pub few_told : (i : Image) (event : Event) (outcome : OutcomeData) → outcome ≡ told i event → length outcome.notices ≤ length i.clients

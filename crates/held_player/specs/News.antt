@@ -5,7 +5,7 @@ use Rattle.held_player.specs.declared.news.News.TheVariants as news
 use Rattle.held_player.specs.Waiting.{of_others}
 use Rattle.player_events.specs.declared.event.Event.{Event}
 use Rattle.player_events.specs.declared.event.Event.TheVariants.{Connect, Disconnect, ScanQuestion, ScanResult, Want, Failed}
-use Rattle.idle_clients.specs.declared.notices.Notice.{Notice}
+use Rattle.connected_clients.specs.declared.notices.Notice.{Notice}
 use Rattle.player_events.specs.Outcomes.{OutcomeData}
 
 -- the event that a piece of news is

@@ -8,7 +8,7 @@ use Rattle.shelf.specs.declared.traits.Shelf.{Ghosts}
 use Rattle.player_events.specs.declared.event.Event.{Event}
 use Rattle.player_events.specs.declared.event.Event.TheVariants.{Have, Line, OutputTurn}
 use Rattle.player_events.specs.declared.event.LogEntry.{LogEntry}
-use Rattle.idle_clients.specs.declared.notices.Notice.{Notice}
+use Rattle.connected_clients.specs.declared.notices.Notice.{Notice}
 use Rattle.partition.specs.declared.partition.PartitionFault.{PartitionFault}
 use Rattle.partition.specs.declared.partition.PartitionFault.TheVariants.{HistoryFull, NoMemory}
 use Rattle.player_events.specs.Outcomes.{OutcomeData}

@@ -2,7 +2,7 @@
 use Rattle.std.specs.Prelude.{ℕ, ◌≡◌, ◌+◌, ◌≤◌, Bool, not, ◌==◌, List, [], ◌∷◌, ◌++◌, length, map, vec_len, vec_capacity, Option, Some, None, if◌then◌else◌}
 use Rattle.std.specs.Global.{Vec}
 use Rattle.std.specs.List.{filter, flat_map}
-use Rattle.idle_clients.specs.declared.notices.Notice.{Notice}
+use Rattle.connected_clients.specs.declared.notices.Notice.{Notice}
 use Rattle.player_events.specs.Outcomes.{OutcomeData}
 
 abbrev pub is_for : ℕ → Notice → Bool

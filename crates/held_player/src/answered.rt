@@ -1,5 +1,5 @@
 //! What the house answers.
-use idle_clients::Notice;
+use connected_clients::Notice;
 use partition::ListOutcome;
 use player_events::Outcome;
 use player_state::Report;

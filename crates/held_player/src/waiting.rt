@@ -5,7 +5,7 @@ ghost use Rattle.held_player.specs.Lists.{notices_in};
 ghost use Rattle.held_player.specs.News.{kept_without};
 ghost use Rattle.held_player.specs.Waiting.{KeepsRoom, clients_of, first_for, without_first, of_others};
 
-use idle_clients::Notice;
+use connected_clients::Notice;
 use player_events::Outcome;
 use std::alloc::{AllocError, Global};
 

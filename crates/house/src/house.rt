@@ -17,12 +17,12 @@ ghost use Rattle.held_player.specs.Views.{AnswersCaller, Feeds, RefusesSomewhere
 ghost use Rattle.held_player.specs.Views.{TellsSomewhere, turn_of};
 
 use command_lists::ListForm;
+use connected_clients::Notice;
 use counted_player::{Decoded, Discarded, Ledgers, NoSeat, Seat, Written};
 use frame_ledger::OutputShares;
 use held_player::{
     Answered, AnsweredList, Blanks, CrewShares, EndedRing, Held, News, Reported, Settlement,
 };
-use idle_clients::Notice;
 use mpd_command::Request;
 use output_ring::Fates;
 use partition::{ListFault, Partition, PartitionFault};

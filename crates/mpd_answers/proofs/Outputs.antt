@@ -6,7 +6,7 @@ use Rattle.transitions.specs.declared.reply.Next.{Next}
 use Rattle.mpd_answers.specs.Notices.{notice_text, AreNotices, notice_bytes}
 use Rattle.mpd_answers.specs.Output.{IsOutput, IsLastOutput, IsOutputOver}
 use Rattle.mpd_answers.specs.Requests.{Asking}
-use Rattle.idle_clients.specs.declared.notices.Notice.{Notice}
+use Rattle.connected_clients.specs.declared.notices.Notice.{Notice}
 
 pub no_notices : AreNotices []
 no_notices = ([], refl)

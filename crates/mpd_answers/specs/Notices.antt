@@ -2,7 +2,7 @@
 use Rattle.std.specs.Prelude.{◌≡◌, ℕ, List, [], ◌++◌, codes, Option, Some, None}
 use Rattle.std.specs.List.{flat_map}
 use Rattle.idle_notes.specs.Names.{changed_lines}
-use Rattle.idle_clients.specs.declared.notices.Notice.{Notice}
+use Rattle.connected_clients.specs.declared.notices.Notice.{Notice}
 
 abbrev pub notice_text : Notice → List ℕ
 notice_text notice = changed_lines notice.names ++ codes "OK\n"

@@ -5,8 +5,8 @@ ghost use Rattle.mpd_answers.specs.Notices.{notice_bytes, notice_text};
 ghost use Rattle.mpd_answers.specs.Owing.{AddsFault, Grows, line_bytes, list_bytes, next_by, owed_bytes};
 ghost use Rattle.mpd_answers.specs.Owing.{is_nothing as is_nothing_lem, waits_after};
 
+use connected_clients::Notice;
 use held_player::{Answered, AnsweredList};
-use idle_clients::Notice;
 use mpd_text::{Answer, ErrorNumber};
 use partition::{ListFault, PartitionFault};
 use std::alloc::{AllocError, Global};

@@ -7,7 +7,7 @@ use Rattle.idle_notes.specs.Channels.{MemberData, channel_names, messages_of, pa
 use Rattle.mpd_text.specs.Texts.{ascending}
 use Rattle.player_state.specs.declared.effect.CommandEffect.TheVariants.{ReadsMessages}
 use Rattle.player_state.specs.declared.state.Part.{Part}
-use Rattle.parts.specs.Parts.{Known, known}
+use Rattle.partition_table.specs.Parts.{Known, known}
 use Rattle.transitions.specs.Answers.{succeeds}
 use Rattle.transitions.specs.CommandResults.{only, shows}
 use Rattle.transitions.specs.Transitions.{transition_by}
@@ -19,7 +19,7 @@ use Rattle.partition_commands.specs.Partitions.{lines_of_names, planned}
 use Rattle.status_commands.specs.Messages.{lines_of_channels, lines_of_messages, result_of as messages_result}
 use Rattle.status_commands.specs.Options.{result_of as options_result}
 use Rattle.status_commands.specs.Outputs.{result_of as outputs_result}
-use Rattle.idle_clients.specs.Clients.{has_messages, names_of, output_flags, watched_of}
+use Rattle.connected_clients.specs.Clients.{has_messages, names_of, output_flags, watched_of}
 use Rattle.notice_laws.specs.Told.{ChannelsAreTold, MessagesAreTold, OptionsAreTold, OutputsAreTold, PartitionsAreTold}
 use Rattle.notice_laws.proofs.Unheard.{names_kept, none_begins, outputs_kept, pairs_kept, volume_kept}
 

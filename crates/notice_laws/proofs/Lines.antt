@@ -10,8 +10,8 @@ use Rattle.player_state.specs.Scans.{running}
 use Rattle.player_state.specs.declared.state.Library.{Library}
 use Rattle.player_state.specs.declared.state.Part.{Part}
 use Rattle.transitions.specs.CommandResults.{shows}
-use Rattle.idle_clients.specs.Clients.{Playing, options, playing}
-use Rattle.idle_clients.specs.declared.fingerprint.Options.{Options}
+use Rattle.connected_clients.specs.Clients.{Playing, options, playing}
+use Rattle.connected_clients.specs.declared.fingerprint.Options.{Options}
 use Rattle.status_commands.specs.Stats.{library_lines, playtime_line, uptime_line}
 use Rattle.status_commands.specs.Status as status
 use Rattle.status_commands.specs.Status.{result_of as status_result}

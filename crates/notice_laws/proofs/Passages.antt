@@ -12,10 +12,10 @@ use Rattle.player_state.specs.declared.effect.Effect.{Effect}
 use Rattle.player_state.specs.declared.effect.Effect.TheVariants.{ByAudio, ByCommand}
 use Rattle.player_state.specs.declared.outputs.Carried.{Carried}
 use Rattle.player_state.specs.declared.state.Part.{Part}
-use Rattle.parts.specs.Parts.{Known, carried_in, changed, known, moved_output, once_more, outputs_moved, part_at, parts_moved}
-use Rattle.parts.specs.declared.crossing.Crossing.{Crossing}
-use Rattle.parts.specs.declared.crossing.Crossing.TheVariants as crossing
-use Rattle.parts.proofs.Looks.{other_changed, own_changed, own_moved, part_moved}
+use Rattle.partition_table.specs.Parts.{Known, carried_in, changed, known, moved_output, once_more, outputs_moved, part_at, parts_moved}
+use Rattle.partition_table.specs.declared.crossing.Crossing.{Crossing}
+use Rattle.partition_table.specs.declared.crossing.Crossing.TheVariants as crossing
+use Rattle.partition_table.proofs.Looks.{other_changed, own_changed, own_moved, part_moved}
 use Rattle.notice_laws.specs.Passages.{EventsArePassages}
 
 -- the name of a partition, the names of all outputs, and its queue

@@ -22,7 +22,7 @@ use Rattle.mpd_command.specs.declared.status.StatusCommand.TheVariants as status
 use Rattle.queue_commands.specs.Playback.{lines_at}
 use Rattle.queue_commands.specs.Queue.{count, entry_lines, place_lines, place_of_id, playlist_find, range_or_all, show_changed, show_one, show_places, result_of as queue_result}
 use Rattle.status_commands.specs.Status.{current_lines, result_of as status_result}
-use Rattle.idle_clients.specs.Clients.{playing}
+use Rattle.connected_clients.specs.Clients.{playing}
 use Rattle.notice_laws.specs.Passages.{HearsOfNone, IsUntold, Passage}
 use Rattle.notice_laws.specs.Tellers.{queue_tellers}
 use Rattle.notice_laws.specs.Told.{QueueIsTold, StatusIsTold}

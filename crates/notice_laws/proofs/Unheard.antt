@@ -21,9 +21,9 @@ use Rattle.player_state.specs.declared.scan.ScanMove.{ScanMove}
 use Rattle.player_state.specs.declared.scan.ScanMove.TheVariants.{Stay, Begin, End}
 use Rattle.player_state.specs.declared.state.Part.{Part}
 use Rattle.player_state.proofs.Songs.{same_songs-true}
-use Rattle.parts.specs.Parts.{part_at}
-use Rattle.idle_clients.specs.Clients.{has_messages, names_of, options, output_flags, playing, raised_between, raised_for_all, raised_within, watched_all, watched_at, watched_of}
-use Rattle.idle_clients.proofs.Alike.{same_names-true, same_options-true, same_outputs-true, same_pairs-true, same_playing-true}
+use Rattle.partition_table.specs.Parts.{part_at}
+use Rattle.connected_clients.specs.Clients.{has_messages, names_of, options, output_flags, playing, raised_between, raised_for_all, raised_within, watched_all, watched_at, watched_of}
+use Rattle.connected_clients.proofs.Alike.{same_names-true, same_options-true, same_outputs-true, same_pairs-true, same_playing-true}
 use Rattle.notice_laws.specs.Passages.{Passage, Stays, heard, library_of}
 
 is : (b : Bool) → not b ≡ false → b ≡ true

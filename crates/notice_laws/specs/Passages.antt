@@ -10,10 +10,10 @@ use Rattle.player_state.specs.declared.scan.ScanMove.{ScanMove}
 use Rattle.player_state.specs.declared.state.Client.{Client}
 use Rattle.player_state.specs.declared.state.Library.{Library}
 use Rattle.player_state.specs.declared.state.Part.{Part}
-use Rattle.parts.specs.Parts.{part_at}
+use Rattle.partition_table.specs.Parts.{part_at}
 use Rattle.transitions.specs.Transitions.{TransitionData, parts_after}
 use Rattle.transitions.specs.declared.shelf_calls.ShelfWrite.{ShelfWrite}
-use Rattle.idle_clients.specs.Clients.{raised_there, watched_all}
+use Rattle.connected_clients.specs.Clients.{raised_there, watched_all}
 
 -- the client; the partitions at both moments, and of them its own; the library at the first; and what the event
 -- makes of the scans, of the queue of that partition, and of the shelf

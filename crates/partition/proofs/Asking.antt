@@ -28,19 +28,19 @@ use Rattle.transitions.specs.Answers.{Answer, ResponseData, refused_by_shelf, re
 use Rattle.transitions.specs.Shelves.{is_written}
 use Rattle.transitions.specs.declared.shelf_calls.StoreReply.{StoreReply}
 use Rattle.shelf.specs.declared.faults.ShelfFault.{ShelfFault}
-use Rattle.idle_clients.specs.Clients.{entered, notified, at, moved, move_of, newcomer, shown}
+use Rattle.connected_clients.specs.Clients.{entered, notified, at, moved, move_of, newcomer, shown}
 use Rattle.status_commands.specs.Connection.{choice_of}
 use Rattle.status_commands.specs.Status.{Wish, ToWait, ToGoOn, ToShow, idles, resumes, wish_of}
 use Rattle.transitions.specs.Transitions.{TransitionData}
-use Rattle.idle_clients.specs.Clients.{client_of}
+use Rattle.connected_clients.specs.Clients.{client_of}
 use Rattle.partition.specs.Image.{Overview}
-use Rattle.partition.specs.Step.{absent, asked_by, ends_by, failure, greeting, have, once_written, output_turn, response_to_new, speaker_in, transition_of, transition_line, transition_run, transition_there, transition_wished, want, written_transition}
+use Rattle.partition.specs.Step.{absent, asked_by, ends_by, failure, greeting, have, once_written, output_turn, response_to_new, sender_in, transition_of, transition_line, transition_run, transition_there, transition_wished, want, written_transition}
 use Rattle.mpd_command.specs.declared.partitions.PartitionCommand.{PartitionCommand}
 use Rattle.mpd_command.specs.declared.partitions.PartitionCommand.TheVariants.{DelPartition, ListPartitions, MoveOutput, NewPartition, Partition}
 use Rattle.mpd_text.specs.declared.answers.answer.ErrorNumber.TheVariants.{Argument, Exist, System}
-use Rattle.parts.specs.Openings.{OpeningsData}
-use Rattle.parts.specs.Parts.{Known, free_place, holder, named}
-use Rattle.parts.specs.declared.crossing.Crossing.TheVariants.{Closes, Brings}
+use Rattle.partition_table.specs.Openings.{OpeningsData}
+use Rattle.partition_table.specs.Parts.{Known, free_place, holder, named}
+use Rattle.partition_table.specs.declared.crossing.Crossing.TheVariants.{Closes, Brings}
 use Rattle.partition_commands.specs.Partitions.{Seated, begins, brings, by_name, done, ends, goes, is_partition_name, is_used, lines_of_names, moves, names_in, output_named, planned, refused}
 use Rattle.transitions.specs.CommandResults.{bad_name, shows}
 use Rattle.transitions.specs.declared.asked.Asked.{Asked}
@@ -270,7 +270,7 @@ quiet_new clients (Some client) = tt
 
 -- each event makes a quiet move, or is `idle`
 pub kind_of : (o : Overview) (part : Option Part) (library : Library) (clients : List Client) (event : Event)
-    → Quiet (move_of (transition_of o part library (speaker_in clients event) event).response) ⊎ IsAsking clients event
+    → Quiet (move_of (transition_of o part library (sender_in clients event) event).response) ⊎ IsAsking clients event
 kind_of o part library clients (Connect number) = inl (quiet_new o.clients (client_of number clients))
 kind_of o part library clients (Disconnect number) = inl tt
 kind_of o part library clients ScanQuestion = inl tt

@@ -10,13 +10,13 @@ use Rattle.idle_notes.specs.Sets.{all, none, union, is_nonempty}
 use Rattle.idle_notes.specs.Notes.{everything, fresh, noted, waits, cancelled, due}
 use Rattle.transitions.specs.declared.reply.Move.{Move}
 use Rattle.transitions.specs.declared.reply.Move.TheVariants.{Stay, Wait, Learn, Resume, Join, Show, Enter}
-use Rattle.idle_clients.specs.declared.notices.Notice.{Notice}
+use Rattle.connected_clients.specs.declared.notices.Notice.{Notice}
 use Rattle.player_state.specs.declared.state.Client.{Client}
 use Rattle.mpd_text.specs.declared.songs.song.TagName.{TagName}
-use Rattle.idle_clients.specs.Clients.{entered, notified, is_other, at, joined, moved, newcomer, notice_to, notice_for, shown, AllAbove, Rising}
-use Rattle.idle_clients.specs.Clients.{client_of}
+use Rattle.connected_clients.specs.Clients.{entered, notified, is_other, at, joined, moved, newcomer, notice_to, notice_for, shown, AllAbove, Rising}
+use Rattle.connected_clients.specs.Clients.{client_of}
 use Rattle.partition.specs.World.{is_learning}
-use Rattle.idle_clients.proofs.Rises.{at_keeps, entered_keeps, rising_filter, shown_keeps}
+use Rattle.connected_clients.proofs.Rises.{at_keeps, entered_keeps, rising_filter, shown_keeps}
 
 -- each client has this
 abbrev pub Each : (Client → Type 0) → List Client → Type 0
@@ -90,7 +90,7 @@ unchanged flag k e = ap (λ (s : Subsystems). record k { pending = record k.pend
 
 -- who goes to another partition does not wait, and everything is raised for it
 abbrev pub MayGo : (Client → Subsystems) → ℕ → Client → Type 0
-MayGo raised speaker k = (k.number == speaker) ≡ true → (k.pending.waiting ≡ None) × (raised k ≡ all)
+MayGo raised sender k = (k.number == sender) ≡ true → (k.pending.waiting ≡ None) × (raised k ≡ all)
 
 or_true : (b : Bool) → (b || true) ≡ true
 or_true true = refl
@@ -112,7 +112,7 @@ union_all s = λ i. record {
   partition = or_true s.partition i;
 }
 
-module _ (raised : Client → Subsystems) (by_number flag after : ℕ → Subsystems) (there : ℕ → Bool) (speaker : ℕ) where
+module _ (raised : Client → Subsystems) (by_number flag after : ℕ → Subsystems) (there : ℕ → Bool) (sender : ℕ) where
   -- what a client's flags are after an event that raises this, by which it begins anew or not
   abbrev grown_by : Subsystems → ℕ → Bool → Subsystems
   grown_by r n anew = if anew then none else union (flag n) r
@@ -126,7 +126,7 @@ module _ (raised : Client → Subsystems) (by_number flag after : ℕ → Subsys
   Right k = (there k.number ≡ true) × (k.pending.changed ≡ flag k.number) × (raised k ≡ by_number k.number)
 
   abbrev pub anew : List Client → Bool → ℕ → Bool
-  anew ks heard n = not (there n) || (named raised n ks || ((n == speaker) && heard))
+  anew ks heard n = not (there n) || (named raised n ks || ((n == sender) && heard))
 
   quiet : (d s : Bool) (r f : Subsystems) (p : Pending) → p.changed ≡ f
       → (if d || (s && false) then none else union f r) ≡ (if d then fresh else noted r p).changed
@@ -144,50 +144,50 @@ module _ (raised : Client → Subsystems) (by_number flag after : ℕ → Subsys
   module _ (heard : Bool) (ks : List Client) (is : (n : ℕ) → after n ≡ grown n (anew ks heard n)) where
     -- the flags of a client that is there, by whether it is told
     after_there : (k : Client) → Right k → named raised k.number ks ≡ told raised k
-        → after k.number ≡ grown k.number (told raised k || ((k.number == speaker) && heard))
+        → after k.number ≡ grown k.number (told raised k || ((k.number == sender) && heard))
     after_there k right names =
-        is k.number ∙ ap (λ b. grown k.number (not b || (named raised k.number ks || ((k.number == speaker) && heard)))) right.0
-        ∙ ap (λ b. grown k.number (b || ((k.number == speaker) && heard))) names
+        is k.number ∙ ap (λ b. grown k.number (not b || (named raised k.number ks || ((k.number == sender) && heard)))) right.0
+        ∙ ap (λ b. grown k.number (b || ((k.number == sender) && heard))) names
 
   -- each client of some is left as it is by its flags, once it has heard and made a move
   module _ (change : Client → Client) (heard : Bool) (ks : List Client) (is : (n : ℕ) → after n ≡ grown n (anew ks heard n))
       (keeps : (k : Client) → (change (notified raised k)).number ≡ k.number)
       (flags : (k : Client) → k.pending.changed ≡ flag k.number
-      → grown_by (raised k) k.number (told raised k || ((k.number == speaker) && heard)) ≡ (change (notified raised k)).pending.changed) where
+      → grown_by (raised k) k.number (told raised k || ((k.number == sender) && heard)) ≡ (change (notified raised k)).pending.changed) where
     pub each_unchanged : (xs : List Client) → Each Right xs → Each (λ x. named raised x.number ks ≡ told raised x) xs
         → Each (λ k. flagged after k ≡ k) (map change (map (notified raised) xs))
     each_unchanged [] right names = tt
     each_unchanged (x ∷ xs) right names = (
       unchanged after (change (notified raised x))
           (ap after (keeps x) ∙ after_there heard ks is x right.0 names.0
-          ∙ ap (λ (r : Subsystems). grown_by r x.number (told raised x || ((x.number == speaker) && heard))) (sym right.0.2) ∙ flags x right.0.1),
+          ∙ ap (λ (r : Subsystems). grown_by r x.number (told raised x || ((x.number == sender) && heard))) (sym right.0.2) ∙ flags x right.0.1),
       each_unchanged xs right.1 names.1,
     )
 
-  same_number : (change : Pending → Pending) (k : Client) → (at speaker change (notified raised k)).number ≡ k.number
-  same_number change k = at_keeps speaker change (notified raised k)
+  same_number : (change : Pending → Pending) (k : Client) → (at sender change (notified raised k)).number ≡ k.number
+  same_number change k = at_keeps sender change (notified raised k)
 
-  same_flags : (change : Pending → Pending) → ((p : Pending) → (change p).changed ≡ p.changed) → (k : Client) → (at speaker change k).pending.changed ≡ k.pending.changed
+  same_flags : (change : Pending → Pending) → ((p : Pending) → (change p).changed ≡ p.changed) → (k : Client) → (at sender change k).pending.changed ≡ k.pending.changed
   same_flags change same k =
-      elim (k.number == speaker) as (λ b. (if b then record k { pending = change k.pending } else k).pending.changed ≡ k.pending.changed)
+      elim (k.number == sender) as (λ b. (if b then record k { pending = change k.pending } else k).pending.changed ≡ k.pending.changed)
       [ true ↦ same k.pending | false ↦ refl ]
 
-  cleared : (k : Client) → (if k.number == speaker then fresh else k.pending).changed ≡ (at speaker (λ p. fresh) k).pending.changed
+  cleared : (k : Client) → (if k.number == sender then fresh else k.pending).changed ≡ (at sender (λ p. fresh) k).pending.changed
   cleared k =
-      elim (k.number == speaker) as (λ b. (if b then fresh else k.pending).changed ≡ (if b then record k { pending = fresh } else k).pending.changed)
+      elim (k.number == sender) as (λ b. (if b then fresh else k.pending).changed ≡ (if b then record k { pending = fresh } else k).pending.changed)
       [ true ↦ refl | false ↦ refl ]
 
-  shown_flags : (tags : List TagName) (k : Client) → (shown speaker tags k).pending.changed ≡ k.pending.changed
+  shown_flags : (tags : List TagName) (k : Client) → (shown sender tags k).pending.changed ≡ k.pending.changed
   shown_flags tags k =
-      elim (k.number == speaker) as (λ b. (if b then record k { tags = tags } else k).pending.changed ≡ k.pending.changed) [ true ↦ refl | false ↦ refl ]
+      elim (k.number == sender) as (λ b. (if b then record k { tags = tags } else k).pending.changed ≡ k.pending.changed) [ true ↦ refl | false ↦ refl ]
 
-  entered_flags : (place : ℕ) (k : Client) → k.pending.changed ≡ flag k.number → MayGo raised speaker k
-      → grown_by (raised k) k.number (told raised k || ((k.number == speaker) && false)) ≡ (entered speaker place (notified raised k)).pending.changed
+  entered_flags : (place : ℕ) (k : Client) → k.pending.changed ≡ flag k.number → MayGo raised sender k
+      → grown_by (raised k) k.number (told raised k || ((k.number == sender) && false)) ≡ (entered sender place (notified raised k)).pending.changed
   entered_flags place k e goes =
       let heard : Client = notified raised k in
-      let cases : (b : Bool) → (k.number == speaker) ≡ b
+      let cases : (b : Bool) → (k.number == sender) ≡ b
       → grown_by (raised k) k.number (told raised k || (b && false)) ≡ (if b then record heard { place = place; pending = everything } else heard).pending.changed =
-      λ b. elim b as (λ b. (k.number == speaker) ≡ b
+      λ b. elim b as (λ b. (k.number == sender) ≡ b
       → grown_by (raised k) k.number (told raised k || (b && false)) ≡ (if b then record heard { place = place; pending = everything } else heard).pending.changed) [
         | true ↦ λ t.
             let free = goes t in
@@ -195,7 +195,7 @@ module _ (raised : Client → Subsystems) (by_number flag after : ℕ → Subsys
             ap (λ b. grown_by (raised k) k.number (b || false)) unheard ∙ ap (λ (r : Subsystems). union (flag k.number) r) free.1 ∙ union_all (flag k.number)
         | false ↦ λ t. quiet (told raised k) false (raised k) (flag k.number) k.pending e
       ] in
-      cases (k.number == speaker) refl
+      cases (k.number == sender) refl
 
   identical : (P : Client → Type 0) (xs : List Client) → Each P (map (λ k. k) xs) → Each P xs
   identical P [] e = tt
@@ -208,38 +208,38 @@ module _ (raised : Client → Subsystems) (by_number flag after : ℕ → Subsys
     pub stays : ((n : ℕ) → after n ≡ grown n (anew ks false n)) → Each (λ k. flagged after k ≡ k) (map (notified raised) ks)
     stays is =
         identical (λ k. flagged after k ≡ k) (map (notified raised) ks)
-        (each_unchanged (λ k. k) false ks is (λ k. refl) (λ k e. quiet (told raised k) (k.number == speaker) (raised k) (flag k.number) k.pending e) ks right names)
+        (each_unchanged (λ k. k) false ks is (λ k. refl) (λ k e. quiet (told raised k) (k.number == sender) (raised k) (flag k.number) k.pending e) ks right names)
 
     pub keeps_flags : (change : Pending → Pending) → ((p : Pending) → (change p).changed ≡ p.changed) → ((n : ℕ) → after n ≡ grown n (anew ks false n))
-        → Each (λ k. flagged after k ≡ k) (map (at speaker change) (map (notified raised) ks))
+        → Each (λ k. flagged after k ≡ k) (map (at sender change) (map (notified raised) ks))
     keeps_flags change same is =
-        each_unchanged (at speaker change) false ks is (same_number change)
-        (λ k e. quiet (told raised k) (k.number == speaker) (raised k) (flag k.number) k.pending e ∙ sym (same_flags change same (notified raised k))) ks right names
+        each_unchanged (at sender change) false ks is (same_number change)
+        (λ k e. quiet (told raised k) (k.number == sender) (raised k) (flag k.number) k.pending e ∙ sym (same_flags change same (notified raised k))) ks right names
 
     pub shows_tags : (tags : List TagName) → ((n : ℕ) → after n ≡ grown n (anew ks false n))
-        → Each (λ k. flagged after k ≡ k) (map (shown speaker tags) (map (notified raised) ks))
+        → Each (λ k. flagged after k ≡ k) (map (shown sender tags) (map (notified raised) ks))
     shows_tags tags is =
-        each_unchanged (shown speaker tags) false ks is (λ k. shown_keeps speaker tags (notified raised k))
-        (λ k e. quiet (told raised k) (k.number == speaker) (raised k) (flag k.number) k.pending e ∙ sym (shown_flags tags (notified raised k))) ks right names
+        each_unchanged (shown sender tags) false ks is (λ k. shown_keeps sender tags (notified raised k))
+        (λ k e. quiet (told raised k) (k.number == sender) (raised k) (flag k.number) k.pending e ∙ sym (shown_flags tags (notified raised k))) ks right names
 
-    pub clears : ((n : ℕ) → after n ≡ grown n (anew ks true n)) → Each (λ k. flagged after k ≡ k) (map (at speaker (λ p. fresh)) (map (notified raised) ks))
+    pub clears : ((n : ℕ) → after n ≡ grown n (anew ks true n)) → Each (λ k. flagged after k ≡ k) (map (at sender (λ p. fresh)) (map (notified raised) ks))
     clears is =
-        each_unchanged (at speaker (λ p. fresh)) true ks is (same_number (λ p. fresh))
-        (λ k e. told_now (told raised k) (k.number == speaker) (raised k) (flag k.number) k.pending e ∙ cleared (notified raised k)) ks right names
+        each_unchanged (at sender (λ p. fresh)) true ks is (same_number (λ p. fresh))
+        (λ k e. told_now (told raised k) (k.number == sender) (raised k) (flag k.number) k.pending e ∙ cleared (notified raised k)) ks right names
 
     -- each of some, of which one may go to another partition
-    each_entered : (place : ℕ) → ((n : ℕ) → after n ≡ grown n (anew ks false n)) → (xs : List Client) → Each Right xs → Each (MayGo raised speaker) xs
-        → Each (λ x. named raised x.number ks ≡ told raised x) xs → Each (λ k. flagged after k ≡ k) (map (entered speaker place) (map (notified raised) xs))
+    each_entered : (place : ℕ) → ((n : ℕ) → after n ≡ grown n (anew ks false n)) → (xs : List Client) → Each Right xs → Each (MayGo raised sender) xs
+        → Each (λ x. named raised x.number ks ≡ told raised x) xs → Each (λ k. flagged after k ≡ k) (map (entered sender place) (map (notified raised) xs))
     each_entered place is [] rights goes name = tt
     each_entered place is (x ∷ xs) rights goes name = (
-      unchanged after (entered speaker place (notified raised x))
-          (ap after (entered_keeps speaker place (notified raised x)) ∙ after_there false ks is x rights.0 name.0
-          ∙ ap (λ (r : Subsystems). grown_by r x.number (told raised x || ((x.number == speaker) && false))) (sym rights.0.2) ∙ entered_flags place x rights.0.1 goes.0),
+      unchanged after (entered sender place (notified raised x))
+          (ap after (entered_keeps sender place (notified raised x)) ∙ after_there false ks is x rights.0 name.0
+          ∙ ap (λ (r : Subsystems). grown_by r x.number (told raised x || ((x.number == sender) && false))) (sym rights.0.2) ∙ entered_flags place x rights.0.1 goes.0),
       each_entered place is xs rights.1 goes.1 name.1,
     )
 
-    pub enters : (place : ℕ) → ((n : ℕ) → after n ≡ grown n (anew ks false n)) → Each (MayGo raised speaker) ks
-        → Each (λ k. flagged after k ≡ k) (map (entered speaker place) (map (notified raised) ks))
+    pub enters : (place : ℕ) → ((n : ℕ) → after n ≡ grown n (anew ks false n)) → Each (MayGo raised sender) ks
+        → Each (λ k. flagged after k ≡ k) (map (entered sender place) (map (notified raised) ks))
     enters place is goes = each_entered place is ks right goes names
 
     each_insert : (P : Client → Type 0) (xs : List Client) (i : ℕ) (x : Client) → Each P xs → P x → Each P (insert xs i x)
@@ -248,27 +248,27 @@ module _ (raised : Client → Subsystems) (by_number flag after : ℕ → Subsys
     each_insert P (y ∷ ys) zero x e p = (p, e)
     each_insert P (y ∷ ys) (suc i) x e p = (e.0, each_insert P ys i x e.1 p)
 
-    pub joins : ((n : ℕ) → after n ≡ grown n (anew ks false n)) → (client_of speaker (map (notified raised) ks) ≡ None → there speaker ≡ false)
-        → Each (λ k. flagged after k ≡ k) (joined speaker (map (notified raised) ks))
+    pub joins : ((n : ℕ) → after n ≡ grown n (anew ks false n)) → (client_of sender (map (notified raised) ks) ≡ None → there sender ≡ false)
+        → Each (λ k. flagged after k ≡ k) (joined sender (map (notified raised) ks))
     joins is absent =
         let heard : List Client = map (notified raised) ks in
-        let new : Client = newcomer speaker in
-        let place : ℕ = position_or_len (λ k. nat_lt speaker k.number) heard in
-        let cases : (o : Option Client) → client_of speaker heard ≡ o → Each (λ k. flagged after k ≡ k) (if is_some o then heard else insert heard place new) =
-        λ o. elim o as (λ o. client_of speaker heard ≡ o → Each (λ k. flagged after k ≡ k) (if is_some o then heard else insert heard place new)) [
+        let new : Client = newcomer sender in
+        let place : ℕ = position_or_len (λ k. nat_lt sender k.number) heard in
+        let cases : (o : Option Client) → client_of sender heard ≡ o → Each (λ k. flagged after k ≡ k) (if is_some o then heard else insert heard place new) =
+        λ o. elim o as (λ o. client_of sender heard ≡ o → Each (λ k. flagged after k ≡ k) (if is_some o then heard else insert heard place new)) [
           | None ↦ λ e.
-              let none_yet : after speaker ≡ none =
-              is speaker ∙ ap (λ b. grown speaker (not b || (named raised speaker ks || ((speaker == speaker) && false)))) (absent e) in
+              let none_yet : after sender ≡ none =
+              is sender ∙ ap (λ b. grown sender (not b || (named raised sender ks || ((sender == sender) && false)))) (absent e) in
               each_insert (λ k. flagged after k ≡ k) heard place new (stays is) (unchanged after new none_yet)
           | Some k ↦ λ e. stays is
         ] in
-        cases (client_of speaker heard) refl
+        cases (client_of sender heard) refl
 
   -- whatever move the client makes
-  pub each_stands : (ks : List Client) → Rising ks → Each Right ks → (move : Move) → ((place : ℕ) → move ≡ Enter place → Each (MayGo raised speaker) ks)
+  pub each_stands : (ks : List Client) → Rising ks → Each Right ks → (move : Move) → ((place : ℕ) → move ≡ Enter place → Each (MayGo raised sender) ks)
       → ((n : ℕ) → after n ≡ grown n (anew ks (is_learning move) n))
-      → (client_of speaker (map (notified raised) ks) ≡ None → there speaker ≡ false)
-      → Each (λ k. flagged after k ≡ k) (moved speaker move (map (notified raised) ks))
+      → (client_of sender (map (notified raised) ks) ≡ None → there sender ≡ false)
+      → Each (λ k. flagged after k ≡ k) (moved sender move (map (notified raised) ks))
   each_stands ks rising right Stay goes is absent = stays ks rising right is
   each_stands ks rising right (Wait names) goes is absent = keeps_flags ks rising right (waits names) (λ p. refl) is
   each_stands ks rising right Learn goes is absent = clears ks rising right is
@@ -278,10 +278,10 @@ module _ (raised : Client → Subsystems) (by_number flag after : ℕ → Subsys
   each_stands ks rising right (Enter place) goes is absent = enters ks rising right place is (goes place refl)
 
   -- of a client that is closed, or makes a move
-  pub all_stand : (ks : List Client) → Rising ks → Each Right ks → (closed : Bool) (move : Move) → ((place : ℕ) → (if closed then Stay else move) ≡ Enter place → Each (MayGo raised speaker) ks)
-      → ((n : ℕ) → after n ≡ grown n (anew (if closed then filter (is_other speaker) ks else ks) (is_learning (if closed then Stay else move)) n))
-      → (client_of speaker (map (notified raised) ks) ≡ None → there speaker ≡ false)
-      → Each (λ k. flagged after k ≡ k) (moved speaker (if closed then Stay else move) (map (notified raised) (if closed then filter (is_other speaker) ks else ks)))
+  pub all_stand : (ks : List Client) → Rising ks → Each Right ks → (closed : Bool) (move : Move) → ((place : ℕ) → (if closed then Stay else move) ≡ Enter place → Each (MayGo raised sender) ks)
+      → ((n : ℕ) → after n ≡ grown n (anew (if closed then filter (is_other sender) ks else ks) (is_learning (if closed then Stay else move)) n))
+      → (client_of sender (map (notified raised) ks) ≡ None → there sender ≡ false)
+      → Each (λ k. flagged after k ≡ k) (moved sender (if closed then Stay else move) (map (notified raised) (if closed then filter (is_other sender) ks else ks)))
   all_stand ks rising right true move goes is absent =
-      stays (filter (is_other speaker) ks) (rising_filter (is_other speaker) ks rising) (each_filter Right (is_other speaker) ks right) is
+      stays (filter (is_other sender) ks) (rising_filter (is_other sender) ks rising) (each_filter Right (is_other sender) ks right) is
   all_stand ks rising right false move goes is absent = each_stands ks rising right move goes is absent

@@ -28,25 +28,25 @@ use Rattle.player_state.specs.declared.effect.Effect.TheVariants.{ByCommand, ByA
 use Rattle.player_state.specs.declared.effect.CommandEffect.TheVariants.{Rests, Edits, Shuffles, SetsVolume, SetsRepeat, SetsRandom, SetsSingle, SetsConsume, SetsCrossfade, ClearsError, Plays, PlaysPlace, Pauses, TogglesPause, Stops, GoesOn, GoesBack, Seeks, Switches, Subscribes, Unsubscribes, Sends, ReadsMessages, Leaves}
 use Rattle.player_state.specs.declared.effect.AudioStep.TheVariants.{Wants, Accepts, Fails, Settles}
 use Rattle.player_events.specs.declared.event.Event.{Event}
-use Rattle.idle_clients.specs.declared.notices.Notice.{Notice}
+use Rattle.connected_clients.specs.declared.notices.Notice.{Notice}
 use Rattle.player_state.specs.declared.report.Report.{Report}
 use Rattle.player_state.specs.declared.state.Part.{Part}
 use Rattle.player_state.specs.Outputs.{OutputsData, any_enabled, broken, brought, is_output, released}
 use Rattle.player_state.specs.declared.outputs.Carried.{Carried}
-use Rattle.parts.specs.Parts.{carried_in, known, once_more, outputs_moved}
-use Rattle.parts.specs.declared.crossing.Crossing.{Crossing}
-use Rattle.parts.specs.declared.crossing.Crossing.TheVariants.{Stays, Opens, Closes, Brings}
+use Rattle.partition_table.specs.Parts.{carried_in, known, once_more, outputs_moved}
+use Rattle.partition_table.specs.declared.crossing.Crossing.{Crossing}
+use Rattle.partition_table.specs.declared.crossing.Crossing.TheVariants.{Stays, Opens, Closes, Brings}
 use Rattle.player_core.specs.declared.state.Job.{Job}
 use Rattle.player_state.specs.Effects.{Change, ByEdit, ByStep, asked_for, change_of, entries, outputs_after, played_entry, player_after, player_edited, sought_entry, wanted}
 use Rattle.partition.specs.Image.{Image}
 use Rattle.transitions.specs.Transitions.{TransitionData}
 use Rattle.player_state.specs.Scans.{is_last}
 use Rattle.player_state.proofs.Songs.{same_songs-refl, same_songs-true}
-use Rattle.idle_clients.proofs.Alike.{more_than_none, same_names-refl, same_names-true, same_pairs-refl, same_pairs-true, same_options-refl, same_options-true, same_outputs-refl, same_outputs-true, same_playing-refl, same_playing-true}
-use Rattle.idle_clients.specs.declared.fingerprint.OutputFlags.{OutputFlags}
-use Rattle.idle_clients.specs.Clients.{Watched, is_this, names_of, options, output_flags, playing, raised_between, raised_for_all, raised_within, same_names, same_options, same_outputs, same_pairs, same_playing, watched_at}
+use Rattle.connected_clients.proofs.Alike.{more_than_none, same_names-refl, same_names-true, same_pairs-refl, same_pairs-true, same_options-refl, same_options-true, same_outputs-refl, same_outputs-true, same_playing-refl, same_playing-true}
+use Rattle.connected_clients.specs.declared.fingerprint.OutputFlags.{OutputFlags}
+use Rattle.connected_clients.specs.Clients.{Watched, is_this, names_of, options, output_flags, playing, raised_between, raised_for_all, raised_within, same_names, same_options, same_outputs, same_pairs, same_playing, watched_at}
 use Rattle.player_state.specs.Libraries.{library_after, same_songs, songs_after}
-use Rattle.partition.specs.Step.{goer, mover, place_at}
+use Rattle.partition.specs.Step.{moved_client, sender_number, place_at}
 use Rattle.partition.specs.World.{PartWorld, World, WorldTransition, Differs, DiffersAt, DiffersBetween, DiffersForAll, DiffersWithin, names_in, part_in, part_world_after, parts_changed, past_after, place_of, raised_at, unplayed, watched_by, watched_in, world_after_transition, world_at, world_moved_output, worlds_moved}
 use Rattle.partition.specs.Notices.{AgreeButForUnwatched, AgreesButForUnwatched, AllAgree, NoneDiffers}
 
@@ -198,7 +198,7 @@ pub raised_differ : (number : ℕ) (m : WorldTransition) (x : Subsystem) → (ha
 raised_differ number m x =
     let place : ℕ = place_of number m.before.clients in
     let there : Subsystems = raised_between number (watched_at place (map watched_by m.before.parts)) (watched_at place (map watched_by m.after.parts)) (common number m) in
-    let goes : Bool = is_this (goer (mover m.event) m.transition.response) number in
+    let goes : Bool = is_this (moved_client (sender_number m.event) m.transition.response) number in
     let Goal : Bool → Type 0 = λ b. (has (if b then all else there) x ≡ true) ↔ ((b ≡ true) ⊎ DiffersAt number place x m) in
     elim goes as Goal [
       | true ↦ (λ e. inl refl, λ s. has_all x)

@@ -8,31 +8,31 @@ use Rattle.song_queue.specs.Entries.{same_queue}
 use Rattle.song_queue.specs.State.{QueueState, queue_of, differ}
 use Rattle.song_queue.proofs.Parity.{edited_tells, parity_tells_changes}
 use Rattle.song_queue.proofs.Same.{same_queue-refl}
-use Rattle.parts.proofs.Looks.{if_new, or_else, other_changed, own_changed, own_moved, part_moved}
-use Rattle.parts.specs.Parts.{Known, carried_in, changed, known, moved_output, part_at, parts_moved}
-use Rattle.parts.specs.declared.crossing.Crossing.{Crossing}
-use Rattle.parts.specs.declared.crossing.Crossing.TheVariants.{Stays, Opens, Closes, Brings}
+use Rattle.partition_table.proofs.Looks.{if_new, or_else, other_changed, own_changed, own_moved, part_moved}
+use Rattle.partition_table.specs.Parts.{Known, carried_in, changed, known, moved_output, part_at, parts_moved}
+use Rattle.partition_table.specs.declared.crossing.Crossing.{Crossing}
+use Rattle.partition_table.specs.declared.crossing.Crossing.TheVariants.{Stays, Opens, Closes, Brings}
 use Rattle.player_state.specs.declared.effect.Effect.{Effect}
 use Rattle.player_state.specs.declared.outputs.Carried.{Carried}
 use Rattle.player_state.specs.declared.state.Part.{Part}
 use Rattle.player_events.specs.declared.event.Event.{Event}
-use Rattle.idle_clients.specs.declared.notices.Notice.{Notice}
+use Rattle.connected_clients.specs.declared.notices.Notice.{Notice}
 use Rattle.player_state.specs.declared.state.Client.{Client}
 use Rattle.transitions.specs.Answers.{ResponseData}
 use Rattle.player_state.specs.declared.state.Library.{Library}
-use Rattle.idle_clients.specs.Clients.{Watched, begins_to_have, clients_after, has_messages, is_this, names_of, notices_after, options, output_flags, playing, raised_between, raised_there, raised_within, same_names, same_outputs, watched_all, watched_at, watched_of}
+use Rattle.connected_clients.specs.Clients.{Watched, begins_to_have, clients_after, has_messages, is_this, names_of, notices_after, options, output_flags, playing, raised_between, raised_there, raised_within, same_names, same_outputs, watched_all, watched_at, watched_of}
 use Rattle.player_state.specs.Libraries.{same_songs}
 use Rattle.player_state.specs.Outputs.{FrameBooks, books_after}
 use Rattle.player_state.specs.Effects.{Change, ByEdit, ByStep, change_of, channels_after, part_after, queue_after}
 use Rattle.partition.specs.Image.{Image}
 use Rattle.transitions.specs.Transitions.{TransitionData, parts_after}
 use Rattle.player_state.specs.Libraries.{library_after, songs_after}
-use Rattle.idle_clients.specs.Fingerprint.{FingerprintData, RaisedData, begins_between, changes_listeners_in, changes_subscriptions, fingerprint, is_among, outputs_at, outputs_before, outputs_differ, outputs_differ_from, outputs_in, own_by_readings, raised_by_fingerprint, raised_in, readings}
+use Rattle.connected_clients.specs.Fingerprint.{FingerprintData, RaisedData, begins_between, changes_listeners_in, changes_subscriptions, fingerprint, is_among, outputs_at, outputs_before, outputs_differ, outputs_differ_from, outputs_in, own_by_readings, raised_by_fingerprint, raised_in, readings}
 use Rattle.transitions.specs.Shelves.{changes_lists, changes_stickers}
 use Rattle.transitions.specs.declared.shelf_calls.ShelfWrite.{ShelfWrite}
-use Rattle.idle_clients.proofs.Alike.{same_names-refl, same_names-true, same_options-refl, same_outputs-refl, same_pairs-refl, same_playing-refl}
-use Rattle.idle_clients.proofs.Listeners.{among_waiting, changes}
-use Rattle.partition.specs.Step.{ended_after, goer, mover, place_at, raised_by, raised_of, report_at, after_transition, told_by}
+use Rattle.connected_clients.proofs.Alike.{same_names-refl, same_names-true, same_options-refl, same_outputs-refl, same_pairs-refl, same_playing-refl}
+use Rattle.connected_clients.proofs.Listeners.{among_waiting, changes}
+use Rattle.partition.specs.Step.{ended_after, moved_client, sender_number, place_at, raised_by, raised_of, report_at, after_transition, told_by}
 use Rattle.partition.proofs.Parts.{added_length, kept_all, map_length}
 
 pub differ-self : (b : Bool) → differ b b ≡ false
@@ -275,7 +275,7 @@ module _ (number : ℕ) (database update lists stickers partitions : Bool) where
 
 -- what the readings before a transition and the daemon after it tell is what it raises
 pub by_fingerprint : (number place : ℕ) (parts : List Part) (library : Library) (t : TransitionData)
-    → raised_in (raised_by_fingerprint (goer number t.response) (not (same_songs library.songs (songs_after library t.scan))) (changes_listeners_in (part_at place parts) t.effect) t.written
+    → raised_in (raised_by_fingerprint (moved_client number t.response) (not (same_songs library.songs (songs_after library t.scan))) (changes_listeners_in (part_at place parts) t.effect) t.written
     (fingerprint t.crossing place parts library) (parts_after library.rate place t parts) (library_after library t.scan))
     ≡ raised_by number place parts library t
 by_fingerprint number place parts library t =
@@ -284,7 +284,7 @@ by_fingerprint number place parts library t =
     let after : List Part = parts_after library.rate place t parts in
     let found : Library = library_after library t.scan in
     let count : Bool = not (nat_eq (length parts) (length after)) in
-    let r : RaisedData = raised_by_fingerprint (goer number t.response) database listening t.written (fingerprint t.crossing place parts library) after found in
+    let r : RaisedData = raised_by_fingerprint (moved_client number t.response) database listening t.written (fingerprint t.crossing place parts library) after found in
     let told : Bool → Subsystems = λ b. common 0 database (differ library.scan.runs found.scan.runs) (changes_lists t.written) (changes_stickers t.written) b in
     let names : count ≡ not (same_names (named_in parts) (named_in after)) = ap not (sym (names_told library.rate place t parts)) in
     let Goal : Client → Bool → Type 0 = λ client own.
@@ -307,13 +307,13 @@ by_fingerprint number place parts library t =
     let watched : (client : Client) → raised_between client.number (option_map watched_of (part_at client.place parts)) (option_map watched_of (part_at client.place after)) (told count)
     ≡ raised_there t.written (watched_all library parts) (watched_all found after) client =
     λ client. λ j. raised_between client.number (sym (watched_part client.place parts) j) (sym (watched_part client.place after) j) (told (names j)) in
-    λ j client. if is_this (goer number t.response) client.number then all else (one client ∙ watched client) j
+    λ j client. if is_this (moved_client number t.response) client.number then all else (one client ∙ watched client) j
 
 module _ (i : Image) (event : Event) (t : TransitionData) (parts : List Part) (library : Library) (raised : Client → Subsystems) (response : ResponseData) where
   -- what was told by fingerprints is what the transition raised
   abbrev pub Shown : Type 0
   Shown =
-      raised ≡ raised_in (raised_by_fingerprint (goer (mover event) t.response) (not (same_songs i.shared.library.songs (songs_after i.shared.library t.scan)))
+      raised ≡ raised_in (raised_by_fingerprint (moved_client (sender_number event) t.response) (not (same_songs i.shared.library.songs (songs_after i.shared.library t.scan)))
       (changes_listeners_in (part_at (place_at i event) i.parts) t.effect) t.written (fingerprint t.crossing (place_at i event) i.parts i.shared.library) parts library)
 
   abbrev pub PartsAre : Type 0
@@ -325,34 +325,34 @@ module _ (i : Image) (event : Event) (t : TransitionData) (parts : List Part) (l
   pub is_raised : PartsAre → LibraryIs → Shown → raised ≡ raised_of i event t
   is_raised parts_are library_is raised_is =
       raised_is
-      ∙ (λ j. raised_in (raised_by_fingerprint (goer (mover event) t.response) (not (same_songs i.shared.library.songs (songs_after i.shared.library t.scan)))
+      ∙ (λ j. raised_in (raised_by_fingerprint (moved_client (sender_number event) t.response) (not (same_songs i.shared.library.songs (songs_after i.shared.library t.scan)))
       (changes_listeners_in (part_at (place_at i event) i.parts) t.effect) t.written (fingerprint t.crossing (place_at i event) i.parts i.shared.library) (parts_are j) (library_is j)))
-      ∙ by_fingerprint (mover event) (place_at i event) i.parts i.shared.library t
+      ∙ by_fingerprint (sender_number event) (place_at i event) i.parts i.shared.library t
 
   -- the image after a transition, from what was made of each of its fields
   pub stepped : (books : FrameBooks) (ended : Bool) (clients : List Client) → PartsAre → LibraryIs
       → books ≡ books_after i.shared.books t.effect (report_at i event t) → ended ≡ ended_after i.shared.ended event → response ≡ t.response → Shown
-      → clients ≡ clients_after (mover event) raised response i.clients
+      → clients ≡ clients_after (sender_number event) raised response i.clients
       → record { parts = parts; shared = record i.shared { library = library; books = books; ended = ended }; clients = clients } ≡ after_transition i event t
   stepped books ended clients parts_are library_is books_are ended_is said_is raised_is clients_are =
       let all_of : raised ≡ raised_of i event t = is_raised parts_are library_is raised_is in
-      let told : clients ≡ clients_after (mover event) (raised_of i event t) t.response i.clients =
-      clients_are ∙ ap (λ r. clients_after (mover event) r response i.clients) all_of ∙ ap (λ s. clients_after (mover event) (raised_of i event t) s i.clients) said_is in
+      let told : clients ≡ clients_after (sender_number event) (raised_of i event t) t.response i.clients =
+      clients_are ∙ ap (λ r. clients_after (sender_number event) r response i.clients) all_of ∙ ap (λ s. clients_after (sender_number event) (raised_of i event t) s i.clients) said_is in
       λ j. record { parts = parts_are j; shared = record i.shared { library = library_is j; books = books_are j; ended = ended_is j }; clients = told j }
 
   -- the notices of a transition, from what was made of it
   pub noticed : (notices : List Notice) → PartsAre → LibraryIs → response ≡ t.response → Shown
-      → notices ≡ notices_after (mover event) raised response i.clients → notices ≡ (told_by i event t).notices
+      → notices ≡ notices_after (sender_number event) raised response i.clients → notices ≡ (told_by i event t).notices
   noticed notices parts_are library_is said_is raised_is notices_are =
       let all_of : raised ≡ raised_of i event t = is_raised parts_are library_is raised_is in
-      notices_are ∙ ap (λ r. notices_after (mover event) r response i.clients) all_of ∙ ap (λ s. notices_after (mover event) (raised_of i event t) s i.clients) said_is
+      notices_are ∙ ap (λ r. notices_after (sender_number event) r response i.clients) all_of ∙ ap (λ s. notices_after (sender_number event) (raised_of i event t) s i.clients) said_is
 
   -- what was told by readings that are alike
   pub shown_by : (goes : Option ℕ) (database listening : Bool) (written : ShelfWrite) (before : FingerprintData) (r : RaisedData)
-      → r ≡ raised_by_fingerprint goes database listening written before parts library → goes ≡ goer (mover event) t.response
+      → r ≡ raised_by_fingerprint goes database listening written before parts library → goes ≡ moved_client (sender_number event) t.response
       → database ≡ not (same_songs i.shared.library.songs (songs_after i.shared.library t.scan)) → listening ≡ changes_listeners_in (part_at (place_at i event) i.parts) t.effect
       → written ≡ t.written → before ≡ fingerprint t.crossing (place_at i event) i.parts i.shared.library
-      → raised_in r ≡ raised_in (raised_by_fingerprint (goer (mover event) t.response) (not (same_songs i.shared.library.songs (songs_after i.shared.library t.scan)))
+      → raised_in r ≡ raised_in (raised_by_fingerprint (moved_client (sender_number event) t.response) (not (same_songs i.shared.library.songs (songs_after i.shared.library t.scan)))
       (changes_listeners_in (part_at (place_at i event) i.parts) t.effect) t.written (fingerprint t.crossing (place_at i event) i.parts i.shared.library) parts library)
   shown_by goes database listening written found r is g d l w b =
       ap raised_in is ∙ (λ j. raised_in (raised_by_fingerprint (g j) (d j) (l j) (w j) (b j) parts library))

@@ -21,16 +21,16 @@ use Rattle.player_state.specs.declared.effect.AudioStep.TheVariants.{Settles}
 use Rattle.player_state.specs.Outputs.{is_output}
 use Rattle.transitions.specs.declared.reply.Move.{Move}
 use Rattle.transitions.specs.declared.reply.Move.TheVariants.{Stay, Wait, Learn, Resume, Join, Show, Enter}
-use Rattle.idle_clients.specs.declared.notices.Notice.{Notice}
+use Rattle.connected_clients.specs.declared.notices.Notice.{Notice}
 use Rattle.player_state.specs.declared.state.Client.{Client}
 use Rattle.player_state.specs.declared.state.Part.{Part}
 use Rattle.transitions.specs.Answers.{Answer, ResponseData, refused_by_shelf, stays, closes}
 use Rattle.status_commands.specs.Status.{Wish, ToWait, ToGoOn, ToShow, wish_of}
-use Rattle.idle_clients.specs.Clients.{entered, notified, is_other, at, moved, newcomer, notice_to, notice_for, notices_after, clients_after, shown, staying, move_of, AllAbove, Rising}
+use Rattle.connected_clients.specs.Clients.{entered, notified, is_other, at, moved, newcomer, notice_to, notice_for, notices_after, clients_after, shown, staying, move_of, AllAbove, Rising}
 use Rattle.transitions.specs.Transitions.{TransitionData}
-use Rattle.idle_clients.specs.Clients.{client_of}
+use Rattle.connected_clients.specs.Clients.{client_of}
 use Rattle.partition.specs.Image.{Overview}
-use Rattle.partition.specs.Step.{absent, asked_by, ends_by, failure, have, once_written, output_turn, transition_of, transition_line, transition_there, transition_wished, want, written_transition, client_among, speaker, speaker_in, mover}
+use Rattle.partition.specs.Step.{absent, asked_by, ends_by, failure, have, once_written, output_turn, transition_of, transition_line, transition_there, transition_wished, want, written_transition, client_among, sender, sender_in, sender_number}
 use Rattle.player_events.specs.Events.{name_of}
 use Rattle.transitions.specs.Transitions.{acts, departs, no_response}
 use Rattle.transitions.specs.Shelves.{is_written}
@@ -38,7 +38,7 @@ use Rattle.transitions.specs.declared.shelf_calls.Read.{Read}
 use Rattle.shelf.specs.declared.faults.ShelfFault.{ShelfFault}
 use Rattle.partition.specs.Notices.{IsIn, AllBeyond, NoticesRise}
 use Rattle.partition.proofs.Members.{in_filter, of_filter, in_insert, in_map, of_map, in_flat_map, of_flat_map}
-use Rattle.idle_clients.proofs.Rises.{at_keeps, entered_keeps, shown_keeps}
+use Rattle.connected_clients.proofs.Rises.{at_keeps, entered_keeps, shown_keeps}
 
 above_in : (n : ℕ) (k : Client) (ks : List Client) → AllAbove n ks → IsIn k ks → n < k.number
 above_in n k [] a e = absurd e
@@ -160,22 +160,22 @@ failure_unsaid : (part : Option Part) (number : ℕ) (partner : Bool) → (failu
 failure_unsaid None number partner = refl
 failure_unsaid (Some part) number partner = refl
 
--- an event of another speaker is of another client, or of no client: then nothing is said
-pub is_other_speaker : (o : Overview) (part : Option Part) (library : Library) (client : Option Client) (event : Event) (number : ℕ) → speaker event ≢ Some number
-    → ((number == mover event) ≡ false) ⊎ ((transition_of o part library client event).response ≡ no_response)
-is_other_speaker o part library client (Connect c) number ne = inl (ne_eqb number c (λ e. ne (ap Some (sym e))))
-is_other_speaker o part library client (Disconnect c) number ne = inl (ne_eqb number c (λ e. ne (ap Some (sym e))))
-is_other_speaker o part library client (Line c stand request heard) number ne = inl (ne_eqb number c (λ e. ne (ap Some (sym e))))
-is_other_speaker o part library client ScanQuestion number ne = inr refl
-is_other_speaker o part library client (ScanResult songs second) number ne = inr refl
-is_other_speaker o part library client (Want place owes) number ne = inr (want_unsaid o.ended part owes)
-is_other_speaker o part library client (Have place job frames) number ne = inr (have_unsaid o.ended part job frames)
-is_other_speaker o part library client (Failed place job partner) number ne = inr (failure_unsaid part job partner)
-is_other_speaker o part library client End number ne = inr refl
-is_other_speaker o part library client (OutputTurn output written discarded failed) number ne = inr (turn_unsaid part output written discarded failed)
+-- an event of another sender is of another client, or of no client: then nothing is said
+pub is_other_sender : (o : Overview) (part : Option Part) (library : Library) (client : Option Client) (event : Event) (number : ℕ) → sender event ≢ Some number
+    → ((number == sender_number event) ≡ false) ⊎ ((transition_of o part library client event).response ≡ no_response)
+is_other_sender o part library client (Connect c) number ne = inl (ne_eqb number c (λ e. ne (ap Some (sym e))))
+is_other_sender o part library client (Disconnect c) number ne = inl (ne_eqb number c (λ e. ne (ap Some (sym e))))
+is_other_sender o part library client (Line c stand request heard) number ne = inl (ne_eqb number c (λ e. ne (ap Some (sym e))))
+is_other_sender o part library client ScanQuestion number ne = inr refl
+is_other_sender o part library client (ScanResult songs second) number ne = inr refl
+is_other_sender o part library client (Want place owes) number ne = inr (want_unsaid o.ended part owes)
+is_other_sender o part library client (Have place job frames) number ne = inr (have_unsaid o.ended part job frames)
+is_other_sender o part library client (Failed place job partner) number ne = inr (failure_unsaid part job partner)
+is_other_sender o part library client End number ne = inr refl
+is_other_sender o part library client (OutputTurn output written discarded failed) number ne = inr (turn_unsaid part output written discarded failed)
 
 -- an event that comes from no client is answered by its report alone
-unsaid : (o : Overview) (part : Option Part) (library : Library) (client : Option Client) (event : Event) → speaker event ≡ None
+unsaid : (o : Overview) (part : Option Part) (library : Library) (client : Option Client) (event : Event) → sender event ≡ None
     → (transition_of o part library client event).response ≡ no_response
 unsaid o part library client (Connect c) e = cc
 unsaid o part library client (Disconnect c) e = cc
@@ -189,16 +189,16 @@ unsaid o part library client End e = refl
 unsaid o part library client (OutputTurn output written discarded failed) e = turn_unsaid part output written discarded failed
 
 -- the client that makes a move by an event is the one that it comes from
-pub speaks : (clients : List Client) (event : Event) (k : Client) (move : Move) → (Stay ≡ move → ⊥) → client_of (mover event) clients ≡ Some k
-    → (o : Overview) (part : Option Part) (library : Library) → move_of (transition_of o part library (speaker_in clients event) event).response ≡ move
-    → speaker_in clients event ≡ Some k
+pub speaks : (clients : List Client) (event : Event) (k : Client) (move : Move) → (Stay ≡ move → ⊥) → client_of (sender_number event) clients ≡ Some k
+    → (o : Overview) (part : Option Part) (library : Library) → move_of (transition_of o part library (sender_in clients event) event).response ≡ move
+    → sender_in clients event ≡ Some k
 speaks clients event k move moves is o part library goes =
-    let cases : (s : Option ℕ) → speaker event ≡ s → client_of (unwrap_or s 0) clients ≡ Some k → client_among s clients ≡ Some k =
-    λ s. elim s as (λ s. speaker event ≡ s → client_of (unwrap_or s 0) clients ≡ Some k → client_among s clients ≡ Some k) [
+    let cases : (s : Option ℕ) → sender event ≡ s → client_of (unwrap_or s 0) clients ≡ Some k → client_among s clients ≡ Some k =
+    λ s. elim s as (λ s. sender event ≡ s → client_of (unwrap_or s 0) clients ≡ Some k → client_among s clients ≡ Some k) [
       | Some number ↦ λ e f. f
-      | None ↦ λ e f. absurd (moves (sym (ap move_of (unsaid o part library (speaker_in clients event) event e)) ∙ goes))
+      | None ↦ λ e f. absurd (moves (sym (ap move_of (unsaid o part library (sender_in clients event) event e)) ∙ goes))
     ] in
-    cases (speaker event) refl is
+    cases (sender event) refl is
 
 module _ (n : ℕ) (r : Client → Subsystems) where
   -- what of a client's named set changed

@@ -19,7 +19,7 @@ use Rattle.transitions.specs.declared.reply.Move.TheVariants.{Stay, Wait, Learn,
 use Rattle.player_state.specs.declared.state.Client.{Client}
 use Rattle.player_state.specs.declared.state.Part.{Part}
 use Rattle.transitions.specs.Answers.{ResponseData, closes}
-use Rattle.idle_clients.specs.Clients.{entered, entering, names_of, notified, notice_for, notice_to, is_other, at, joined, moved, newcomer, raised, raised_for_all, raised_there, shown, staying, move_of, clients_after, same_names, watched_all, watched_at, watched_of, Rising}
+use Rattle.connected_clients.specs.Clients.{entered, entering, names_of, notified, notice_for, notice_to, is_other, at, joined, moved, newcomer, raised, raised_for_all, raised_there, shown, staying, move_of, clients_after, same_names, watched_all, watched_at, watched_of, Rising}
 use Rattle.mpd_text.specs.declared.songs.song.TagName.{TagName}
 use Rattle.status_commands.specs.Status.{Wish, idles}
 use Rattle.partition.specs.History.{replay}
@@ -31,29 +31,29 @@ use Rattle.player_state.specs.declared.scan.ScanMove.TheVariants.{Stay as StaySc
 use Rattle.player_state.proofs.Songs.{same_songs-refl}
 use Rattle.partition.specs.Image.{Image}
 use Rattle.transitions.specs.Transitions.{TransitionData}
-use Rattle.idle_clients.specs.Clients.{client_of}
+use Rattle.connected_clients.specs.Clients.{client_of}
 use Rattle.partition.specs.Notices.{IsIn}
-use Rattle.idle_clients.specs.Rooms.{is_waiting}
-use Rattle.idle_clients.specs.Settled.{IsSettled, AllSettled, HasRoom, nothing}
+use Rattle.connected_clients.specs.Rooms.{is_waiting}
+use Rattle.connected_clients.specs.Settled.{IsSettled, AllSettled, HasRoom, nothing}
 use Rattle.transitions.specs.Shelves.{is_written}
 use Rattle.transitions.specs.declared.shelf_calls.ShelfWrite.{ShelfWrite}
 use Rattle.transitions.specs.declared.shelf_calls.ShelfWrite.TheVariants.{Nothing as Unwritten, Put, Create, Rename, Remove, SetSticker, DeleteSticker, DeleteStickers}
 use Rattle.partition.specs.Applying.{GoesNowhere}
 use Rattle.partition.specs.Image.{overview}
-use Rattle.partition.specs.Step.{asked_by, ends_by, goer, mover, place_at, raised_by, raised_of, speaker_in, transition, transition_line, transition_of, transition_there, transition_wished, next_image, written_transition}
-use Rattle.parts.specs.Parts.{part_at}
-use Rattle.parts.specs.declared.crossing.Crossing.TheVariants.{Stays}
+use Rattle.partition.specs.Step.{asked_by, ends_by, moved_client, sender_number, place_at, raised_by, raised_of, sender_in, transition, transition_line, transition_of, transition_there, transition_wished, next_image, written_transition}
+use Rattle.partition_table.specs.Parts.{part_at}
+use Rattle.partition_table.specs.declared.crossing.Crossing.TheVariants.{Stays}
 use Rattle.partition.proofs.Raised.{same_between}
 use Rattle.partition.proofs.Written.{rests_changed}
 use Rattle.song_queue.specs.State.{differ}
 use Rattle.player_state.specs.Libraries.{same_songs}
 use Rattle.transitions.specs.Transitions.{departs, quiet}
-use Rattle.idle_clients.proofs.Alike.{same_names-refl}
+use Rattle.connected_clients.proofs.Alike.{same_names-refl}
 use Rattle.partition.proofs.Asking.{quiet_unwaiting, IsAsking, kind_of, transition_idle}
 use Rattle.partition.proofs.Raised.{differ-self}
-use Rattle.idle_clients.proofs.Rises.{rising_after}
+use Rattle.connected_clients.proofs.Rises.{rising_after}
 use Rattle.partition.proofs.Sends.{found}
-use Rattle.idle_clients.proofs.Tells.{fewer_wait}
+use Rattle.connected_clients.proofs.Tells.{fewer_wait}
 
 or_false : (b : Bool) → (b || false) ≡ b
 or_false true = refl
@@ -86,12 +86,12 @@ unwritten (DeleteSticker kind target name) e = cc
 unwritten (DeleteStickers kind target) e = cc
 
 -- a client that goes nowhere
-pub stays_put : (number : ℕ) (response : ResponseData) → GoesNowhere response.move → goer number response ≡ None
+pub stays_put : (number : ℕ) (response : ResponseData) → GoesNowhere response.move → moved_client number response ≡ None
 stays_put number response nowhere =
     elim (closes response.answer.next) as (λ b. entering number (if b then Stay else response.move) ≡ None) [ true ↦ refl | false ↦ nowhere number ]
 
 -- what leaves the partitions and the scans as they are, and lets no client go, raises nothing
-pub rest_raises : (number place : ℕ) (parts : List Part) (library : Library) (response : ResponseData) (report : Report) → goer number response ≡ None
+pub rest_raises : (number place : ℕ) (parts : List Part) (library : Library) (response : ResponseData) (report : Report) → moved_client number response ≡ None
     → raised_by number place parts library (record { effect = ByCommand Rests; scan = StayScan; written = Unwritten; response = response; report = report; crossing = Stays }) ≡ nothing
 rest_raises number place parts library response report nobody =
     let common_is : raised_for_all Unwritten (watched_all library parts) (watched_all library parts) ≡ none =
@@ -104,12 +104,12 @@ rest_raises number place parts library response report nobody =
     λ client.
     same_between client.number (not (same_songs library.songs library.songs)) (differ library.scan.runs library.scan.runs) false false (not (same_names (names_of (map watched_of parts)) (names_of (map watched_of parts))))
     (watched_at client.place (map watched_of parts)) ∙ common_is in
-    ap (λ (ps : List Part). raised (goer number response) Unwritten (watched_all library parts) (watched_all library ps)) (rests_changed library.rate place parts)
+    ap (λ (ps : List Part). raised (moved_client number response) Unwritten (watched_all library parts) (watched_all library ps)) (rests_changed library.rate place parts)
     ∙ ap (λ (g : Option ℕ). raised g Unwritten (watched_all library parts) (watched_all library parts)) nobody
     ∙ (λ i client. there client i)
 
-pub quiet_raises : (i : Image) (event : Event) (response : ResponseData) → goer (mover event) response ≡ None → raised_of i event (quiet response) ≡ nothing
-quiet_raises i event response nobody = rest_raises (mover event) (place_at i event) i.parts i.shared.library response Nothing nobody
+pub quiet_raises : (i : Image) (event : Event) (response : ResponseData) → moved_client (sender_number event) response ≡ None → raised_of i event (quiet response) ≡ nothing
+quiet_raises i event response nobody = rest_raises (sender_number event) (place_at i event) i.parts i.shared.library response Nothing nobody
 
 -- a client that heard is settled
 notified_settled : (r : Client → Subsystems) (k : Client) → IsSettled (notified r k)
@@ -209,43 +209,43 @@ module _ (i : Image) (event : Event) (rising : Rising i.clients) where
   idle_is a =
       let once : TransitionData → TransitionData = λ u. written_transition Alone (Run a.name a.command) a.heard.refused u in
       let asked : Asked = asked_by a.client a.name Alone in
-      ap (transition_of (overview i) part i.shared.library (speaker_in ks event)) a.is
-      ∙ ap (λ (o : Option Client). once (transition_line (overview i) part i.shared.library o Alone (Run a.name a.command) a.heard.read)) (ap (speaker_in ks) a.is ∙ a.found)
+      ap (transition_of (overview i) part i.shared.library (sender_in ks event)) a.is
+      ∙ ap (λ (o : Option Client). once (transition_line (overview i) part i.shared.library o Alone (Run a.name a.command) a.heard.read)) (ap (sender_in ks) a.is ∙ a.found)
       ∙ ap (λ (o : Option Wish). once (if is_some a.client.pending.waiting && not (ends_by Alone o) then departs a.client.number else transition_wished asked a.client (transition_there (overview i) asked part i.shared.library a.heard.read a.command) o)) a.wish
       ∙ ap (λ (w : Option Subsystems). once (if is_some w && true then departs a.client.number else transition_idle a.client a.named)) a.free
 
   -- a client waits only where nothing of what it names is pending for it
-  asked : (a : IsAsking ks event) (names : Subsystems) → move_of t.response ≡ Wait names → Waiting (mover event) names t
+  asked : (a : IsAsking ks event) (names : Subsystems) → move_of t.response ≡ Wait names → Waiting (sender_number event) names t
   asked a names moves =
       let d : Subsystems = meet a.client.pending.changed a.named in
       let answers : Bool → TransitionData = λ b. quiet (idles a.named (if b then Some d else None)) in
-      let cases : (b : Bool) → is_nonempty d ≡ b → t ≡ answers b → Waiting (mover event) names t =
-      λ b. elim b as (λ b. is_nonempty d ≡ b → t ≡ answers b → Waiting (mover event) names t) [
+      let cases : (b : Bool) → is_nonempty d ≡ b → t ≡ answers b → Waiting (sender_number event) names t =
+      λ b. elim b as (λ b. is_nonempty d ≡ b → t ≡ answers b → Waiting (sender_number event) names t) [
         | true ↦ λ e is. (let clash : Learn ≡ Wait names = sym (ap (λ (u : TransitionData). move_of u.response) is) ∙ moves in cc)
         | false ↦ λ e is.
             let named : Wait a.named ≡ Wait names = sym (ap (λ (u : TransitionData). move_of u.response) is) ∙ moves in
             let same : a.named ≡ names = cc in
-            let number : a.number ≡ mover event = sym (ap mover a.is) in
+            let number : a.number ≡ sender_number event = sym (ap sender_number a.is) in
             let each : AllSettled (map (at a.number (waits a.named)) (map (notified nothing) ks)) =
             all_in (at a.number (waits a.named)) (notified nothing) ks (one_waits a.number a.named a.client ks rising a.found e) in
             let heard : Waiting a.number a.named (answers false) =
             subst (λ (r : Client → Subsystems). AllSettled (map (at a.number (waits a.named)) (map (notified r) ks))) (sym (quiet_raises i event (idles a.named None) refl)) each in
-            subst (Waiting (mover event) names) (sym is)
+            subst (Waiting (sender_number event) names) (sym is)
             (subst (λ (x : ℕ). Waiting x names (answers false)) number (subst (λ (s : Subsystems). Waiting a.number s (answers false)) same heard))
       ] in
       cases (is_nonempty d) refl (idle_is a)
 
-  pub settled_after : AllSettled (clients_after (mover event) (raised_of i event t) t.response ks)
+  pub settled_after : AllSettled (clients_after (sender_number event) (raised_of i event t) t.response ks)
   settled_after =
-      settled_moved (mover event) (move_of t.response) (map (notified (raised_of i event t)) (staying (mover event) t.response ks))
+      settled_moved (sender_number event) (move_of t.response) (map (notified (raised_of i event t)) (staying (sender_number event) t.response ks))
       (λ names moves. elim (kind_of (overview i) part i.shared.library ks event) [ inl quiet ↦ absurd (quiet_unwaiting (move_of t.response) names quiet moves) | inr a ↦ asked a names moves ])
-      (all_notified (raised_of i event t) (staying (mover event) t.response ks))
+      (all_notified (raised_of i event t) (staying (sender_number event) t.response ks))
 
 next_settled : (seat : ℕ) (i : Image) (event : Event) → Rising i.clients → Rising (next_image seat i event).clients × AllSettled (next_image seat i event).clients
 unfolding next_image
 next_settled seat i event rising =
     let t : TransitionData = transition i event in
-    (rising_after (mover event) (raised_of i event t) t.response i.clients rising, settled_after i event rising)
+    (rising_after (sender_number event) (raised_of i event t) t.response i.clients rising, settled_after i event rising)
 
 -- over every history
 pub replay_settled : (hs : List LogEntry) (i : Image) → Rising i.clients → AllSettled i.clients → AllSettled (replay i hs).clients

@@ -8,15 +8,15 @@ use Rattle.idle_notes.specs.declared.subsystem.Subsystem.{Subsystem}
 use Rattle.idle_notes.specs.Sets.{none, union, has}
 use Rattle.player_events.specs.declared.event.LogEntry.{LogEntry}
 use Rattle.player_state.specs.declared.state.Client.{Client}
-use Rattle.idle_clients.specs.Clients.{Watched, newcomer, notified, raised, watched_of, AllAbove, Rising}
+use Rattle.connected_clients.specs.Clients.{Watched, newcomer, notified, raised, watched_of, AllAbove, Rising}
 use Rattle.transitions.specs.Answers.{closes}
 use Rattle.partition.specs.History.{replay}
 use Rattle.partition.specs.Image.{Image}
 use Rattle.transitions.specs.Transitions.{TransitionData, parts_after}
-use Rattle.idle_clients.specs.Clients.{client_of}
+use Rattle.connected_clients.specs.Clients.{client_of}
 use Rattle.player_state.specs.Outputs.{FrameBooks, books_after}
 use Rattle.partition.specs.Since.{shown_part, world_of, world_transition_at, world_transitions_from, flags_of, kept_for, IsPendingSince, HasPendingSince, books_since}
-use Rattle.partition.specs.Step.{goer, transition, mover, place_at, raised_of, report_at, after_transition, next_image, told}
+use Rattle.partition.specs.Step.{moved_client, transition, sender_number, place_at, raised_of, report_at, after_transition, next_image, told}
 use Rattle.player_state.specs.declared.state.Part.{Part}
 use Rattle.player_state.specs.Libraries.{library_after}
 use Rattle.partition.specs.Notices.{IsIn}
@@ -24,7 +24,7 @@ use Rattle.partition.specs.World.{WorldTransition, raised_at, raised_for, is_the
 use Rattle.partition.proofs.Notified.{Each, flagged, all_stand}
 use Rattle.partition.proofs.Parts.{raised_differ}
 use Rattle.partition.proofs.Pending.{has_union, has_none, either, or_right, or_left, longer}
-use Rattle.idle_clients.proofs.Rises.{rising_after}
+use Rattle.connected_clients.proofs.Rises.{rising_after}
 use Rattle.partition.proofs.Sends.{found}
 use Rattle.partition.proofs.Worlds.{each, may_go, same_first, or_more}
 
@@ -149,7 +149,7 @@ raised_so i h rising k among_them =
     let t : TransitionData = transition i h.event in
     let place : place_of k.number (map listener_of i.clients) ≡ k.place = place_shown k.number k i.clients (found k i.clients rising among_them) in
     let after : List Part = parts_after i.shared.library.rate (place_at i h.event) t i.parts in
-    (λ j. raised (goer (mover h.event) t.response) t.written (record { library = i.shared.library; parts = sym (watched_shown i.parts) j })
+    (λ j. raised (moved_client (sender_number h.event) t.response) t.written (record { library = i.shared.library; parts = sym (watched_shown i.parts) j })
     (record { library = library_after i.shared.library t.scan; parts = sym (watched_shown after) j }) k)
     ∙ ap (λ (p : ℕ). raised_for (world_transition_at i h) (record (newcomer k.number) { place = p })) (sym place)
 
@@ -167,13 +167,13 @@ module _ (base : Image) where
       let m : WorldTransition = world_transition_at i h in
       let flag : ℕ → Subsystems = λ n. since base n ms in
       let after : ℕ → Subsystems = λ n. since base n (m ∷ ms) in (
-        rising_after (mover h.event) r t.response i.clients right.0,
+        rising_after (sender_number h.event) r t.response i.clients right.0,
         (
           unflagged after (after_transition i h.event t).clients
-              (all_stand r (λ n. raised_at n m) flag after (λ n. is_there n (world_of i)) (mover h.event) i.clients right.0
+              (all_stand r (λ n. raised_at n m) flag after (λ n. is_there n (world_of i)) (sender_number h.event) i.clients right.0
               (all_three (λ k. among k.number i.clients ≡ true) (λ k. k.pending.changed ≡ flag k.number) (λ k. r k ≡ raised_at k.number m) i.clients (all_among i.clients) right.1.0
               (each (λ k. r k ≡ raised_at k.number m) i.clients (raised_so i h right.0)))
-              (closes t.response.answer.next) t.response.move (may_go i h.event right.0) (λ n. refl) (absent r (mover h.event) i.clients)),
+              (closes t.response.answer.next) t.response.move (may_go i h.event right.0) (λ n. refl) (absent r (sender_number h.event) i.clients)),
           ap (λ (b : FrameBooks). books_after b t.effect (report_at i h.event t)) right.1.1,
         ),
       )

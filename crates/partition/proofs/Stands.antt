@@ -3,7 +3,7 @@ use Rattle.std.proofs.Common.{◌≡◌, ◌≤◌, List, sym, subst, ◌∙◌}
 use Rattle.player_events.specs.declared.event.LogEntry.{LogEntry}
 use Rattle.player_state.specs.declared.state.Library.{Library}
 use Rattle.partition.specs.declared.state.Setup.{Setup}
-use Rattle.idle_clients.specs.Clients.{Rising}
+use Rattle.connected_clients.specs.Clients.{Rising}
 use Rattle.partition.specs.History.{replay, AreTold}
 use Rattle.partition.specs.Image.{Image, opening}
 use Rattle.partition.specs.Legal.{Stands}

@@ -10,9 +10,9 @@ use Rattle.player_state.specs.declared.state.Part.{Part}
 use Rattle.player_state.specs.Outputs.{is_output}
 use Rattle.transitions.specs.Shelves.{is_written}
 use Rattle.transitions.specs.Transitions.{acts}
-use Rattle.parts.specs.Parts.{part_at}
+use Rattle.partition_table.specs.Parts.{part_at}
 use Rattle.partition.specs.Image.{Image, Overview, overview}
-use Rattle.partition.specs.Step.{absent, failure, have, output_turn, place_at, speaker_in, transition, transition_of, want}
+use Rattle.partition.specs.Step.{absent, failure, have, output_turn, place_at, sender_in, transition, transition_of, want}
 use Rattle.player_events.specs.Events.{with_store_reply}
 use Rattle.player_events.specs.Events.{is_line}
 
@@ -61,4 +61,4 @@ steps_write_nothing o part library client (OutputTurn output written discarded f
 steps_write_nothing o part library client End step = refl
 
 pub writes_nothing : (i : Image) (event : Event) → is_line event ≡ false → is_written (transition i event).written ≡ false
-writes_nothing i event step = steps_write_nothing (overview i) (part_at (place_at i event) i.parts) i.shared.library (speaker_in i.clients event) event step
+writes_nothing i event step = steps_write_nothing (overview i) (part_at (place_at i event) i.parts) i.shared.library (sender_in i.clients event) event step

@@ -3,8 +3,8 @@ use Rattle.std.proofs.Common.{◌≡◌, ◌∙◌, ℕ, Bool, true, false, List
 use Rattle.std.specs.Prelude.{filter, map}
 use Rattle.std.specs.List.{flat_map}
 use Rattle.idle_notes.specs.declared.sets.Subsystems.{Subsystems}
-use Rattle.parts.specs.Parts.{part_at}
-use Rattle.parts.specs.declared.crossing.Crossing.TheVariants.{Stays}
+use Rattle.partition_table.specs.Parts.{part_at}
+use Rattle.partition_table.specs.declared.crossing.Crossing.TheVariants.{Stays}
 use Rattle.player_state.specs.declared.effect.Effect.TheVariants.{ByCommand}
 use Rattle.player_state.specs.declared.effect.CommandEffect.TheVariants.{Rests}
 use Rattle.player_state.specs.declared.report.Report.TheVariants.{Nothing}
@@ -13,14 +13,14 @@ use Rattle.player_state.specs.declared.state.Client.{Client}
 use Rattle.player_state.specs.Libraries.{library_after}
 use Rattle.player_state.specs.Outputs.{books_after}
 use Rattle.player_events.specs.declared.event.Event.{Event}
-use Rattle.idle_clients.specs.Clients.{clients_after, is_other, move_of, moved, notice_for, notified, staying}
-use Rattle.idle_clients.specs.Settled.{AllSettled, nothing}
+use Rattle.connected_clients.specs.Clients.{clients_after, is_other, move_of, moved, notice_for, notified, staying}
+use Rattle.connected_clients.specs.Settled.{AllSettled, nothing}
 use Rattle.transitions.specs.Answers.{closes}
 use Rattle.transitions.specs.Shelves.{is_written}
 use Rattle.transitions.specs.Transitions.{TransitionData, parts_after}
 use Rattle.partition.specs.Applying.{GoesNowhere, IsStill}
 use Rattle.partition.specs.Image.{Image}
-use Rattle.partition.specs.Step.{after_transition, ended_after, mover, place_at, raised_of, report_at, told_by}
+use Rattle.partition.specs.Step.{after_transition, ended_after, sender_number, place_at, raised_of, report_at, told_by}
 use Rattle.partition.proofs.Settled.{no_notices, rest_raises, same_clients, settled_filter, stays_put, unwritten}
 use Rattle.partition.proofs.Written.{rests_changed, rests_report}
 
@@ -34,7 +34,7 @@ module _ (i : Image) (event : Event) (t : TransitionData) (still : IsStill t) wh
   place = place_at i event
 
   abbrev number : ℕ
-  number = mover event
+  number = sender_number event
 
   abbrev stayed : List Client
   stayed = staying number t.response i.clients

@@ -6,7 +6,7 @@ use Rattle.player_events.specs.declared.event.Event.{Event}
 use Rattle.player_events.specs.declared.event.LogEntry.{LogEntry}
 use Rattle.partition.specs.declared.state.Setup.{Setup}
 use Rattle.player_events.specs.Outcomes.{OutcomeData}
-use Rattle.idle_clients.specs.Clients.{Rising}
+use Rattle.connected_clients.specs.Clients.{Rising}
 use Rattle.partition.specs.History.{AreTold}
 use Rattle.partition.specs.Image.{Image, opening}
 use Rattle.partition.specs.Step.{transition, told, next_image}

@@ -21,18 +21,18 @@ use Rattle.player_events.specs.declared.event.LogEntry.{LogEntry}
 use Rattle.transitions.specs.declared.reply.Move.{Move}
 use Rattle.transitions.specs.declared.reply.Move.TheVariants.{Wait, Learn}
 use Rattle.transitions.specs.declared.reply.Next.TheVariants.{Goes, Waits}
-use Rattle.idle_clients.specs.declared.notices.Notice.{Notice}
+use Rattle.connected_clients.specs.declared.notices.Notice.{Notice}
 use Rattle.player_state.specs.declared.state.Client.{Client}
 use Rattle.transitions.specs.Answers.{ResponseData, closes}
-use Rattle.idle_clients.specs.Clients.{is_this, notified, move_of, Rising}
+use Rattle.connected_clients.specs.Clients.{is_this, notified, move_of, Rising}
 use Rattle.status_commands.specs.Status.{idles}
 use Rattle.partition.specs.Image.{Image}
 use Rattle.transitions.specs.Transitions.{TransitionData}
-use Rattle.idle_clients.specs.Clients.{client_of}
+use Rattle.connected_clients.specs.Clients.{client_of}
 use Rattle.player_state.specs.Libraries.{library_after}
 use Rattle.partition.specs.Image.{overview}
-use Rattle.partition.specs.Step.{goer, transition, transition_of, transition_line, written_transition, place_at, raised_of, report_at, speaker, speaker_in, mover, after_transition, told_by}
-use Rattle.parts.specs.Parts.{part_at}
+use Rattle.partition.specs.Step.{moved_client, transition, transition_of, transition_line, written_transition, place_at, raised_of, report_at, sender, sender_in, sender_number, after_transition, told_by}
+use Rattle.partition_table.specs.Parts.{part_at}
 use Rattle.player_state.specs.declared.effect.CommandEffect.TheVariants.{Rests}
 use Rattle.player_state.specs.declared.effect.Effect.TheVariants.{ByCommand}
 use Rattle.player_state.specs.declared.state.Part.{Part}
@@ -43,8 +43,8 @@ use Rattle.partition.proofs.Asking.{wish_is, transition_idle, Quiet, quiet_unhea
 use Rattle.partition.proofs.Members.{in_map, of_map, any_in, same_sets, has_meet, has_some, is_some}
 use Rattle.partition.proofs.Parts.{raised_differ, agree}
 use Rattle.partition.proofs.Pending.{has_union, has_none, pending_more, reads_pending}
-use Rattle.idle_clients.proofs.Rises.{rising_staying}
-use Rattle.partition.proofs.Sends.{found, news, rests_unwaiting, speaks, waiter_rests, notices_rise, does, does_keeps, does_other, does_none, does_wait, notified_none, told_none, untold_waits, is_other_speaker, of_sent, is_sent, kept, kept_was, others_kept, open_kept, lands, there_kept}
+use Rattle.connected_clients.proofs.Rises.{rising_staying}
+use Rattle.partition.proofs.Sends.{found, news, rests_unwaiting, speaks, waiter_rests, notices_rise, does, does_keeps, does_other, does_none, does_wait, notified_none, told_none, untold_waits, is_other_sender, of_sent, is_sent, kept, kept_was, others_kept, open_kept, lands, there_kept}
 use Rattle.partition.proofs.Worlds.{AllBegun, raised_by_number}
 
 both : (a b : Bool) → a ≡ true → b ≡ true → (a && b) ≡ true
@@ -125,7 +125,7 @@ module _ (trace : Trace) (done : List LogEntry) (event : Event) (above : 1 ≤ t
   ms = trace.world_transitions
 
   abbrev n : ℕ
-  n = mover event
+  n = sender_number event
 
   abbrev m : WorldTransition
   m = world_transition_of trace done event
@@ -244,8 +244,8 @@ module _ (trace : Trace) (done : List LogEntry) (event : Event) (above : 1 ≤ t
   -- a client that waits does not begin to wait by its own event, nor by one that comes from no client
   unwaiting : (own : Client) (named more : Subsystems) → client_of n i.clients ≡ Some own → own.pending.waiting ≡ Some named → move_of t.response ≡ Wait more → ⊥
   unwaiting own named more found_it waits_named moves =
-      let spoken : speaker_in i.clients event ≡ Some own = speaks i.clients event own (Wait more) (λ e. cc) found_it (overview i) part i.shared.library moves in
-      rests_unwaiting (move_of t.response) more (waiter_rests (overview i) part i.shared.library own named waits_named event (speaker_in i.clients event) spoken) moves
+      let spoken : sender_in i.clients event ≡ Some own = speaks i.clients event own (Wait more) (λ e. cc) found_it (overview i) part i.shared.library moves in
+      rests_unwaiting (move_of t.response) more (waiter_rests (overview i) part i.shared.library own named waits_named event (sender_in i.clients event) spoken) moves
 
   sent_clear : (number : ℕ) (names : Subsystems) → IsSent number names m → IsClear number m ms
   sent_clear number names e =
@@ -280,11 +280,11 @@ module _ (trace : Trace) (done : List LogEntry) (event : Event) (above : 1 ≤ t
       ] in
       cases (is_nonempty (news n r k)) refl
 
-  on : (number : ℕ) (named : Subsystems) → speaker m.event ≢ Some number → WaitsFor number named m.before → ((names : Subsystems) → IsSent number names m → ⊥)
+  on : (number : ℕ) (named : Subsystems) → sender m.event ≢ Some number → WaitsFor number named m.before → ((names : Subsystems) → IsSent number names m → ⊥)
       → WaitsFor number named m.after
   on number named other waited unsent =
       let k : Client = client_of_this number (Some named) waited in
-      elim (is_other_speaker (overview i) part i.shared.library (speaker_in i.clients event) event number other) [
+      elim (is_other_sender (overview i) part i.shared.library (sender_in i.clients event) event number other) [
         | inl apart ↦ still number waited.0 waited.1 named unsent (others_kept n r t.response i.clients k (listed number (Some named) waited) apart)
             (does_other n r (move_of t.response) (notified r k) apart)
         | inr unsaid ↦ still number waited.0 waited.1 named unsent (open_kept n r t.response i.clients k (listed number (Some named) waited) (ap (λ (s : ResponseData). closes s.answer.next) unsaid))
@@ -305,21 +305,21 @@ module _ (trace : Trace) (done : List LogEntry) (event : Event) (above : 1 ≤ t
     there : client_of number i.clients ≡ Some k
     there = found k i.clients rising (listed number None asks.free)
 
-    spoken : speaker_in i.clients event ≡ Some k
-    spoken = ap (speaker_in i.clients) asks.event ∙ there
+    spoken : sender_in i.clients event ≡ Some k
+    spoken = ap (sender_in i.clients) asks.event ∙ there
 
     transition_is : t ≡ transition_idle k named
     transition_is =
-        ap (transition_of (overview i) part i.shared.library (speaker_in i.clients event)) asks.event
+        ap (transition_of (overview i) part i.shared.library (sender_in i.clients event)) asks.event
         ∙ ap (λ (o : Option Client). written_transition Alone request asks.heard.refused (transition_line (overview i) part i.shared.library o Alone request asks.heard.read)) spoken
 
     pub speaks_for : n ≡ number
-    speaks_for = ap mover asks.event
+    speaks_for = ap sender_number asks.event
 
     -- it goes nowhere, and no partition changes
-    goes_nowhere : (o : Option Subsystems) → notice_of (waits named k.pending) ≡ o → goer n t.response ≡ None
-    goes_nowhere None e = ap (λ (u : TransitionData). goer n u.response) transition_is ∙ ap (λ (o : Option Subsystems). goer n (idles named o)) e
-    goes_nowhere (Some more) e = ap (λ (u : TransitionData). goer n u.response) transition_is ∙ ap (λ (o : Option Subsystems). goer n (idles named o)) e
+    goes_nowhere : (o : Option Subsystems) → notice_of (waits named k.pending) ≡ o → moved_client n t.response ≡ None
+    goes_nowhere None e = ap (λ (u : TransitionData). moved_client n u.response) transition_is ∙ ap (λ (o : Option Subsystems). moved_client n (idles named o)) e
+    goes_nowhere (Some more) e = ap (λ (u : TransitionData). moved_client n u.response) transition_is ∙ ap (λ (o : Option Subsystems). moved_client n (idles named o)) e
 
     parts_stay : m.after.parts ≡ trace.world.parts
     parts_stay =

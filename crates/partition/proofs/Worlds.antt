@@ -6,11 +6,11 @@ use Rattle.std.proofs.lemmas.Bool.{eq-eqb, eqb-true}
 use Rattle.std.proofs.lemmas.Bool.Decides.{nat_tests}
 use Rattle.idle_notes.specs.declared.sets.Subsystems.{Subsystems}
 use Rattle.idle_notes.specs.Sets.{all, none, union}
-use Rattle.parts.specs.Openings.{OpeningsData}
-use Rattle.parts.specs.Parts.{carried_in, changed, known, moved_output, opening_part, part_at, parts_moved}
-use Rattle.parts.specs.declared.crossing.Crossing.{Crossing}
-use Rattle.parts.specs.declared.crossing.Crossing.TheVariants.{Stays, Opens, Closes, Brings}
-use Rattle.parts.specs.declared.openings.Greatest.{Greatest}
+use Rattle.partition_table.specs.Openings.{OpeningsData}
+use Rattle.partition_table.specs.Parts.{carried_in, changed, known, moved_output, opening_part, part_at, parts_moved}
+use Rattle.partition_table.specs.declared.crossing.Crossing.{Crossing}
+use Rattle.partition_table.specs.declared.crossing.Crossing.TheVariants.{Stays, Opens, Closes, Brings}
+use Rattle.partition_table.specs.declared.openings.Greatest.{Greatest}
 use Rattle.player_state.specs.Outputs.{OutputsData}
 use Rattle.player_state.specs.declared.effect.Effect.{Effect}
 use Rattle.player_state.specs.declared.outputs.Carried.{Carried}
@@ -26,7 +26,7 @@ use Rattle.player_events.specs.declared.event.Event.{Event}
 use Rattle.player_events.specs.declared.event.LogEntry.{LogEntry}
 use Rattle.player_state.specs.declared.state.Client.{Client}
 use Rattle.partition.specs.declared.state.Setup.{Setup}
-use Rattle.idle_clients.specs.Clients.{client_of, entering, is_this, move_of, newcomer, notified, raised, raised_there, watched_all, watched_of, Rising}
+use Rattle.connected_clients.specs.Clients.{client_of, entering, is_this, move_of, newcomer, notified, raised, raised_there, watched_all, watched_of, Rising}
 use Rattle.transitions.specs.Answers.{closes}
 use Rattle.transitions.specs.declared.reply.Move.TheVariants.{Stay, Enter}
 use Rattle.partition.specs.History.{made_of, replay}
@@ -36,7 +36,7 @@ use Rattle.transitions.specs.Transitions.{TransitionData, parts_after}
 use Rattle.player_state.specs.Libraries.{library_after}
 use Rattle.partition.specs.Legal.{ReplaysWorlds}
 use Rattle.partition.specs.Notices.{IsIn}
-use Rattle.partition.specs.Step.{transition, goer, mover, raised_of, after_transition, ended_after, place_at, report_at, speaker_in, told_by, next_image}
+use Rattle.partition.specs.Step.{transition, moved_client, sender_number, raised_of, after_transition, ended_after, place_at, report_at, sender_in, told_by, next_image}
 use Rattle.partition.specs.World.{Listener, PartWorld, WorldTransition, Trace, raised_at, raised_for, is_there, begins_anew, place_of, watched_by, pending_for, client_in, listener_of, books_of, image_of, part_in, part_world_after, parts_changed, past_after, unplayed, world_moved_output, worlds_moved, world_after_transition, traced, trace_after_event, trace_from, opening_trace}
 use Rattle.partition.proofs.Counts.{made_of-more}
 use Rattle.player_state.proofs.Frames.{Keeps, keeps}
@@ -44,7 +44,7 @@ use Rattle.partition.proofs.Notified.{Each, MayGo, flagged, all_stand}
 use Rattle.partition.proofs.Opened.{IsOpenedBy, opened_by}
 use Rattle.partition.proofs.Pending.{pending_more}
 use Rattle.partition.proofs.Sends.{found, rests_here, speaks, waiter_rests}
-use Rattle.idle_clients.proofs.Rises.{rising_after}
+use Rattle.connected_clients.proofs.Rises.{rising_after}
 
 abbrev state_at : Greatest → List (List Entry) → QueueState
 state_at limits past = state_of limits.max_queue limits.max_version limits.max_id past
@@ -241,23 +241,23 @@ each P (k ∷ ks) holds = (holds k (inl refl), each P ks (λ c among. holds c (i
 -- who goes to another partition by an event does not wait, and everything is raised for it
 pub may_go : (i : Image) (event : Event) → Rising i.clients → (place : ℕ)
     → (if closes (transition i event).response.answer.next then Stay else (transition i event).response.move) ≡ Enter place
-    → Each (MayGo (raised_of i event (transition i event)) (mover event)) i.clients
+    → Each (MayGo (raised_of i event (transition i event)) (sender_number event)) i.clients
 may_go i event rising place goes =
     let t : TransitionData = transition i event in
     let r : Client → Subsystems = raised_of i event t in
-    each (MayGo r (mover event)) i.clients (λ k among own.
-    let number : k.number ≡ mover event = eqb-true k.number (mover event) own in
-    let found_it : client_of (mover event) i.clients ≡ Some k = ap (λ n. client_of n i.clients) (sym number) ∙ found k i.clients rising among in
-    let spoken : speaker_in i.clients event ≡ Some k = speaks i.clients event k (Enter place) (λ e. cc) found_it (overview i) (part_at (place_at i event) i.parts) i.shared.library goes in
-    let goer_is : goer (mover event) t.response ≡ Some (mover event) = ap (entering (mover event)) goes in
+    each (MayGo r (sender_number event)) i.clients (λ k among own.
+    let number : k.number ≡ sender_number event = eqb-true k.number (sender_number event) own in
+    let found_it : client_of (sender_number event) i.clients ≡ Some k = ap (λ n. client_of n i.clients) (sym number) ∙ found k i.clients rising among in
+    let spoken : sender_in i.clients event ≡ Some k = speaks i.clients event k (Enter place) (λ e. cc) found_it (overview i) (part_at (place_at i event) i.parts) i.shared.library goes in
+    let moved_client_is : moved_client (sender_number event) t.response ≡ Some (sender_number event) = ap (entering (sender_number event)) goes in
     let free : (w : Option Subsystems) → k.pending.waiting ≡ w → k.pending.waiting ≡ None =
     λ w. elim w as (λ w. k.pending.waiting ≡ w → k.pending.waiting ≡ None) [
       | None ↦ λ e. e
       | Some named ↦ λ e. absurd (rests_here (move_of t.response) place
-          (waiter_rests (overview i) (part_at (place_at i event) i.parts) i.shared.library k named e event (speaker_in i.clients event) spoken) goes)
+          (waiter_rests (overview i) (part_at (place_at i event) i.parts) i.shared.library k named e event (sender_in i.clients event) spoken) goes)
     ] in
-    let this : is_this (goer (mover event) t.response) k.number ≡ true =
-    ap (λ (g : Option ℕ). is_this g k.number) goer_is ∙ eq-eqb (mover event) k.number (sym number) in
+    let this : is_this (moved_client (sender_number event) t.response) k.number ≡ true =
+    ap (λ (g : Option ℕ). is_this g k.number) moved_client_is ∙ eq-eqb (sender_number event) k.number (sym number) in
     (free k.pending.waiting refl, ap (λ b. if b then all else raised_there t.written (watched_all i.shared.library i.parts) (watched_all (library_after i.shared.library t.scan) (parts_after i.shared.library.rate (place_at i event) t i.parts)) k) this)
     )
 
@@ -282,7 +282,7 @@ module _ (trace : Trace) (done : List LogEntry) (event : Event) (above : 1 ≤ t
   place = place_at i event
 
   fair : IsOpenedBy trace.world.openings t.crossing
-  fair = opened_by (overview i) (part_at place i.parts) trace.world.library (speaker_in i.clients event) event
+  fair = opened_by (overview i) (part_at place i.parts) trace.world.library (sender_in i.clients event) event
 
   -- what can be read of the partitions after the event
   all_follow : map part_in m.after.parts ≡ parts_after rate place t i.parts
@@ -295,7 +295,7 @@ module _ (trace : Trace) (done : List LogEntry) (event : Event) (above : 1 ≤ t
       begun_crossed trace.world.openings above t.crossing fair (parts_changed rate place t.effect trace.world.parts) (begun_changed rate place t.effect trace.world.parts begun)
 
   is_raised : raised_for m ≡ r
-  is_raised = λ j. raised (goer (mover event) t.response) t.written (record { library = trace.world.library; parts = watched_reads trace.world.parts j })
+  is_raised = λ j. raised (moved_client (sender_number event) t.response) t.written (record { library = trace.world.library; parts = watched_reads trace.world.parts j })
       (record { library = library_after trace.world.library t.scan; parts = (watched_reads m.after.parts ∙ ap (map watched_of) all_follow) j })
 
   -- what is raised for a client is what is raised for the one of its number
@@ -312,11 +312,11 @@ module _ (trace : Trace) (done : List LogEntry) (event : Event) (above : 1 ≤ t
   clients_stand : map (client_in (m ∷ trace.world_transitions)) (map listener_of (after_transition i event t).clients) ≡ (after_transition i event t).clients
   clients_stand =
       all_same (m ∷ trace.world_transitions) (after_transition i event t).clients
-      (all_stand r (λ n. raised_at n m) (λ n. pending_for n trace.world_transitions) (λ n. pending_for n (m ∷ trace.world_transitions)) (λ n. is_there n trace.world) (mover event)
+      (all_stand r (λ n. raised_at n m) (λ n. pending_for n trace.world_transitions) (λ n. pending_for n (m ∷ trace.world_transitions)) (λ n. is_there n trace.world) (sender_number event)
       i.clients rising
       (with_flags trace.world_transitions (λ n. is_there n trace.world) r (λ n. raised_at n m) trace.world.clients (all_among trace.world_transitions trace.world.clients)
       (each (λ k. r k ≡ raised_at k.number m) i.clients raised_by_number))
-      (closes t.response.answer.next) t.response.move (may_go i event rising) grows (absent trace.world_transitions r (mover event) trace.world.clients))
+      (closes t.response.answer.next) t.response.move (may_go i event rising) grows (absent trace.world_transitions r (sender_number event) trace.world.clients))
 
   pub image_of-step : (h : LogEntry) → h.event ≡ event → image_of (traced trace i event t) (done ++ h ∷ []) ≡ next_image h.seat i event
   unfolding next_image
@@ -331,7 +331,7 @@ module _ (trace : Trace) (done : List LogEntry) (event : Event) (above : 1 ≤ t
       ∙ ap (all_of (after_transition i event t).clients (parts_after rate place t i.parts)) (sym (made_of-more done h))
 
   pub rising-step : (h : LogEntry) → Rising (image_of (traced trace i event t) (done ++ h ∷ [])).clients
-  rising-step h = subst Rising (sym clients_stand) (rising_after (mover event) r t.response i.clients rising)
+  rising-step h = subst Rising (sym clients_stand) (rising_after (sender_number event) r t.response i.clients rising)
 
 from : (trace : Trace) (done hs : List LogEntry) → 1 ≤ trace.world.openings.greatest.max_version → AllBegun trace.world.parts → Rising (image_of trace done).clients
     → (replay (image_of trace done) hs ≡ image_of (trace_from done trace hs) (done ++ hs)) × Rising (image_of (trace_from done trace hs) (done ++ hs)).clients

@@ -9,9 +9,9 @@ use Rattle.transitions.specs.declared.shelf_calls.StoreReply.{StoreReply}
 use Rattle.player_state.specs.declared.state.Client.{Client}
 use Rattle.transitions.specs.Answers.{refused_by_shelf, stays}
 use Rattle.transitions.specs.Transitions.{TransitionData}
-use Rattle.idle_clients.specs.Clients.{client_of}
+use Rattle.connected_clients.specs.Clients.{client_of}
 use Rattle.transitions.specs.Shelves.{is_written}
-use Rattle.parts.specs.Parts.{part_at}
+use Rattle.partition_table.specs.Parts.{part_at}
 use Rattle.partition.specs.Image.{Image, overview}
 use Rattle.partition.specs.Step.{once_written, place_in, transition, transition_line, written_transition}
 use Rattle.player_events.specs.Events.{store_reply_at, with_store_reply, name_at, name_of, stand_of}

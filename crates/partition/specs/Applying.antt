@@ -3,18 +3,18 @@ use Rattle.std.specs.Prelude.{◌≡◌, ◌∷◌, ◌++◌, ◌-◌, ◌^◌, 
 use Rattle.std.specs.Borrow.{Bor}
 use Rattle.std.specs.List.{flat_map}
 use Rattle.std.specs.Option.{option_copied}
-use Rattle.idle_clients.specs.declared.notices.Notice.{Notice}
-use Rattle.idle_clients.specs.declared.notices.Notices.{Notices}
-use Rattle.idle_clients.specs.Clients.{clients_after, entering, move_of, moved, notice_for, notices_after, staying}
-use Rattle.idle_clients.specs.Fingerprint.{FingerprintData, RaisedData, fingerprint, raised_in}
-use Rattle.idle_clients.specs.Rooms.{is_waiting, listed, room_in}
+use Rattle.connected_clients.specs.declared.notices.Notice.{Notice}
+use Rattle.connected_clients.specs.declared.notices.Notices.{Notices}
+use Rattle.connected_clients.specs.Clients.{clients_after, entering, move_of, moved, notice_for, notices_after, staying}
+use Rattle.connected_clients.specs.Fingerprint.{FingerprintData, RaisedData, fingerprint, raised_in}
+use Rattle.connected_clients.specs.Rooms.{is_waiting, listed, room_in}
 use Rattle.partition.specs.Image.{Image, image_of_state, overview}
 use Rattle.partition.specs.Refusals.{RefusesFrames, RefusesTransition}
 use Rattle.mpd_command.specs.declared.command.Command.{Command}
 use Rattle.mpd_command.specs.declared.name.Name.{Name}
 use Rattle.mpd_command.specs.declared.request.Request.{Request}
-use Rattle.parts.specs.Parts.{FitsIn, part_at}
-use Rattle.parts.specs.declared.crossing.Crossing.{Crossing}
+use Rattle.partition_table.specs.Parts.{FitsIn, part_at}
+use Rattle.partition_table.specs.declared.crossing.Crossing.{Crossing}
 use Rattle.transitions.specs.declared.asked.Asked.{Asked}
 use Rattle.transitions.specs.declared.asked.Stand.{Stand}
 use Rattle.transitions.specs.declared.shelf_calls.Read.{Read}
@@ -209,7 +209,7 @@ IsStill t = (t ≡ record (quiet t.response) { report = t.report }) × GoesNowhe
 
 -- the clients once the one that an event comes from has done what it does; one that is closed is gone
 abbrev pub clients_moved : ℕ → ResponseData → List Client → List Client
-clients_moved speaker response clients = moved speaker (move_of response) (staying speaker response clients)
+clients_moved sender response clients = moved sender (move_of response) (staying sender response clients)
 
 -- the clients once they were told of what was raised, and the event's own client has done what it does
 abbrev pub clients_told : ℕ → RaisedData → ResponseData → List Client → List Client

@@ -1,8 +1,8 @@
 -- What a command can read of a daemon.
 use Rattle.std.specs.Prelude.{ℕ, ◌+◌, Bool, false, List, [], ◌∷◌, map, codes, slice_set, slice_index_or}
 use Rattle.partition_commands.specs.Partitions.{Seated, seated}
-use Rattle.parts.specs.Parts.{Known, known, opening_part}
-use Rattle.parts.specs.Openings.{OpeningsData}
+use Rattle.partition_table.specs.Parts.{Known, known, opening_part}
+use Rattle.partition_table.specs.Openings.{OpeningsData}
 use Rattle.player_state.specs.declared.state.Client.{Client}
 use Rattle.player_state.specs.declared.state.Library.{Library}
 use Rattle.player_state.specs.declared.state.Part.{Part}

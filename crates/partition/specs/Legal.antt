@@ -8,7 +8,7 @@ use Rattle.player_state.specs.declared.state.Client.{Client}
 use Rattle.player_state.specs.declared.state.Library.{Library}
 use Rattle.player_state.specs.declared.state.Part.{Part}
 use Rattle.partition.specs.declared.state.Setup.{Setup}
-use Rattle.idle_clients.specs.Clients.{Rising}
+use Rattle.connected_clients.specs.Clients.{Rising}
 use Rattle.partition.specs.History.{Chronicle, HistoryStep, replay, AreTold, AreToldBy, after_all, begun, events_among}
 use Rattle.partition.specs.Image.{Image, opening}
 use Rattle.partition.specs.Notices.{Raises, Tells, EachWorldTransition, AreOutcomes}

@@ -16,12 +16,12 @@ use Rattle.player_events.specs.declared.event.Event.{Event}
 use Rattle.player_events.specs.declared.event.Event.TheVariants.{Line}
 use Rattle.player_events.specs.declared.event.LogEntry.{LogEntry}
 use Rattle.transitions.specs.declared.reply.Next.TheVariants.{Goes, Waits}
-use Rattle.idle_clients.specs.declared.notices.Notice.{Notice}
+use Rattle.connected_clients.specs.declared.notices.Notice.{Notice}
 use Rattle.transitions.specs.declared.asked.Stand.TheVariants.{Alone}
 use Rattle.player_core.specs.Player.{PlayerState}
 use Rattle.player_events.specs.Outcomes.{OutcomeData}
 use Rattle.transitions.specs.declared.shelf_calls.StoreReply.{StoreReply}
-use Rattle.partition.specs.Step.{speaker}
+use Rattle.partition.specs.Step.{sender}
 use Rattle.partition.specs.World.{PartWorld, World, WorldTransition, Differs, DiffersForAll, DiffersWithin, IsPending, is_told, raised_at}
 
 -- a player's order and its decoder's work, of which no subsystem speaks: the random round, the place in the
@@ -148,7 +148,7 @@ pub record Tells (world_transition : WorldTransition) (earlier : List WorldTrans
   pub sent : (number : ℕ) (names : Subsystems) → IsSent number names world_transition ↔ HasNews number names world_transition earlier
   pub clear : (number : ℕ) (names : Subsystems) → IsSent number names world_transition → IsClear number world_transition earlier
   pub rising : NoticesRise world_transition.notices
-  pub waits_on : (number : ℕ) (named : Subsystems) → speaker world_transition.event ≢ Some number → WaitsFor number named world_transition.before
+  pub waits_on : (number : ℕ) (named : Subsystems) → sender world_transition.event ≢ Some number → WaitsFor number named world_transition.before
       → ((names : Subsystems) → IsSent number names world_transition → ⊥) → WaitsFor number named world_transition.after
   pub answered : (number : ℕ) (named names : Subsystems) → Asks number named world_transition → Meets number named names world_transition earlier
       → (world_transition.transition.response.answer ≡ record { text = changed_lines names ++ codes "OK\n"; next = Goes; refused = false }) × IsClear number world_transition earlier

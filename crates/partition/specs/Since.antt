@@ -9,7 +9,7 @@ use Rattle.player_events.specs.declared.event.LogEntry.{LogEntry}
 use Rattle.player_state.specs.declared.state.Client.{Client}
 use Rattle.partition.specs.History.{Chronicle}
 use Rattle.partition.specs.Image.{Image}
-use Rattle.idle_clients.specs.Clients.{client_of}
+use Rattle.connected_clients.specs.Clients.{client_of}
 use Rattle.player_state.specs.Outputs.{FrameBooks, decoded_by, discarded_by, written_by}
 use Rattle.partition.specs.Step.{next_image, report_at, told_by, transition}
 use Rattle.player_state.specs.declared.state.Part.{Part}

@@ -19,7 +19,7 @@ use Rattle.partition.specs.declared.partition.PartitionFault.TheVariants.{CutsAt
 use Rattle.player_state.specs.declared.effect.AudioStep.{AudioStep}
 use Rattle.player_state.specs.declared.report.Report.{Report}
 use Rattle.player_state.specs.declared.report.Report.TheVariants.{ToDecode, ToScan, ScanEnded, ToFeed, ToPlay, Ended}
-use Rattle.parts.specs.Parts.{Known, holder, known, part_at}
+use Rattle.partition_table.specs.Parts.{Known, holder, known, part_at}
 use Rattle.partition_commands.specs.Partitions.{Seated, planned}
 use Rattle.player_state.specs.declared.scan.ScanMove.TheVariants.{End as EndsScan}
 use Rattle.player_state.specs.declared.state.Client.{Client}
@@ -27,7 +27,7 @@ use Rattle.player_state.specs.declared.state.Library.{Library}
 use Rattle.player_state.specs.declared.state.Part.{Part}
 use Rattle.player_events.specs.Outcomes.{OutcomeData}
 use Rattle.transitions.specs.Answers.{ResponseData, refused_by_shelf, refuses, shut, stays, tells}
-use Rattle.idle_clients.specs.Clients.{entering, move_of, watched_all, raised, clients_after, notices_after}
+use Rattle.connected_clients.specs.Clients.{entering, move_of, watched_all, raised, clients_after, notices_after}
 use Rattle.status_commands.specs.Connection.{result_of as connection_result}
 use Rattle.library_commands.specs.Database.{result_of as database_result}
 use Rattle.status_commands.specs.Options.{result_of as options_result}
@@ -47,7 +47,7 @@ use Rattle.player_state.specs.Outputs.{FrameBooks, books_after, can_count_all, i
 use Rattle.partition.specs.Image.{Image, Overview, counted, overview}
 use Rattle.transitions.specs.Transitions.{TransitionData, acts, acts_unless, departs, keeps_all_numbers, or_ended, parts_after, quiet, report_of, transition_by, no_response}
 use Rattle.player_state.specs.Libraries.{library_after}
-use Rattle.idle_clients.specs.Clients.{client_of}
+use Rattle.connected_clients.specs.Clients.{client_of}
 use Rattle.player_events.specs.Events.{name_of}
 
 -- what a command makes: those of partitions by what all know, the others by the partition of its client. Those by
@@ -192,30 +192,30 @@ question_of library clients (Line number stand request heard) = question_line li
 question_of library clients _ = NoQuestion
 
 -- the client that an event comes from, if it comes from one
-abbrev pub speaker : Event → Option ℕ
-speaker (Connect number) = Some number
-speaker (Disconnect number) = Some number
-speaker (Line number stand request heard) = Some number
-speaker ScanQuestion = None
-speaker (ScanResult songs second) = None
-speaker (Want place owes) = None
-speaker (Have place number frames) = None
-speaker (Failed place number partner) = None
-speaker (OutputTurn output written discarded failed) = None
-speaker End = None
+abbrev pub sender : Event → Option ℕ
+sender (Connect number) = Some number
+sender (Disconnect number) = Some number
+sender (Line number stand request heard) = Some number
+sender ScanQuestion = None
+sender (ScanResult songs second) = None
+sender (Want place owes) = None
+sender (Have place number frames) = None
+sender (Failed place number partner) = None
+sender (OutputTurn output written discarded failed) = None
+sender End = None
 
 -- the client whose answer and move those of an event are. An event that comes from none makes no move and
 -- closes nobody, so that it does not matter which one is named
-abbrev pub mover : Event → ℕ
-mover event = unwrap_or (speaker event) 0
+abbrev pub sender_number : Event → ℕ
+sender_number event = unwrap_or (sender event) 0
 
 -- the client that an event comes from, if it is there
 abbrev pub client_among : Option ℕ → List Client → Option Client
 client_among None clients = None
 client_among (Some number) clients = client_of number clients
 
-abbrev pub speaker_in : List Client → Event → Option Client
-speaker_in clients event = client_among (speaker event) clients
+abbrev pub sender_in : List Client → Event → Option Client
+sender_in clients event = client_among (sender event) clients
 
 -- the partition of a client; the first for one that is not there
 abbrev pub place_in : Option Client → ℕ
@@ -237,20 +237,20 @@ place_of parts client (OutputTurn output written discarded failed) = unwrap_or (
 place_of parts client End = 0
 
 abbrev pub place_at : Image → Event → ℕ
-place_at i event = place_of (map known i.parts) (speaker_in i.clients event) event
+place_at i event = place_of (map known i.parts) (sender_in i.clients event) event
 
 abbrev pub transition : Image → Event → TransitionData
-transition i event = transition_of (overview i) (part_at (place_at i event) i.parts) i.shared.library (speaker_in i.clients event) event
+transition i event = transition_of (overview i) (part_at (place_at i event) i.parts) i.shared.library (sender_in i.clients event) event
 
 -- the client that goes to another partition by an event of this client
-abbrev pub goer : ℕ → ResponseData → Option ℕ
-goer number response = entering number (move_of response)
+abbrev pub moved_client : ℕ → ResponseData → Option ℕ
+moved_client number response = entering number (move_of response)
 
 -- what a transition of an event of a partition raises for each client: everything for the one that goes to another
 -- partition; else what differs before and after it
 abbrev pub raised_by : ℕ → ℕ → List Part → Library → TransitionData → Client → Subsystems
 raised_by number place parts library t =
-    raised (goer number t.response) t.written (watched_all library parts)
+    raised (moved_client number t.response) t.written (watched_all library parts)
     (watched_all (library_after library t.scan) (parts_after library.rate place t parts))
 
 -- whether the daemon has ended, after an event
@@ -260,7 +260,7 @@ ended_after ended _ = ended
 
 -- what it raises, in an image
 abbrev pub raised_of : Image → Event → TransitionData → Client → Subsystems
-raised_of i event t = raised_by (mover event) (place_at i event) i.parts i.shared.library t
+raised_of i event t = raised_by (sender_number event) (place_at i event) i.parts i.shared.library t
 
 abbrev pub report_at : Image → Event → TransitionData → Report
 report_at i event t = report_of (place_at i event) i.parts i.shared.library t
@@ -274,7 +274,7 @@ after_transition i event t = record {
     books = books_after i.shared.books t.effect (report_at i event t);
     ended = ended_after i.shared.ended event;
   };
-  clients = clients_after (mover event) (raised_of i event t) t.response i.clients;
+  clients = clients_after (sender_number event) (raised_of i event t) t.response i.clients;
 }
 
 -- the image after an event of a seat
@@ -285,7 +285,7 @@ next_image seat i event = counted seat (after_transition i event (transition i e
 abbrev pub told_by : Image → Event → TransitionData → OutcomeData
 told_by i event t = record {
   answer = t.response.answer;
-  notices = notices_after (mover event) (raised_of i event t) t.response i.clients;
+  notices = notices_after (sender_number event) (raised_of i event t) t.response i.clients;
   report = report_at i event t;
 }
 

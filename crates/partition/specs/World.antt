@@ -15,13 +15,13 @@ use Rattle.player_events.specs.declared.event.Event.{Event}
 use Rattle.player_events.specs.declared.event.LogEntry.{LogEntry}
 use Rattle.transitions.specs.declared.reply.Move.{Move}
 use Rattle.transitions.specs.declared.reply.Move.TheVariants.{Stay, Wait, Learn, Resume, Join, Show, Enter}
-use Rattle.idle_clients.specs.declared.notices.Notice.{Notice}
+use Rattle.connected_clients.specs.declared.notices.Notice.{Notice}
 use Rattle.player_state.specs.declared.state.Client.{Client}
 use Rattle.player_state.specs.declared.effect.Effect.{Effect}
 use Rattle.player_state.specs.declared.state.Library.{Library}
 use Rattle.player_state.specs.declared.state.Part.{Part}
 use Rattle.player_state.specs.declared.report.Report.{Report}
-use Rattle.idle_clients.specs.Clients.{Watched, WatchedAll, is_this, raised, move_of, newcomer, options, output_flags, playing}
+use Rattle.connected_clients.specs.Clients.{Watched, WatchedAll, is_this, raised, move_of, newcomer, options, output_flags, playing}
 use Rattle.partition.specs.History.{made_of}
 use Rattle.player_state.specs.Outputs.{FrameBooks, OutputsData, decoded_by, discarded_by, written_by}
 use Rattle.player_state.specs.Effects.{Change, ByEdit, ByStep, change_of, channels_after, outputs_after, played_after, player_after, volume_after}
@@ -29,12 +29,12 @@ use Rattle.partition.specs.Image.{Image}
 use Rattle.transitions.specs.Transitions.{TransitionData}
 use Rattle.player_state.specs.Libraries.{library_after}
 use Rattle.transitions.specs.Shelves.{changes_lists, changes_stickers}
-use Rattle.partition.specs.Step.{transition, goer, mover, after_transition, ended_after, place_at, report_at, told_by}
-use Rattle.parts.specs.Parts.{carried_in, known, outputs_moved}
-use Rattle.parts.specs.declared.crossing.Crossing.{Crossing}
-use Rattle.parts.specs.declared.crossing.Crossing.TheVariants.{Stays, Opens, Closes, Brings}
-use Rattle.parts.specs.Openings.{OpeningsData}
-use Rattle.parts.specs.declared.openings.Greatest.{Greatest}
+use Rattle.partition.specs.Step.{transition, moved_client, sender_number, after_transition, ended_after, place_at, report_at, told_by}
+use Rattle.partition_table.specs.Parts.{carried_in, known, outputs_moved}
+use Rattle.partition_table.specs.declared.crossing.Crossing.{Crossing}
+use Rattle.partition_table.specs.declared.crossing.Crossing.TheVariants.{Stays, Opens, Closes, Brings}
+use Rattle.partition_table.specs.Openings.{OpeningsData}
+use Rattle.partition_table.specs.declared.openings.Greatest.{Greatest}
 use Rattle.player_state.specs.declared.outputs.Carried.{Carried}
 
 -- a client, the partition that it is in, the tags that it is shown, and what it waits for, if it waits
@@ -150,7 +150,7 @@ DiffersAt number place subsystem m =
 
 -- by an event a client goes to another partition
 abbrev pub GoesBy : ℕ → WorldTransition → Type 0
-GoesBy number m = is_this (goer (mover m.event) m.transition.response) number ≡ true
+GoesBy number m = is_this (moved_client (sender_number m.event) m.transition.response) number ≡ true
 
 -- A subsystem is raised for a client: it goes to another partition, where all is new to it, or the part of which
 -- the subsystem speaks differs where it is
@@ -164,7 +164,7 @@ seated number w = record (newcomer number) { place = place_of number w.clients }
 -- what an event raised for a client: everything where it goes to another partition, and else the subsystems whose
 -- parts differ between the worlds before and after it
 abbrev pub raised_for : WorldTransition → Client → Subsystems
-raised_for m client = raised (goer (mover m.event) m.transition.response) m.transition.written (watched_in m.before) (watched_in m.after) client
+raised_for m client = raised (moved_client (sender_number m.event) m.transition.response) m.transition.written (watched_in m.before) (watched_in m.after) client
 
 -- the same, for the client of a number, which is where it was before the event
 abbrev pub raised_at : ℕ → WorldTransition → Subsystems
@@ -184,7 +184,7 @@ is_learning (Enter place) = false
 
 -- a client was sent a notice: after another's event, or as the answer to its own `idle`
 abbrev pub is_told : ℕ → WorldTransition → Bool
-is_told number m = list_any (λ n. n.client == number) m.notices || ((number == mover m.event) && is_learning (move_of m.transition.response))
+is_told number m = list_any (λ n. n.client == number) m.notices || ((number == sender_number m.event) && is_learning (move_of m.transition.response))
 
 -- the client was not there before the event, or was sent a notice at it
 abbrev pub begins_anew : ℕ → WorldTransition → Bool

@@ -3,7 +3,7 @@ ghost use Rattle.player_state.specs.declared.effect.Effect.TheVariants.{ByComman
 ghost use Rattle.player_state.specs.declared.effect.CommandEffect.TheVariants.{Rests};
 ghost use Rattle.std.specs.Prelude.{◌≡◌, None, IfOk, map};
 ghost use Rattle.std.specs.Option.{option_copied};
-ghost use Rattle.parts.specs.Parts.{FitsIn, known};
+ghost use Rattle.partition_table.specs.Parts.{FitsIn, known};
 ghost use Rattle.player_state.specs.Fits.{Fits};
 ghost use Rattle.transitions.specs.Shelves.{is_ok_read};
 ghost use Rattle.transitions.specs.Transitions.{IsOfCommand};
@@ -14,18 +14,18 @@ ghost use Rattle.partition.specs.Image.{image_of_state};
 ghost use Rattle.partition.specs.Lent.{ReadsFor, TurnsByRead};
 ghost use Rattle.partition.specs.Step.{asked_by as asked_by_lem, ends_waiting as ends_waiting_lem};
 ghost use Rattle.partition.specs.Step.{place_in as place_in_lem, place_of as place_of_lem};
-ghost use Rattle.partition.specs.Step.{speaker_in as speaker_in_lem, response_to_new, transition};
+ghost use Rattle.partition.specs.Step.{sender_in as sender_in_lem, response_to_new, transition};
 ghost use Rattle.partition.specs.Step.{failure as failure_lem, have as have_lem, want as want_lem};
 ghost use Rattle.partition.specs.Step.{ended_scan, output_turn};
 ghost use Rattle.player_events.specs.Events.{store_reply_at};
 ghost use Rattle.partition_commands.specs.Partitions.{seated};
 
 use crate::state::{MAX_CLIENTS, State};
-use idle_clients::find_client;
+use connected_clients::find_client;
 use library_commands::asking::ask;
 use library_commands::{database, playlists, stickers};
 use mpd_command::{Command, Name, Request, StatusCommand};
-use parts::Parts;
+use partition_table::Parts;
 use player_events::Event;
 use player_state::{AudioStep, Client, Library, Part, ScanMove};
 use queue_commands::{playback, queue};
@@ -50,7 +50,7 @@ pub(crate) fn transition_of_event(
     ensures fits { IfOk result (FitsEvent state.now event.now) }
     ensures lone { IfOk result (ActsForEvent state.now event.now) }
 {
-    let client = speaker_in(&state.clients, event);
+    let client = sender_in(&state.clients, event);
     let part = state.parts.at(place_of(&state.parts, client, event));
     match event {
         Event::Connect(_) => Ok(Transition::only(connect(alloc, &state.clients, client)?)),
@@ -88,12 +88,12 @@ pub(crate) fn transition_of_event(
 pub(crate) fn place_of_event(state: &State, event: &Event) -> u8
     ensures { result ≡ place_in_state state.now event.now }
 {
-    place_of(&state.parts, speaker_in(&state.clients, event), event)
+    place_of(&state.parts, sender_in(&state.clients, event), event)
 }
 
 /// The client that an event comes from, if it is there.
-fn speaker_in(clients: &[Client], event: &Event) -> Option<Client>
-    ensures { result ≡ speaker_in_lem clients.now event.now }
+fn sender_in(clients: &[Client], event: &Event) -> Option<Client>
+    ensures { result ≡ sender_in_lem clients.now event.now }
 {
     match event {
         Event::Connect(number) | Event::Disconnect(number) | Event::Line(number, _, _, _) =>

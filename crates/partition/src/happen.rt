@@ -22,7 +22,7 @@ ghost use Rattle.std.specs.Prelude.{◌≡◌, ◌<◌, ◌≤◌, ℕ, [], None
 ghost use Rattle.std.specs.Prelude.{IfErr, IfOk, OnErr, OnOk, count_by, length, map, nat_le};
 ghost use Rattle.std.specs.Prelude.{slice_index_or, vec_capacity, vec_len};
 ghost use Rattle.partition.specs.declared.partition.PartitionFault.{PartitionFault};
-ghost use Rattle.idle_clients.specs.Clients.{notified};
+ghost use Rattle.connected_clients.specs.Clients.{notified};
 ghost use Rattle.partition.specs.Image.{counted, image_of_state};
 ghost use Rattle.partition.specs.Lent.{HasCause, IsRefusedIn, RecordsIn, ServesEvent};
 ghost use Rattle.partition.specs.Lent.{IsUnwrittenBy, IsWriteReply, TurnsByWriteOf};
@@ -36,16 +36,16 @@ ghost use Rattle.partition.specs.Applying.{notices_by, report_by};
 ghost use Rattle.partition.specs.Applying.{HasReadings, HasRoomForWaiting};
 ghost use Rattle.partition.specs.Applying.{GrowsBy, GrowsByRaised, HearRaised, ListsNotices};
 ghost use Rattle.partition.specs.Applying.{clients_moved, notices_of};
-ghost use Rattle.parts.specs.Parts.{is_within_in, part_at};
-ghost use Rattle.parts.specs.declared.crossing.Crossing.{Crossing};
+ghost use Rattle.partition_table.specs.Parts.{is_within_in, part_at};
+ghost use Rattle.partition_table.specs.declared.crossing.Crossing.{Crossing};
 ghost use Rattle.player_state.specs.declared.effect.CommandEffect.TheVariants.{Rests};
 ghost use Rattle.player_state.specs.declared.effect.Effect.TheVariants.{ByCommand};
-ghost use Rattle.idle_clients.specs.Fingerprint.{changes_listeners_in, raised_in};
-ghost use Rattle.idle_clients.specs.Rooms.{is_waiting, listed, room_in};
-ghost use Rattle.idle_clients.specs.Settled.{AllSettled, HasRoom, nothing};
+ghost use Rattle.connected_clients.specs.Fingerprint.{changes_listeners_in, raised_in};
+ghost use Rattle.connected_clients.specs.Rooms.{is_waiting, listed, room_in};
+ghost use Rattle.connected_clients.specs.Settled.{AllSettled, HasRoom, nothing};
 ghost use Rattle.transitions.specs.Shelves.{LeavesUnchanged, is_wanting, is_written};
 ghost use Rattle.partition.specs.Step.{counts_frames, keeps_limits, transition as transition_at};
-ghost use Rattle.partition.specs.Step.{ended_after as ended_after_lem, goer as goer_lem, mover as mover_lem};
+ghost use Rattle.partition.specs.Step.{ended_after as ended_after_lem, moved_client as moved_client_lem, sender_number as sender_number_lem};
 ghost use Rattle.player_events.specs.Events.{store_reply_at, with_store_reply, name_at, stand_of};
 
 use crate::event_transitions::{ask_shelf, place_of_event, transition_of_event};
@@ -53,11 +53,11 @@ use crate::lent::write;
 use crate::partition::PartitionFault;
 use crate::prepare::{Prepared, changes, prepare_step, prepare_write};
 use crate::state::State;
-use idle_clients::{
+use connected_clients::{
     Notices, Raised, changes_songs, changes_subscriptions, leave, list_notices, make_move,
     notify_all,
 };
-use parts::Parts;
+use partition_table::Parts;
 use player_events::{Event, LogEntry, Logged, Outcome};
 use player_state::{Client, Effect, done};
 use shelf::{Shelf, ShelfFault};
@@ -208,7 +208,7 @@ fn apply_transition(
     if !changes(&transition) {
         return Ok(apply_still(state, event, transition));
     }
-    let number = mover(event);
+    let number = sender_number(event);
     let place = place_of_event(state, event);
     let (prepared, books) = match prepare_step(alloc, state, place, &transition) {
         Ok(made) => made,
@@ -219,13 +219,13 @@ fn apply_transition(
     let Prepared { notices, before } = prepared;
     let database = changes_songs(&transition, &state.library);
     let subscription = changes_listeners(&state.parts, place, &transition.effect);
-    let goer = goer(number, &transition.response);
+    let moved_client = moved_client(number, &transition.response);
     let telling = transition.carry_out(&mut state.parts, place, &mut state.library)?;
     state.books = books;
     state.ended = ended_after(state.ended, event);
     let unwritten = ShelfWrite::Nothing;
     let raised = before.changed(
-        goer,
+        moved_client,
         database,
         subscription,
         &unwritten,
@@ -247,14 +247,14 @@ fn apply_still(state: &mut State, event: &Event, transition: Transition) -> Appl
     ensures within { PassesNoLimit state.old event.now transition }
 {
     Applied {
-        telling: tell_speaker(state, event, transition),
+        telling: answer_sender(state, event, transition),
         notices: Notices::none(),
     }
 }
 
 /// Tells the client that an event comes from what is answered to it, and nobody else: nothing changes but
 /// what the client does.
-fn tell_speaker(state: &mut State, event: &Event, transition: Transition) -> Telling
+fn answer_sender(state: &mut State, event: &Event, transition: Transition) -> Telling
     requires space { vec_len state.old.clients < vec_capacity state.old.clients }
     requires settled { AllSettled state.old.clients.items }
     requires still { IsStill transition }
@@ -274,19 +274,19 @@ fn tell_speaker(state: &mut State, event: &Event, transition: Transition) -> Tel
         response,
         report: _,
     } = transition.into_telling();
-    move_speaker(&mut state.clients, mover(event), &response);
+    move_sender(&mut state.clients, sender_number(event), &response);
     Telling { response, report }
 }
 
 /// Lets the client that an event comes from do what it does; one that the answer closes goes.
-fn move_speaker(clients: &mut Vec<Client>, speaker: u32, response: &Response)
+fn move_sender(clients: &mut Vec<Client>, sender: u32, response: &Response)
     requires { vec_len clients.old < vec_capacity clients.old }
-    ensures { clients.new.items ≡ clients_moved speaker response.now clients.old.items }
+    ensures { clients.new.items ≡ clients_moved sender response.now clients.old.items }
 {
     if response.next().closes() {
-        leave(clients, speaker);
+        leave(clients, sender);
     } else {
-        make_move(clients, speaker, response.moves());
+        make_move(clients, sender, response.moves());
     }
 }
 
@@ -301,8 +301,8 @@ fn changes_listeners(parts: &Parts, place: u8, effect: &Effect) -> bool
 }
 
 /// The client that goes to another partition by this response to it.
-fn goer(number: u32, response: &Response) -> Option<u32>
-    ensures { result ≡ goer_lem number response.now }
+fn moved_client(number: u32, response: &Response) -> Option<u32>
+    ensures { result ≡ moved_client_lem number response.now }
 {
     if response.next().closes() {
         return None;
@@ -375,10 +375,10 @@ fn tell_written(
     state.books.rest();
     state.ended = ended_after(state.ended, event);
     is_within_still(&state.parts, place);
-    let number = mover(event);
-    let goer = goer(number, &transition.response);
+    let number = sender_number(event);
+    let moved_client = moved_client(number, &transition.response);
     let raised = before.changed(
-        goer,
+        moved_client,
         false,
         false,
         &transition.written,
@@ -512,8 +512,8 @@ fn ended_after(ended: bool, event: &Event) -> bool
 }
 
 /// The client whose answer and move are an event's; 0 where it comes from none, which makes no move.
-fn mover(event: &Event) -> u32
-    ensures { result ≡ mover_lem event.now }
+fn sender_number(event: &Event) -> u32
+    ensures { result ≡ sender_number_lem event.now }
 {
     match event {
         Event::Connect(number) | Event::Disconnect(number) | Event::Line(number, _, _, _) =>

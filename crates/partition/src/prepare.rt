@@ -1,19 +1,19 @@
 //! What an event needs that can fail, made ready before anything changes.
 ghost use Rattle.std.specs.Prelude.{◌≡◌, [], true, false, IfErr, IfOk, OnOk};
 ghost use Rattle.player_state.specs.Outputs.{can_count_all};
-ghost use Rattle.idle_clients.specs.Rooms.{listed};
+ghost use Rattle.connected_clients.specs.Rooms.{listed};
 ghost use Rattle.transitions.specs.Shelves.{is_written};
 ghost use Rattle.player_events.specs.Events.{name_at, name_of as name_of_lem, stand_of};
-ghost use Rattle.parts.specs.declared.crossing.Crossing.{Crossing};
+ghost use Rattle.partition_table.specs.declared.crossing.Crossing.{Crossing};
 ghost use Rattle.partition.specs.Applying.{ActsAt, GoesNowhere, HasReadings, HasRoomForWaiting, IsStill};
 ghost use Rattle.partition.specs.Applying.{RefusesFramesIn, books_in};
 ghost use Rattle.player_state.specs.FrameCounts.{IsBooked};
 
 use crate::partition::PartitionFault;
 use crate::state::State;
-use idle_clients::{Fingerprint, Notices, waiting};
+use connected_clients::{Fingerprint, Notices, waiting};
 use mpd_command::{Name, Request};
-use parts::Crossing;
+use partition_table::Crossing;
 use player_events::Event;
 use player_state::FrameCounts;
 use std::alloc::{AllocError, Global};

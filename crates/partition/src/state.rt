@@ -3,7 +3,7 @@ ghost use Rattle.std.specs.Prelude.{◌≡◌, ◌<◌, ◌≤◌, IfOk};
 ghost use Rattle.partition.specs.Image.{first_part, image_of_state, opening, openings_of as openings_of_lem};
 
 use mpd_text::SharedText;
-use parts::{Greatest, Openings, Parts, opened};
+use partition_table::{Greatest, Openings, Parts, opened};
 use player_state::{Client, FrameCounts, Library, Outputs, Part};
 use std::alloc::{AllocError, Global};
 

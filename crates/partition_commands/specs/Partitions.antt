@@ -14,9 +14,9 @@ use Rattle.player_state.specs.Outputs.{OutputsData, all_elsewhere, no_outputs}
 use Rattle.player_state.specs.declared.effect.Effect.TheVariants.{ByCommand}
 use Rattle.player_state.specs.declared.effect.CommandEffect.TheVariants.{Leaves, Rests}
 use Rattle.player_state.specs.declared.state.Client.{Client}
-use Rattle.parts.specs.declared.crossing.Crossing.TheVariants.{Opens, Closes, Brings}
-use Rattle.parts.specs.Openings.{OpeningsData}
-use Rattle.parts.specs.Parts.{Known, free_place, holder, holds_any_in, known_at, named, opening_part}
+use Rattle.partition_table.specs.declared.crossing.Crossing.TheVariants.{Opens, Closes, Brings}
+use Rattle.partition_table.specs.Openings.{OpeningsData}
+use Rattle.partition_table.specs.Parts.{Known, free_place, holder, holds_any_in, known_at, named, opening_part}
 use Rattle.transitions.specs.declared.asked.Asked.{Asked}
 use Rattle.transitions.specs.CommandResults.{bad_name, refusal, shows}
 use Rattle.transitions.specs.Transitions.{TransitionData, crosses, enters, transition_by}

@@ -1,7 +1,7 @@
 //! The names of partitions.
 ghost use Rattle.std.specs.Prelude.{◌≡◌, map, IfOk};
 ghost use Rattle.std.specs.List.{list_all};
-ghost use Rattle.parts.specs.Parts.{known};
+ghost use Rattle.partition_table.specs.Parts.{known};
 ghost use Rattle.partition_commands.specs.Partitions.{is_name_byte as is_name_byte_lem, is_partition_name as is_partition_name_lem, lines_of_names, names_in};
 
 use mpd_text::{Answer, sort_once};

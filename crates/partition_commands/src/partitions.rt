@@ -2,13 +2,13 @@
 //! by who asks.
 ghost use Rattle.std.specs.Prelude.{◌≡◌, IfOk, map, position};
 ghost use Rattle.std.specs.Str.{bytes_eq};
-ghost use Rattle.parts.specs.Parts.{known};
+ghost use Rattle.partition_table.specs.Parts.{known};
 ghost use Rattle.partition_commands.specs.Partitions.{IsPlanned, LeavesAtMost, begins as begins_lem, brings as brings_lem, delete_partition as delete_partition_lem, done as done_lem, ends_at as ends_at_lem, goes as goes_lem, is_in as is_in_lem, is_used as is_used_lem, list_partitions as list_partitions_lem, move_output as move_output_lem, new_partition as new_partition_lem, opens as opens_lem, output_named as output_named_lem, outputs_elsewhere, partition as partition_lem, planned, seated};
 
 use crate::names::{is_partition_name, lines};
 use mpd_command::PartitionCommand;
 use mpd_text::{Answer, ErrorNumber, SharedText};
-use parts::{Crossing, MAX_PARTS, NewPart, Openings, Parts, opened};
+use partition_table::{Crossing, MAX_PARTS, NewPart, Openings, Parts, opened};
 use player_state::{Client, Outputs};
 use std::alloc::{AllocError, Global};
 use transitions::{Asked, Transition};

@@ -14,7 +14,7 @@ use Rattle.player_state.specs.Effects.{begins_beyond}
 use Rattle.player_state.specs.Libraries.{library_after}
 use Rattle.player_state.specs.declared.state.Client.{Client}
 use Rattle.player_state.specs.declared.state.Part.{Part}
-use Rattle.parts.specs.Parts.{Known, crosses_beyond, holder, is_within_in, known, part_at, report_in}
+use Rattle.partition_table.specs.Parts.{Known, crosses_beyond, holder, is_within_in, known, part_at, report_in}
 use Rattle.partition_commands.specs.Partitions.{planned, seated}
 use Rattle.transitions.specs.Answers.{ResponseData, closes}
 use Rattle.transitions.specs.Transitions.{TransitionData, max_cut_in, no_response, parts_after}
@@ -22,12 +22,12 @@ use Rattle.transitions.specs.declared.asked.Stand.{Stand}
 use Rattle.transitions.specs.declared.reply.Move.{Move}
 use Rattle.transitions.specs.declared.reply.Move.TheVariants.{Stay, Wait, Learn, Resume, Join, Show, Enter}
 use Rattle.transitions.specs.declared.shelf_calls.StoreReply.{StoreReply}
-use Rattle.idle_clients.specs.Clients.{Rising, at, client_of, clients_after, entered, entering, is_this, move_of, newcomer, notice_for, notice_to, notified, shown, staying}
-use Rattle.idle_clients.specs.declared.notices.Notice.{Notice}
+use Rattle.connected_clients.specs.Clients.{Rising, at, client_of, clients_after, entered, entering, is_this, move_of, newcomer, notice_for, notice_to, notified, shown, staying}
+use Rattle.connected_clients.specs.declared.notices.Notice.{Notice}
 use Rattle.player_events.specs.declared.event.Event.{Event}
 use Rattle.player_events.specs.declared.event.Event.TheVariants.{Connect, Disconnect, Line, ScanQuestion, ScanResult, Want, Have, Failed, OutputTurn, End}
 use Rattle.partition.specs.Image.{Image, overview}
-use Rattle.partition.specs.Step.{after_transition, asked_by, ended_after, goer, keeps_limits, mover, place_at, place_in, raised_of, report_at, speaker, speaker_in, transition, transition_of}
+use Rattle.partition.specs.Step.{after_transition, asked_by, ended_after, moved_client, keeps_limits, sender_number, place_at, place_in, raised_of, report_at, sender, sender_in, transition, transition_of}
 use Rattle.partition_laws.specs.Apart.{Agree, Common, IsIn, belongs, comes_to, common, happens_in, is_of_none, notices_to, reaches, seat_of, shelf_changes, tags_along}
 use Rattle.partition_laws.proofs.Clients.{at_seat, does, found_number, notices_in, other_after, other_notices, own_after, own_notices, seats_after, seats_are}
 use Rattle.partition_laws.proofs.Raised.{raised_is, spoken}
@@ -42,13 +42,13 @@ abbrev pub raised_next : Image → Event → Client → Subsystems
 raised_next i event = raised_of i event (transition i event)
 
 abbrev pub clients_next : Image → Event → List Client
-clients_next i event = clients_after (mover event) (raised_next i event) (transition i event).response i.clients
+clients_next i event = clients_after (sender_number event) (raised_next i event) (transition i event).response i.clients
 
 abbrev pub after : Image → Event → Image
 after i event = after_transition i event (transition i event)
 
 abbrev pub notices_next : Image → Event → List Notice
-notices_next i event = flat_map (notice_for (raised_next i event)) (staying (mover event) (transition i event).response i.clients)
+notices_next i event = flat_map (notice_for (raised_next i event)) (staying (sender_number event) (transition i event).response i.clients)
 
 abbrev pub place_from : Option ℕ → ℕ
 place_from None = 0
@@ -109,29 +109,29 @@ module _ (place : ℕ) (i j : Image) (a : Agree place i j) where
       ] in
       cases (client_of n i.clients) refl
 
-  speaker_same : (event : Event) → place_at i event ≡ place → speaker_in i.clients event ≡ speaker_in j.clients event
-  speaker_same (Connect number) p = same_client number p
-  speaker_same (Disconnect number) p = same_client number p
-  speaker_same (Line number stand request heard) p = same_client number p
-  speaker_same ScanQuestion p = refl
-  speaker_same (ScanResult songs second) p = refl
-  speaker_same (Want at owes) p = refl
-  speaker_same (Have at number frames) p = refl
-  speaker_same (Failed at number partner) p = refl
-  speaker_same (OutputTurn output written discarded failed) p = refl
-  speaker_same End p = refl
+  sender_same : (event : Event) → place_at i event ≡ place → sender_in i.clients event ≡ sender_in j.clients event
+  sender_same (Connect number) p = same_client number p
+  sender_same (Disconnect number) p = same_client number p
+  sender_same (Line number stand request heard) p = same_client number p
+  sender_same ScanQuestion p = refl
+  sender_same (ScanResult songs second) p = refl
+  sender_same (Want at owes) p = refl
+  sender_same (Have at number frames) p = refl
+  sender_same (Failed at number partner) p = refl
+  sender_same (OutputTurn output written discarded failed) p = refl
+  sender_same End p = refl
 
   pub own_part : (event : Event) → place_at i event ≡ place → part_at (place_at i event) i.parts ≡ part_at (place_at j event) j.parts
   own_part event p = ap (λ n. part_at n i.parts) p ∙ a.part ∙ ap (λ n. part_at n j.parts) (sym p ∙ place_same event)
 
   -- an event of the partition makes the same in both
   pub own_transition : (event : Event) → place_at i event ≡ place → transition i event ≡ transition j event
-  own_transition event p = λ x. transition_of (overviews x) (own_part event p x) (libraries x) (speaker_same event p x) event
+  own_transition event p = λ x. transition_of (overviews x) (own_part event p x) (libraries x) (sender_same event p x) event
 
   in_place : (n : ℕ) → IsIn place n i → place_in (client_of n i.clients) ≡ place
   in_place n is = place_in_is (client_of n i.clients) ∙ ap place_from (sym (at_seat n i.clients) ∙ is)
 
-  speaks_there : (event : Event) → IsIn place (mover event) i → (place_at i event ≡ place) ⊎ (speaker event ≡ None)
+  speaks_there : (event : Event) → IsIn place (sender_number event) i → (place_at i event ≡ place) ⊎ (sender event ≡ None)
   speaks_there (Connect number) is = inl (in_place number is)
   speaks_there (Disconnect number) is = inl (in_place number is)
   speaks_there (Line number stand request heard) is = inl (in_place number is)
@@ -147,7 +147,7 @@ module _ (place : ℕ) (i j : Image) (a : Agree place i j) where
   clash : (n : ℕ) → (true && (place_in (client_of n i.clients) == place)) ≡ false → IsIn place n i → ⊥
   clash n e is = (let both : true ≡ false = sym (eq-eqb (place_in (client_of n i.clients)) place (in_place n is)) ∙ e in cc)
 
-  pub nobody_speaks : (event : Event) → happens_in place i event ≡ false → IsIn place (mover event) i → speaker event ≡ None
+  pub nobody_speaks : (event : Event) → happens_in place i event ≡ false → IsIn place (sender_number event) i → sender event ≡ None
   nobody_speaks (Connect number) e is = absurd (clash number e is)
   nobody_speaks (Disconnect number) e is = absurd (clash number e is)
   nobody_speaks (Line number stand request heard) e is = absurd (clash number e is)
@@ -166,12 +166,12 @@ module _ (place : ℕ) (i j : Image) (a : Agree place i j) where
   happens_there event e = eqb-true (place_at i event) place (second (not (is_of_none event)) (place_at i event == place) e)
 
 -- an event that comes from no client
-pub unspoken_response : (i : Image) (event : Event) → speaker event ≡ None → (transition i event).response ≡ no_response
-unspoken_response i event e = speechless (overview i) (part_at (place_at i event) i.parts) i.shared.library (speaker_in i.clients event) event e
+pub unspoken_response : (i : Image) (event : Event) → sender event ≡ None → (transition i event).response ≡ no_response
+unspoken_response i event e = speechless (overview i) (part_at (place_at i event) i.parts) i.shared.library (sender_in i.clients event) event e
 
 module _ (place : ℕ) (i j : Image) (event : Event) (a : Agree place i j) where
   -- the client of an event, if it is in the partition, is answered the same in both
-  pub own_response : IsIn place (mover event) i → (transition i event).response ≡ (transition j event).response
+  pub own_response : IsIn place (sender_number event) i → (transition i event).response ≡ (transition j event).response
   own_response is =
       elim (speaks_there place i j a event is) [
         | inl p ↦ ap (λ (t : TransitionData). t.response) (own_transition place i j a event p)
@@ -185,7 +185,7 @@ module _ (place : ℕ) (i j : Image) (a : Agree place i j) where
 
   no_line : (x : Image) (event : Event) → ((number : ℕ) (stand : Stand) (request : Request) (heard : StoreReply) → event ≡ Line number stand request heard → ⊥) → Reaches x event → ⊥
   no_line x event unlined r =
-      let e : reaches place (overview x).parts (transition x event) ≡ false = others_stay place (overview x) (part_at (place_at x event) x.parts) x.shared.library (speaker_in x.clients event) event unlined in
+      let e : reaches place (overview x).parts (transition x event) ≡ false = others_stay place (overview x) (part_at (place_at x event) x.parts) x.shared.library (sender_in x.clients event) event unlined in
       let clash : true ≡ false = sym r ∙ e in cc
 
   -- what it makes in both, and what it reports
@@ -316,35 +316,35 @@ joins m place r a =
     → does m (if b then Stay else a.move) (option_map (notified r) (if b then None else None)) ≡ Some (newcomer m))
     [ true ↦ λ e. cc | false ↦ λ e. none_does m place a.move e ]
 
-no_goer : (m n : ℕ) (move : Move) → (m == n) ≡ false → is_this (entering m move) n ≡ false
-no_goer m n Stay e = refl
-no_goer m n (Wait names) e = refl
-no_goer m n Learn e = refl
-no_goer m n Resume e = refl
-no_goer m n Join e = refl
-no_goer m n (Show tags) e = refl
-no_goer m n (Enter to) e = e
+no_moved_client : (m n : ℕ) (move : Move) → (m == n) ≡ false → is_this (entering m move) n ≡ false
+no_moved_client m n Stay e = refl
+no_moved_client m n (Wait names) e = refl
+no_moved_client m n Learn e = refl
+no_moved_client m n Resume e = refl
+no_moved_client m n Join e = refl
+no_moved_client m n (Show tags) e = refl
+no_moved_client m n (Enter to) e = e
 
-pub other_goer : (m n : ℕ) (a : ResponseData) → (m == n) ≡ false → is_this (goer m a) n ≡ false
-other_goer m n a e = no_goer m n (move_of a) e
+pub other_moved_client : (m n : ℕ) (a : ResponseData) → (m == n) ≡ false → is_this (moved_client m a) n ≡ false
+other_moved_client m n a e = no_moved_client m n (move_of a) e
 
 -- only a client goes to another partition
-comes_of : (place : ℕ) (i : Image) (event : Event) → speaker event ≡ None → comes_to place (move_of (transition i event).response) ≡ true → ⊥
+comes_of : (place : ℕ) (i : Image) (event : Event) → sender event ≡ None → comes_to place (move_of (transition i event).response) ≡ true → ⊥
 comes_of place i event e c =
     let none : comes_to place (move_of (transition i event).response) ≡ false = ap (λ (r : ResponseData). comes_to place (move_of r)) (unspoken_response i event e) in
     let clash : true ≡ false = sym c ∙ none in cc
 
-pub mover_is : (place : ℕ) (i : Image) (event : Event) → comes_to place (move_of (transition i event).response) ≡ true → speaker_in i.clients event ≡ client_of (mover event) i.clients
-mover_is place i (Connect number) c = refl
-mover_is place i (Disconnect number) c = refl
-mover_is place i (Line number stand request heard) c = refl
-mover_is place i ScanQuestion c = absurd (comes_of place i ScanQuestion refl c)
-mover_is place i (ScanResult songs second) c = absurd (comes_of place i (ScanResult songs second) refl c)
-mover_is place i (Want at owes) c = absurd (comes_of place i (Want at owes) refl c)
-mover_is place i (Have at number frames) c = absurd (comes_of place i (Have at number frames) refl c)
-mover_is place i (Failed at number partner) c = absurd (comes_of place i (Failed at number partner) refl c)
-mover_is place i (OutputTurn output written discarded failed) c = absurd (comes_of place i (OutputTurn output written discarded failed) refl c)
-mover_is place i End c = absurd (comes_of place i End refl c)
+pub sender_number_is : (place : ℕ) (i : Image) (event : Event) → comes_to place (move_of (transition i event).response) ≡ true → sender_in i.clients event ≡ client_of (sender_number event) i.clients
+sender_number_is place i (Connect number) c = refl
+sender_number_is place i (Disconnect number) c = refl
+sender_number_is place i (Line number stand request heard) c = refl
+sender_number_is place i ScanQuestion c = absurd (comes_of place i ScanQuestion refl c)
+sender_number_is place i (ScanResult songs second) c = absurd (comes_of place i (ScanResult songs second) refl c)
+sender_number_is place i (Want at owes) c = absurd (comes_of place i (Want at owes) refl c)
+sender_number_is place i (Have at number frames) c = absurd (comes_of place i (Have at number frames) refl c)
+sender_number_is place i (Failed at number partner) c = absurd (comes_of place i (Failed at number partner) refl c)
+sender_number_is place i (OutputTurn output written discarded failed) c = absurd (comes_of place i (OutputTurn output written discarded failed) refl c)
+sender_number_is place i End c = absurd (comes_of place i End refl c)
 
 -- What follows where an event leaves alike what all share and the partition, makes the same of the shelf's
 -- maps others, and brings no client with other tags
@@ -354,7 +354,7 @@ module _ (place : ℕ) (i j : Image) (event : Event) (a : Agree place i j)
     (shelf : shelf_changes (transition i event).written ≡ shelf_changes (transition j event).written)
     (tags : tags_along place i event ≡ tags_along place j event) where
   abbrev m : ℕ
-  m = mover event
+  m = sender_number event
 
   abbrev s : ResponseData
   s = (transition i event).response
@@ -362,7 +362,7 @@ module _ (place : ℕ) (i j : Image) (event : Event) (a : Agree place i j)
   abbrev t : ResponseData
   t = (transition j event).response
 
-  raised_same : (k : Client) → k.place ≡ place → is_this (goer m s) k.number ≡ is_this (goer m t) k.number → raised_next i event k ≡ raised_next j event k
+  raised_same : (k : Client) → k.place ≡ place → is_this (moved_client m s) k.number ≡ is_this (moved_client m t) k.number → raised_next i event k ≡ raised_next j event k
   raised_same k e test =
       let library : library_after i.shared.library (transition i event).scan ≡ library_after j.shared.library (transition j event).scan = ap (λ (c : Common). c.library) commons in
       let afters : map known (parts_next i event) ≡ map known (parts_next j event) = ap (λ (c : Common). c.overview.parts) commons in
@@ -376,10 +376,10 @@ module _ (place : ℕ) (i j : Image) (event : Event) (a : Agree place i j)
   other_raised : (n : ℕ) (k : Client) → client_of n i.clients ≡ Some k → k.place ≡ place → (m == n) ≡ false → raised_next i event k ≡ raised_next j event k
   other_raised n k e p f =
       let apart : (m == k.number) ≡ false = ap (λ x. m == x) (found_number n i.clients k e) ∙ f in
-      raised_same k p (other_goer m k.number s apart ∙ sym (other_goer m k.number t apart))
+      raised_same k p (other_moved_client m k.number s apart ∙ sym (other_moved_client m k.number t apart))
 
   own_raised : (k : Client) → client_of m i.clients ≡ Some k → k.place ≡ place → raised_next i event k ≡ raised_next j event k
-  own_raised k e p = raised_same k p (ap (λ (x : ResponseData). is_this (goer m x) k.number) (own_response place i j event a (is_in_by m k e p)))
+  own_raised k e p = raised_same k p (ap (λ (x : ResponseData). is_this (moved_client m x) k.number) (own_response place i j event a (is_in_by m k e p)))
 
   -- the place of a client after the event, in both
   seat_after : (n : ℕ) (o : Option Client) → client_of n (clients_next i event) ≡ o → IsIn place n (after i event) → place_of_client o ≡ Some place
@@ -441,11 +441,11 @@ module _ (place : ℕ) (i j : Image) (event : Event) (a : Agree place i j)
       let y : HasCome place m (move_of t) l.tags (own_left t rj (Some l)) =
       arrived place m rj l (found_number m j.clients l f) q t (seat_after_too m (own_left t rj (Some l)) (left_j (Some l) f) is) in
       let shown_i : tags_along place i event ≡ Some k.tags =
-      ap (λ b. if b then option_map (λ (c : Client). c.tags) (speaker_in i.clients event) else None) x.0
-      ∙ ap (option_map (λ (c : Client). c.tags)) (mover_is place i event x.0 ∙ e) in
+      ap (λ b. if b then option_map (λ (c : Client). c.tags) (sender_in i.clients event) else None) x.0
+      ∙ ap (option_map (λ (c : Client). c.tags)) (sender_number_is place i event x.0 ∙ e) in
       let shown_j : tags_along place j event ≡ Some l.tags =
-      ap (λ b. if b then option_map (λ (c : Client). c.tags) (speaker_in j.clients event) else None) y.0
-      ∙ ap (option_map (λ (c : Client). c.tags)) (mover_is place j event y.0 ∙ f) in
+      ap (λ b. if b then option_map (λ (c : Client). c.tags) (sender_in j.clients event) else None) y.0
+      ∙ ap (option_map (λ (c : Client). c.tags)) (sender_number_is place j event y.0 ∙ f) in
       let both : Some k.tags ≡ Some l.tags = sym shown_i ∙ tags ∙ shown_j in
       let same : k.tags ≡ l.tags = cc in
       left_i (Some k) e ∙ x.1 ∙ ap (λ (names : List TagName). Some (arrival m place names)) same ∙ sym (left_j (Some l) f ∙ y.1)
@@ -547,9 +547,9 @@ module _ (place : ℕ) (i j : Image) (event : Event) (a : Agree place i j) (same
 
   same_seats : map seated (clients_next i event) ≡ map seated (clients_next j event)
   same_seats =
-      seats_are (mover event) (raised_next i event) (transition i event).response i.clients
-      ∙ (λ x. seats_after (mover event) (same x).response (seats place i j a x))
-      ∙ sym (seats_are (mover event) (raised_next j event) (transition j event).response j.clients)
+      seats_are (sender_number event) (raised_next i event) (transition i event).response i.clients
+      ∙ (λ x. seats_after (sender_number event) (same x).response (seats place i j a x))
+      ∙ sym (seats_are (sender_number event) (raised_next j event) (transition j event).response j.clients)
 
   pub same_common : common (after i event) ≡ common (after j event)
   same_common = λ x. record {

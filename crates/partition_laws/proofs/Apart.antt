@@ -7,20 +7,20 @@ use Rattle.idle_notes.specs.declared.sets.Subsystems.{Subsystems}
 use Rattle.player_state.specs.Libraries.{library_after}
 use Rattle.player_state.specs.declared.effect.Effect.{Effect}
 use Rattle.player_state.specs.declared.state.Client.{Client}
-use Rattle.parts.specs.Openings.{OpeningsData}
-use Rattle.parts.specs.Parts.{Known, changed, known, known_at, part_at}
-use Rattle.parts.specs.declared.crossing.Crossing.{Crossing}
-use Rattle.parts.specs.declared.crossing.Crossing.TheVariants.{Stays, Opens, Closes, Brings}
-use Rattle.parts.proofs.Looks.{at_known, other_changed}
+use Rattle.partition_table.specs.Openings.{OpeningsData}
+use Rattle.partition_table.specs.Parts.{Known, changed, known, known_at, part_at}
+use Rattle.partition_table.specs.declared.crossing.Crossing.{Crossing}
+use Rattle.partition_table.specs.declared.crossing.Crossing.TheVariants.{Stays, Opens, Closes, Brings}
+use Rattle.partition_table.proofs.Looks.{at_known, other_changed}
 use Rattle.transitions.specs.Answers.{ResponseData, closes}
 use Rattle.transitions.specs.Transitions.{TransitionData, no_response}
-use Rattle.idle_clients.specs.Clients.{client_of, is_this, move_of, notified}
-use Rattle.idle_clients.specs.declared.notices.Notice.{Notice}
+use Rattle.connected_clients.specs.Clients.{client_of, is_this, move_of, notified}
+use Rattle.connected_clients.specs.declared.notices.Notice.{Notice}
 use Rattle.player_events.specs.declared.event.Event.{Event}
 use Rattle.partition.specs.Image.{Image, overview}
-use Rattle.partition.specs.Step.{goer, mover, next_image, place_at, report_at, speaker, speaker_in, told, transition}
+use Rattle.partition.specs.Step.{moved_client, sender_number, next_image, place_at, report_at, sender, sender_in, told, transition}
 use Rattle.partition_laws.specs.Apart.{Agree, Common, EqualViewsHearTheSame, IsIn, Keeps, LeavesOut, Legal, Mark, MayGo, MayLeaveOut, MayStay, Notifies, OthersMayBeLeftOut, Says, Word, after_events, all_heard, common, happens_in, is_of_none, is_seat, left, noticed, notices_to, reaches, said, seat_of, shelf_changes, whole}
-use Rattle.partition_laws.proofs.Agreeing.{after, agree_after, belonging, clients_next, happening, happens_same, nobody_speaks, notices_next, notices_same, other_goer, parts_next, place_from, place_of_client, raised_next, same_common, same_part, unspoken_response, within}
+use Rattle.partition_laws.proofs.Agreeing.{after, agree_after, belonging, clients_next, happening, happens_same, nobody_speaks, notices_next, notices_same, other_moved_client, parts_next, place_from, place_of_client, raised_next, same_common, same_part, unspoken_response, within}
 use Rattle.partition_laws.proofs.Clients.{at_seat, does, found_number, notices_in, other_after, other_notices, own_after, own_notices}
 use Rattle.partition_laws.proofs.Legal.{settled_at, silent, stays_legal, still}
 use Rattle.partition_laws.proofs.Raised.{raised_is, spoken, unspoken}
@@ -89,14 +89,14 @@ module _ (place : ℕ) (i : Image) (event : Event) where
   elsewhere e =
       let apart : place_at i event ≢ place = λ same. (let clash : true ≡ false = sym (eq-eqb (place_at i event) place same) ∙ e in cc) in
       let is : IsProper i.shared.openings (place_at i event) t.crossing =
-      proper (overview i) (part_at (place_at i event) i.parts) i.shared.library (speaker_in i.clients event) (place_at i event) event
+      proper (overview i) (part_at (place_at i event) i.parts) i.shared.library (sender_in i.clients event) (place_at i event) event
       (λ p f. found_place i.shared.openings (place_at i event) i.parts p f) in
       foreign_part i.shared.openings place i.shared.library.rate (place_at i event) t i.parts (foreign_of i.shared.openings place (place_at i event) t.crossing e is)
       (other_changed place i.shared.library.rate (place_at i event) t.effect i.parts apart)
 
   nowhere : is_of_none event ≡ true → IsRebuilt
   nowhere e =
-      let is = free (overview i) (part_at (place_at i event) i.parts) i.shared.library (speaker_in i.clients event) event e in
+      let is = free (overview i) (part_at (place_at i event) i.parts) i.shared.library (sender_in i.clients event) event e in
       let foreign : IsForeign i.shared.openings place t.crossing = subst (IsForeign i.shared.openings place) (sym is.0) tt in
       let still_there : part_at place (changed i.shared.library.rate (place_at i event) t.effect i.parts) ≡ part_at place i.parts =
       ap (λ (effect : Effect). part_at place (changed i.shared.library.rate (place_at i event) effect i.parts)) is.1
@@ -153,7 +153,7 @@ module _ (place seat : ℕ) (i j : Image) (event : Event) (a : Agree place i j) 
 -- an event that is left out
 module _ (place seat : ℕ) (i j : Image) (event : Event) (legal : Legal i) (a : Agree place i j) (may : MayGo place seat i event) where
   abbrev m : ℕ
-  m = mover event
+  m = sender_number event
 
   abbrev r : Client → Subsystems
   r = raised_next i event
@@ -183,7 +183,7 @@ module _ (place seat : ℕ) (i j : Image) (event : Event) (legal : Legal i) (a :
 
   -- nobody goes by it who is in the partition; a client of it stays, and hears what is raised for it
   pub record IsApart (n : ℕ) : Type 0 where
-    pub goer : is_this (goer m answer) n ≡ false
+    pub moved_client : is_this (moved_client m answer) n ≡ false
     pub client : client_of n (clients_next i event) ≡ option_map (notified r) (client_of n i.clients)
     pub notices : notices_to n (notices_next i event) ≡ notices_in r (client_of n i.clients)
 
@@ -193,23 +193,23 @@ module _ (place seat : ℕ) (i j : Image) (event : Event) (legal : Legal i) (a :
       λ b. elim b as (λ b. (m == n) ≡ b → IsApart n) [
         | true ↦ λ e.
             let name : m ≡ n = eqb-true m n e in
-            let nobody : speaker event ≡ None = nobody_speaks place i j a event outside (subst (λ x. IsIn place x i) (sym name) is) in
+            let nobody : sender event ≡ None = nobody_speaks place i j a event outside (subst (λ x. IsIn place x i) (sym name) is) in
             let silence : answer ≡ no_response = unspoken_response i event nobody in
             let own : IsApart m = record {
-              goer = ap (λ (x : ResponseData). is_this (goer m x) m) silence;
+              moved_client = ap (λ (x : ResponseData). is_this (moved_client m x) m) silence;
               client = own_after m r answer i.clients ∙ ap (λ (x : ResponseData). does m (move_of x) (option_map (notified r) (if closes x.answer.next then None else client_of m i.clients))) silence;
               notices = own_notices m r answer i.clients legal.rising ∙ ap (λ (x : ResponseData). notices_in r (if closes x.answer.next then None else client_of m i.clients)) silence;
             } in
             subst IsApart name own
         | false ↦ λ e. record {
-          goer = other_goer m n answer e;
+          moved_client = other_moved_client m n answer e;
           client = other_after m r answer i.clients n e;
           notices = other_notices m r answer i.clients n e legal.rising;
         }
       ] in
       cases (m == n) refl
 
-  unraised : (k : Client) → k.place ≡ place → is_this (goer m answer) k.number ≡ false → r k ≡ none
+  unraised : (k : Client) → k.place ≡ place → is_this (moved_client m answer) k.number ≡ false → r k ≡ none
   unraised k p test =
       let library : library_after i.shared.library (transition i event).scan ≡ i.shared.library = ap (λ (c : Common). c.library) commons_stay in
       raised_is place m (place_at i event) i.parts i.shared.library (transition i event) k p
@@ -229,7 +229,7 @@ module _ (place seat : ℕ) (i j : Image) (event : Event) (legal : Legal i) (a :
       let is_there : client_of n i.clients ≡ Some k = found.1 in
       let own : IsApart n = apart n is in
       let p : k.place ≡ place = ap place_from (ap place_of_client (sym is_there) ∙ sym (at_seat n i.clients) ∙ is) in
-      let nothing : r k ≡ none = unraised k p (ap (λ x. is_this (goer m answer) x) (found_number n i.clients k is_there) ∙ own.goer) in
+      let nothing : r k ≡ none = unraised k p (ap (λ x. is_this (moved_client m answer) x) (found_number n i.clients k is_there) ∙ own.moved_client) in
       let one = settled_at n k i.clients legal.settled is_there in (
         own.notices ∙ ap (notices_in r) is_there ∙ silent r k nothing one,
         own.client ∙ ap (option_map (notified r)) is_there ∙ ap (λ (x : Client). Some x) (still r k nothing one) ∙ sym is_there,

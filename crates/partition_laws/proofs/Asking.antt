@@ -15,15 +15,15 @@ use Rattle.player_state.specs.declared.report.Feed.{Feed}
 use Rattle.player_state.specs.declared.report.Report.{Report}
 use Rattle.player_state.specs.declared.report.Report.TheVariants.{ToDecode, ToFeed}
 use Rattle.player_state.specs.declared.state.Part.{Part}
-use Rattle.parts.specs.Openings.{OpeningsData}
-use Rattle.parts.specs.Parts.{carried_in, changed, known, known_at, moved_output, once_more, opening_part, outputs_moved, part_at, parts_moved, report_in, shown_outputs}
-use Rattle.parts.specs.declared.crossing.Crossing.{Crossing}
-use Rattle.parts.specs.declared.crossing.Crossing.TheVariants.{Stays, Opens, Closes, Brings}
+use Rattle.partition_table.specs.Openings.{OpeningsData}
+use Rattle.partition_table.specs.Parts.{carried_in, changed, known, known_at, moved_output, once_more, opening_part, outputs_moved, part_at, parts_moved, report_in, shown_outputs}
+use Rattle.partition_table.specs.declared.crossing.Crossing.{Crossing}
+use Rattle.partition_table.specs.declared.crossing.Crossing.TheVariants.{Stays, Opens, Closes, Brings}
 use Rattle.transitions.specs.Transitions.{TransitionData}
 use Rattle.player_events.specs.declared.event.Event.{Event}
 use Rattle.player_events.specs.declared.event.Event.TheVariants.{Have, Want}
 use Rattle.partition.specs.Image.{Image, overview}
-use Rattle.partition.specs.Step.{next_image, place_at, speaker_in, told, transition, want}
+use Rattle.partition.specs.Step.{next_image, place_at, sender_in, told, transition, want}
 use Rattle.partition_laws.specs.Apart.{after_events}
 use Rattle.partition_laws.specs.Moves.{AreApart}
 use Rattle.partition_laws.specs.Owing.{GivesNoJob, gives_job, is_job}
@@ -122,7 +122,7 @@ module _ (place : ℕ) (P : ℕ → ℕ → Type 0) where
   only_by seat i event a =
       let t : TransitionData = transition i event in
       let is : IsProper (overview i).openings (place_at i event) t.crossing =
-      proper (overview i) (part_at (place_at i event) i.parts) i.shared.library (speaker_in i.clients event) (place_at i event) event
+      proper (overview i) (part_at (place_at i event) i.parts) i.shared.library (sender_in i.clients event) (place_at i event) event
       (λ p f. found_place i.shared.openings (place_at i event) i.parts p f) in
       only_crossed (overview i).openings (place_at i event) t.crossing (changed i.shared.library.rate (place_at i event) t.effect i.parts) is a
 

@@ -10,13 +10,13 @@ use Rattle.idle_notes.specs.Notes.{cancelled, everything, fresh, waits}
 use Rattle.mpd_text.specs.declared.songs.song.TagName.{TagName}
 use Rattle.player_state.specs.declared.state.Client.{Client}
 use Rattle.partition_commands.specs.Partitions.{Seated, seated}
-use Rattle.parts.proofs.Looks.{or_else}
+use Rattle.partition_table.proofs.Looks.{or_else}
 use Rattle.transitions.specs.Answers.{ResponseData, closes}
 use Rattle.transitions.specs.declared.reply.Move.{Move}
 use Rattle.transitions.specs.declared.reply.Move.TheVariants.{Stay, Wait, Learn, Resume, Join, Show, Enter}
-use Rattle.idle_clients.specs.Clients.{AllAbove, Rising, at, client_of, clients_after, entered, is_other, joined, move_of, moved, newcomer, notice_for, notice_to, notified, shown, staying}
-use Rattle.idle_clients.specs.declared.notices.Notice.{Notice}
-use Rattle.idle_clients.proofs.Rises.{at_keeps, entered_keeps, rising_staying, shown_keeps}
+use Rattle.connected_clients.specs.Clients.{AllAbove, Rising, at, client_of, clients_after, entered, is_other, joined, move_of, moved, newcomer, notice_for, notice_to, notified, shown, staying}
+use Rattle.connected_clients.specs.declared.notices.Notice.{Notice}
+use Rattle.connected_clients.proofs.Rises.{at_keeps, entered_keeps, rising_staying, shown_keeps}
 use Rattle.partition_laws.specs.Apart.{notices_to, seat_of}
 
 nothing_left : (A : Type 0) (b : Bool) → ◌≡◌ {A = Option A} None (if b then None else None)

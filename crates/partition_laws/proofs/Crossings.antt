@@ -11,10 +11,10 @@ use Rattle.player_state.specs.declared.effect.AudioStep.TheVariants.{Settles}
 use Rattle.player_state.specs.declared.state.Client.{Client}
 use Rattle.player_state.specs.declared.state.Library.{Library}
 use Rattle.player_state.specs.declared.state.Part.{Part}
-use Rattle.parts.specs.Openings.{OpeningsData}
-use Rattle.parts.specs.Parts.{Known, changed, free_place, has_place, holder, holds_any_in, known_at, named}
-use Rattle.parts.specs.declared.crossing.Crossing.TheVariants.{Closes, Brings}
-use Rattle.parts.proofs.Looks.{known_changed, known_crossed, knowns_changed, knowns_moved}
+use Rattle.partition_table.specs.Openings.{OpeningsData}
+use Rattle.partition_table.specs.Parts.{Known, changed, free_place, has_place, holder, holds_any_in, known_at, named}
+use Rattle.partition_table.specs.declared.crossing.Crossing.TheVariants.{Closes, Brings}
+use Rattle.partition_table.proofs.Looks.{known_changed, known_crossed, knowns_changed, knowns_moved}
 use Rattle.transitions.specs.CommandResults.{bad_name}
 use Rattle.transitions.specs.Transitions.{TransitionData, acts, crosses, enters, or_ended, transition_by}
 use Rattle.transitions.specs.declared.asked.Asked.{Asked}
@@ -24,7 +24,7 @@ use Rattle.partition_commands.specs.Partitions.{Seated, begins, brings, by_name,
 use Rattle.player_events.specs.declared.event.Event.{Event}
 use Rattle.player_events.specs.declared.event.Event.TheVariants.{Connect, Disconnect, Line, ScanQuestion, ScanResult, Want, Have, Failed, OutputTurn, End}
 use Rattle.partition.specs.Image.{Image, Overview, overview}
-use Rattle.partition.specs.Step.{absent, asked_by, next_image, place_at, speaker_in, transition, transition_line, transition_of, written_transition}
+use Rattle.partition.specs.Step.{absent, asked_by, next_image, place_at, sender_in, transition, transition_line, transition_of, written_transition}
 use Rattle.partition_laws.specs.Moves.{AreApart, HasEight, MovesRise, MovesTellPlaces, OpensApart, StaysApart}
 use Rattle.partition_laws.proofs.Moves.{IsSafe, Stepped, stepped}
 use Rattle.partition_laws.proofs.Transitions.{line_kind, line_nowhere}
@@ -166,7 +166,7 @@ next_known seat i event =
 step : (seat : ℕ) (i : Image) (event : Event) → AreApart (overview i).parts → Stepped (overview i).parts (overview (next_image seat i event)).parts
 step seat i event a =
     let t : TransitionData = transition i event in
-    let safe : IsSafe (overview i).parts t.effect t.crossing = safe_of (overview i) _ i.shared.library (speaker_in i.clients event) event in
+    let safe : IsSafe (overview i).parts t.effect t.crossing = safe_of (overview i) _ i.shared.library (sender_in i.clients event) event in
     subst (Stepped (overview i).parts) (sym (next_known seat i event)) (stepped (place_at i event) t.effect t.crossing (overview i).parts a safe)
 
 pub opens_apart : OpensApart

@@ -9,17 +9,17 @@ use Rattle.idle_notes.specs.Sets.{is_nonempty, meet, none}
 use Rattle.player_state.specs.declared.state.Client.{Client}
 use Rattle.player_state.specs.declared.state.Library.{Library}
 use Rattle.player_state.specs.declared.state.Part.{Part}
-use Rattle.parts.specs.Parts.{known, part_at}
+use Rattle.partition_table.specs.Parts.{known, part_at}
 use Rattle.transitions.specs.Transitions.{TransitionData, quiet}
 use Rattle.transitions.specs.declared.reply.Move.{Move}
 use Rattle.transitions.specs.declared.reply.Move.TheVariants.{Stay, Wait, Learn, Resume, Join, Show, Enter}
 use Rattle.status_commands.specs.Status.{idles}
-use Rattle.idle_clients.proofs.Rises.{rising_after}
-use Rattle.idle_clients.specs.Clients.{AllAbove, Rising, at, client_of, clients_after, entered, move_of, moved, notice_for, notice_to, notified, shown, staying}
-use Rattle.idle_clients.specs.Settled.{AllSettled, IsSettled}
+use Rattle.connected_clients.proofs.Rises.{rising_after}
+use Rattle.connected_clients.specs.Clients.{AllAbove, Rising, at, client_of, clients_after, entered, move_of, moved, notice_for, notice_to, notified, shown, staying}
+use Rattle.connected_clients.specs.Settled.{AllSettled, IsSettled}
 use Rattle.player_events.specs.declared.event.Event.{Event}
 use Rattle.partition.specs.Image.{Image, opening, overview}
-use Rattle.partition.specs.Step.{client_among, mover, next_image, place_at, raised_by, raised_of, speaker, speaker_in, transition}
+use Rattle.partition.specs.Step.{client_among, sender_number, next_image, place_at, raised_by, raised_of, sender, sender_in, transition}
 use Rattle.partition_laws.specs.Apart.{LeadsToLegal, Legal, OpensLegal, StaysLegal, no_shelf_changes}
 use Rattle.player_events.specs.declared.event.LogEntry.{LogEntry}
 use Rattle.partition.specs.History.{replay}
@@ -99,12 +99,12 @@ waiting_raises m at ps l names k =
 
 module _ (i : Image) (event : Event) (legal : Legal i) where
   abbrev m : ℕ
-  m = mover event
+  m = sender_number event
 
   abbrev Settles : TransitionData → Type 0
   Settles t = AllSettled (clients_after m (raised_of i event t) t.response i.clients)
 
-  idles_settle : (k : Client) (names : Subsystems) → speaker_in i.clients event ≡ Some k → Settles (quiet (idles names (notice_of (waits names k.pending))))
+  idles_settle : (k : Client) (names : Subsystems) → sender_in i.clients event ≡ Some k → Settles (quiet (idles names (notice_of (waits names k.pending))))
   idles_settle k names is =
       let d : Subsystems = meet k.pending.changed names in
       let cases : (b : Bool) → is_nonempty d ≡ b → Settles (quiet (idles names (if b then Some d else None))) =
@@ -115,7 +115,7 @@ module _ (i : Image) (event : Event) (legal : Legal i) where
             let heard : map (notified r) i.clients ≡ i.clients =
             all_still r (λ c. waiting_raises m (place_at i event) i.parts i.shared.library names c) i.clients legal.settled in
             let free : (c : Client) → client_of m i.clients ≡ Some c → is_nonempty (meet c.pending.changed names) ≡ false =
-            λ c f. (let both : Some k ≡ Some c = sym (among (speaker event) i.clients k is) ∙ f in let same : k ≡ c = cc in ap (λ (x : Client). is_nonempty (meet x.pending.changed names)) (sym same) ∙ e) in
+            λ c f. (let both : Some k ≡ Some c = sym (among (sender event) i.clients k is) ∙ f in let same : k ≡ c = cc in ap (λ (x : Client). is_nonempty (meet x.pending.changed names)) (sym same) ∙ e) in
             subst (λ (ks : List Client). AllSettled (map (at m (waits names)) ks)) (sym heard) (waits_all m names i.clients legal.rising legal.settled free)
       ] in
       cases (is_nonempty d) refl
@@ -124,7 +124,7 @@ module _ (i : Image) (event : Event) (legal : Legal i) where
   settled_after =
       let t : TransitionData = transition i event in
       let r : Client → Subsystems = raised_of i event t in
-      elim (calm_or_idles (overview i) (part_at (place_at i event) i.parts) i.shared.library (speaker_in i.clients event) event) [
+      elim (calm_or_idles (overview i) (part_at (place_at i event) i.parts) i.shared.library (sender_in i.clients event) event) [
         | inl calm ↦ settled_moved m (move_of t.response) (map (notified r) (staying m t.response i.clients)) calm (all_notified r (staying m t.response i.clients))
         | inr w ↦ subst Settles (sym w.3) (idles_settle w.0 w.1 w.2)
       ]
@@ -132,7 +132,7 @@ module _ (i : Image) (event : Event) (legal : Legal i) where
 pub stays_legal : StaysLegal
 unfolding next_image
 stays_legal seat i event legal = record {
-  rising = rising_after (mover event) (raised_of i event (transition i event)) (transition i event).response i.clients legal.rising;
+  rising = rising_after (sender_number event) (raised_of i event (transition i event)) (transition i event).response i.clients legal.rising;
   settled = settled_after i event legal;
 }
 

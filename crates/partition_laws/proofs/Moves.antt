@@ -11,10 +11,10 @@ use Rattle.player_state.specs.declared.effect.Effect.TheVariants.{ByCommand, ByA
 use Rattle.player_state.specs.declared.effect.CommandEffect.TheVariants.{Rests, Switches}
 use Rattle.player_state.specs.declared.effect.AudioStep.TheVariants.{Settles}
 use Rattle.player_state.specs.declared.outputs.Carried.{Carried}
-use Rattle.parts.specs.Parts.{Known, carried_from, carried_in, has_place, holding, holds_any_in, known, known_at, once_more, outputs_moved, shown_outputs}
-use Rattle.parts.specs.declared.crossing.Crossing.{Crossing}
-use Rattle.parts.specs.declared.crossing.Crossing.TheVariants.{Stays, Opens, Closes, Brings}
-use Rattle.parts.proofs.Looks.{known_moved, knowns_changed, knowns_moved, outputs_known}
+use Rattle.partition_table.specs.Parts.{Known, carried_from, carried_in, has_place, holding, holds_any_in, known, known_at, once_more, outputs_moved, shown_outputs}
+use Rattle.partition_table.specs.declared.crossing.Crossing.{Crossing}
+use Rattle.partition_table.specs.declared.crossing.Crossing.TheVariants.{Stays, Opens, Closes, Brings}
+use Rattle.partition_table.proofs.Looks.{known_moved, knowns_changed, knowns_moved, outputs_known}
 use Rattle.partition_laws.specs.Moves.{AreApart, HasEight, Moved, Spot, spot}
 
 -- a change that leaves where the outputs are, and how often each was moved

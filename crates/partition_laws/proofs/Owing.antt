@@ -12,7 +12,7 @@ use Rattle.player_state.specs.declared.effect.AudioStep.TheVariants.{Wants}
 use Rattle.player_state.specs.declared.effect.Effect.TheVariants.{ByAudio}
 use Rattle.player_state.specs.declared.report.Report.TheVariants.{ToDecode}
 use Rattle.player_state.specs.declared.state.Part.{Part}
-use Rattle.parts.specs.Parts.{known, part_at}
+use Rattle.partition_table.specs.Parts.{known, part_at}
 use Rattle.player_events.specs.declared.event.Event.TheVariants.{Want}
 use Rattle.partition.specs.Image.{Image}
 use Rattle.partition.specs.Step.{next_image}

@@ -14,11 +14,11 @@ use Rattle.player_state.specs.Libraries.{library_after, same_songs}
 use Rattle.player_state.specs.declared.state.Client.{Client}
 use Rattle.player_state.specs.declared.state.Library.{Library}
 use Rattle.player_state.specs.declared.state.Part.{Part}
-use Rattle.parts.specs.Parts.{Known, known, part_at}
+use Rattle.partition_table.specs.Parts.{Known, known, part_at}
 use Rattle.transitions.specs.Transitions.{TransitionData, parts_after}
-use Rattle.idle_clients.proofs.Alike.{same_options-refl, same_outputs-refl, same_pairs-refl, same_playing-refl}
-use Rattle.idle_clients.specs.Clients.{Watched, has_messages, is_this, names_of, options, output_flags, playing, raised_between, same_names, watched_at, watched_of}
-use Rattle.partition.specs.Step.{goer, raised_by}
+use Rattle.connected_clients.proofs.Alike.{same_options-refl, same_outputs-refl, same_pairs-refl, same_playing-refl}
+use Rattle.connected_clients.specs.Clients.{Watched, has_messages, is_this, names_of, options, output_flags, playing, raised_between, same_names, watched_at, watched_of}
+use Rattle.partition.specs.Step.{moved_client, raised_by}
 use Rattle.partition_laws.specs.Apart.{ShelfChanges, no_shelf_changes, shelf_changes}
 
 abbrev pub names_known : List Known → List (List ℕ)
@@ -48,13 +48,13 @@ names_are (p ∷ ps) = ap (λ (names : List (List ℕ)). p.name ∷ names) (name
 
 pub raised_is : (place m at : ℕ) (ps : List Part) (l : Library) (t : TransitionData) (k : Client) → k.place ≡ place
     → raised_by m at ps l t k
-    ≡ spoken (is_this (goer m t.response) k.number) k.number (part_at place ps) (part_at place (parts_after l.rate at t ps)) (shelf_changes t.written) l (library_after l t.scan)
+    ≡ spoken (is_this (moved_client m t.response) k.number) k.number (part_at place ps) (part_at place (parts_after l.rate at t ps)) (shelf_changes t.written) l (library_after l t.scan)
     (map known ps) (map known (parts_after l.rate at t ps))
 raised_is place m at ps l t k e =
     let qs : List Part = parts_after l.rate at t ps in
     let before : watched_at k.place (map watched_of ps) ≡ option_map watched_of (part_at place ps) = ap (λ n. watched_at n (map watched_of ps)) e ∙ at_watched place ps in
     let after : watched_at k.place (map watched_of qs) ≡ option_map watched_of (part_at place qs) = ap (λ n. watched_at n (map watched_of qs)) e ∙ at_watched place qs in
-    λ i. if is_this (goer m t.response) k.number then all else raised_between k.number (before i) (after i) (record none {
+    λ i. if is_this (moved_client m t.response) k.number then all else raised_between k.number (before i) (after i) (record none {
       database = not (same_songs l.songs (library_after l t.scan).songs);
       update = differ l.scan.runs (library_after l t.scan).scan.runs;
       stored_playlist = (shelf_changes t.written).lists;

@@ -10,11 +10,11 @@ use Rattle.player_state.specs.declared.effect.Effect.TheVariants.{ByCommand}
 use Rattle.player_state.specs.declared.effect.CommandEffect.TheVariants.{Rests}
 use Rattle.player_state.specs.declared.outputs.Carried.{Carried}
 use Rattle.player_state.specs.declared.state.Part.{Part}
-use Rattle.parts.specs.Openings.{OpeningsData}
-use Rattle.parts.specs.Parts.{Known, carried_in, changed, known, known_at, moved_output, opening_part, outputs_moved, part_at, shown_outputs}
-use Rattle.parts.specs.declared.crossing.Crossing.{Crossing}
-use Rattle.parts.specs.declared.crossing.Crossing.TheVariants.{Stays, Opens, Closes, Brings}
-use Rattle.parts.proofs.Looks.{at_known, if_new, known_changed, known_crossed, knowns_changed, knowns_moved, other_changed, own_changed, own_moved, part_moved}
+use Rattle.partition_table.specs.Openings.{OpeningsData}
+use Rattle.partition_table.specs.Parts.{Known, carried_in, changed, known, known_at, moved_output, opening_part, outputs_moved, part_at, shown_outputs}
+use Rattle.partition_table.specs.declared.crossing.Crossing.{Crossing}
+use Rattle.partition_table.specs.declared.crossing.Crossing.TheVariants.{Stays, Opens, Closes, Brings}
+use Rattle.partition_table.proofs.Looks.{at_known, if_new, known_changed, known_crossed, knowns_changed, knowns_moved, other_changed, own_changed, own_moved, part_moved}
 use Rattle.transitions.specs.Transitions.{TransitionData, parts_after}
 
 abbrev first : List Bool → Bool

@@ -17,16 +17,16 @@ use Rattle.player_state.specs.declared.report.Feed.{Feed}
 use Rattle.player_state.specs.declared.report.Report.{Report}
 use Rattle.player_state.specs.declared.report.Report.TheVariants.{ToFeed, ToPlay}
 use Rattle.player_state.specs.declared.state.Part.{Part}
-use Rattle.parts.specs.Openings.{OpeningsData}
-use Rattle.parts.specs.Parts.{Known, carried_in, changed, holding, known, known_at, moved_output, once_more, opening_part, outputs_moved, part_at, parts_moved, place_of as place_of_known, report_in, shown_outputs}
-use Rattle.parts.specs.declared.crossing.Crossing.{Crossing}
-use Rattle.parts.specs.declared.crossing.Crossing.TheVariants.{Stays, Opens, Closes, Brings}
-use Rattle.parts.proofs.Looks.{at_known}
+use Rattle.partition_table.specs.Openings.{OpeningsData}
+use Rattle.partition_table.specs.Parts.{Known, carried_in, changed, holding, known, known_at, moved_output, once_more, opening_part, outputs_moved, part_at, parts_moved, place_of as place_of_known, report_in, shown_outputs}
+use Rattle.partition_table.specs.declared.crossing.Crossing.{Crossing}
+use Rattle.partition_table.specs.declared.crossing.Crossing.TheVariants.{Stays, Opens, Closes, Brings}
+use Rattle.partition_table.proofs.Looks.{at_known}
 use Rattle.transitions.specs.Transitions.{TransitionData, acts, or_ended}
 use Rattle.player_events.specs.declared.event.Event.{Event}
 use Rattle.player_events.specs.declared.event.Event.TheVariants.{Have, OutputTurn}
 use Rattle.partition.specs.Image.{Image, overview}
-use Rattle.partition.specs.Step.{absent, have, next_image, output_turn, place_at, speaker_in, told, transition}
+use Rattle.partition.specs.Step.{absent, have, next_image, output_turn, place_at, sender_in, told, transition}
 use Rattle.partition_laws.specs.Moves.{AreApart, HasPlaces, IsAt, Spot, spot}
 use Rattle.partition_laws.specs.Reports.{AllAskHere, AsksHere, FeedsNameMoves, IsTold, KeepsOutputs, OpensWithOutputs, TurnsTellMoves}
 use Rattle.partition_laws.proofs.Crossings.{off_at, opens_apart, stays_apart}
@@ -107,7 +107,7 @@ asks_next seat i event a =
     let t : TransitionData = transition i event in
     let rate : ℕ = i.shared.library.rate in
     let is : IsProper (overview i).openings (place_at i event) t.crossing =
-    proper (overview i) (part_at (place_at i event) i.parts) i.shared.library (speaker_in i.clients event) (place_at i event) event
+    proper (overview i) (part_at (place_at i event) i.parts) i.shared.library (sender_in i.clients event) (place_at i event) event
     (λ p f. found_place i.shared.openings (place_at i event) i.parts p f) in
     asks_crossed (overview i).openings (place_at i event) t.crossing (changed rate (place_at i event) t.effect i.parts) is (asks_changed rate (place_at i event) t.effect i.parts a)
 

@@ -21,10 +21,10 @@ use Rattle.player_state.specs.declared.report.Report.TheVariants.{Nothing}
 use Rattle.player_state.specs.declared.state.Client.{Client}
 use Rattle.player_state.specs.declared.state.Library.{Library}
 use Rattle.player_state.specs.declared.state.Part.{Part}
-use Rattle.parts.specs.Openings.{OpeningsData}
-use Rattle.parts.specs.Parts.{Known, free_place, holder, named, opening_part, report_in, shown_outputs}
-use Rattle.parts.specs.declared.crossing.Crossing.{Crossing}
-use Rattle.parts.specs.declared.crossing.Crossing.TheVariants.{Stays, Opens, Closes, Brings}
+use Rattle.partition_table.specs.Openings.{OpeningsData}
+use Rattle.partition_table.specs.Parts.{Known, free_place, holder, named, opening_part, report_in, shown_outputs}
+use Rattle.partition_table.specs.declared.crossing.Crossing.{Crossing}
+use Rattle.partition_table.specs.declared.crossing.Crossing.TheVariants.{Stays, Opens, Closes, Brings}
 use Rattle.transitions.specs.Answers.{Answer, ResponseData, closes, refused_by_shelf, refuses, refuses_command, shut, stays, succeeds, tells}
 use Rattle.transitions.specs.CommandResults.{bad_name, only}
 use Rattle.transitions.specs.Shelves.{is_written}
@@ -37,7 +37,7 @@ use Rattle.transitions.specs.declared.reply.Move.TheVariants.{Stay, Wait, Resume
 use Rattle.transitions.specs.declared.shelf_calls.Read.{Read}
 use Rattle.transitions.specs.declared.shelf_calls.StoreReply.{StoreReply}
 use Rattle.partition_commands.specs.Partitions.{Seated, begins, brings, by_name, done, ends, goes, is_partition_name, is_used, lines_of_names, moves, names_in, output_named, outputs_elsewhere, planned, refused}
-use Rattle.idle_clients.specs.Clients.{move_of}
+use Rattle.connected_clients.specs.Clients.{move_of}
 use Rattle.player_events.specs.Events.{name_of}
 use Rattle.player_events.specs.declared.event.Event.{Event}
 use Rattle.player_events.specs.declared.event.Event.TheVariants.{Connect, Disconnect, Line, ScanQuestion, ScanResult, Want, Have, Failed, OutputTurn, End}
@@ -52,7 +52,7 @@ use Rattle.library_commands.specs.Playlists.{result_of as playlists_result}
 use Rattle.library_commands.specs.Stickers.{result_of as stickers_result}
 use Rattle.status_commands.specs.Status.{Wish, ToWait, ToGoOn, ToShow, idles, resumes, wish_of, wished, result_of as status_result}
 use Rattle.partition.specs.Image.{Overview}
-use Rattle.partition.specs.Step.{absent, asked_by, ends_waiting, greeting, once_written, speaker, transition_line, transition_of, transition_request, transition_run, transition_there, transition_wished, written_transition}
+use Rattle.partition.specs.Step.{absent, asked_by, ends_waiting, greeting, once_written, sender, transition_line, transition_of, transition_request, transition_run, transition_there, transition_wished, written_transition}
 use Rattle.partition_laws.specs.Apart.{comes_to, is_of_none, passes, reaches}
 
 -- a crossing of an event of a partition: what comes is as at its opening, and an output comes to this one
@@ -381,7 +381,7 @@ others_stay place o (Some part) library client (OutputTurn output written discar
 others_stay place o part library client End unlined = refl
 
 -- an event that comes from no client answers none
-pub speechless : (o : Overview) (part : Option Part) (library : Library) (client : Option Client) (event : Event) → speaker event ≡ None → (transition_of o part library client event).response ≡ no_response
+pub speechless : (o : Overview) (part : Option Part) (library : Library) (client : Option Client) (event : Event) → sender event ≡ None → (transition_of o part library client event).response ≡ no_response
 speechless o part library client (Connect number) e = cc
 speechless o part library client (Disconnect number) e = cc
 speechless o part library client (Line number stand request heard) e = cc

@@ -5,9 +5,9 @@ use Rattle.player_state.specs.Outputs.{is_output}
 use Rattle.player_state.specs.declared.report.Report.{Report}
 use Rattle.player_state.specs.declared.state.Client.{Client}
 use Rattle.player_state.specs.declared.state.Library.{Library}
-use Rattle.parts.specs.Parts.{Known, known_at, part_at}
-use Rattle.parts.specs.declared.crossing.Crossing.{Crossing}
-use Rattle.parts.specs.declared.crossing.Crossing.TheVariants.{Brings}
+use Rattle.partition_table.specs.Parts.{Known, known_at, part_at}
+use Rattle.partition_table.specs.declared.crossing.Crossing.{Crossing}
+use Rattle.partition_table.specs.declared.crossing.Crossing.TheVariants.{Brings}
 use Rattle.partition_commands.specs.Partitions.{Seated}
 use Rattle.transitions.specs.Answers.{Answer}
 use Rattle.transitions.specs.Shelves.{changes_lists, changes_stickers}
@@ -15,15 +15,15 @@ use Rattle.transitions.specs.Transitions.{TransitionData}
 use Rattle.transitions.specs.declared.reply.Move.{Move}
 use Rattle.transitions.specs.declared.reply.Move.TheVariants.{Enter}
 use Rattle.transitions.specs.declared.shelf_calls.ShelfWrite.{ShelfWrite}
-use Rattle.idle_clients.specs.Clients.{Rising, client_of, move_of}
-use Rattle.idle_clients.specs.Settled.{AllSettled}
-use Rattle.idle_clients.specs.declared.notices.Notice.{Notice}
+use Rattle.connected_clients.specs.Clients.{Rising, client_of, move_of}
+use Rattle.connected_clients.specs.Settled.{AllSettled}
+use Rattle.connected_clients.specs.declared.notices.Notice.{Notice}
 use Rattle.player_events.specs.declared.event.Event.{Event}
 use Rattle.player_events.specs.declared.event.Event.TheVariants.{ScanQuestion, ScanResult, End}
 use Rattle.player_events.specs.declared.event.LogEntry.{LogEntry}
 use Rattle.partition.specs.History.{replay}
 use Rattle.partition.specs.Image.{Image, Overview, opening, overview}
-use Rattle.partition.specs.Step.{keeps_limits, next_image, place_at, speaker_in, told, transition}
+use Rattle.partition.specs.Step.{keeps_limits, next_image, place_at, sender_in, told, transition}
 use Rattle.partition.specs.declared.state.Setup.{Setup}
 
 -- What all share: what all know, and what can be played. How many events each seat made, and the frames of
@@ -108,7 +108,7 @@ tags_of client = option_map (λ (k : Client). k.tags) client
 -- the tags that the client of an event is shown, and takes along where it comes to a partition by it
 abbrev pub tags_along : ℕ → Image → Event → Option (List TagName)
 tags_along place i event =
-    if comes_to place (move_of (transition i event).response) then tags_of (speaker_in i.clients event) else None
+    if comes_to place (move_of (transition i event).response) then tags_of (sender_in i.clients event) else None
 
 -- the notices to the client of a number
 abbrev pub notices_to : ℕ → List Notice → List Notice

@@ -3,7 +3,7 @@
 use Rattle.std.specs.Prelude.{◌≡◌, ◌≢◌, ◌⊎◌, ◌≤◌, ℕ, ◌+◌, true, List, [], ◌∷◌, length, Option, Some, None, option_map, slice_index_or}
 use Rattle.player_state.specs.Outputs.{OutputsData, is_output}
 use Rattle.player_state.specs.declared.state.Library.{Library}
-use Rattle.parts.specs.Parts.{Known, holding, known_at}
+use Rattle.partition_table.specs.Parts.{Known, holding, known_at}
 use Rattle.player_events.specs.declared.event.Event.{Event}
 use Rattle.partition.specs.Image.{Image, opening, overview}
 use Rattle.partition.specs.Step.{next_image}

@@ -1,7 +1,7 @@
 -- What an event makes others hear.
 use Rattle.std.specs.Prelude.{List}
 use Rattle.transitions.specs.Answers.{Answer}
-use Rattle.idle_clients.specs.declared.notices.Notice.{Notice}
+use Rattle.connected_clients.specs.declared.notices.Notice.{Notice}
 use Rattle.player_state.specs.declared.report.Report.{Report}
 
 -- what an event makes others hear: the answer to the client that it comes from, the notices to other clients,

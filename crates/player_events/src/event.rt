@@ -5,7 +5,7 @@ ghost use Rattle.player_events.specs.Events.{with_store_reply, store_reply_at};
 ghost use Rattle.player_events.specs.Events.{is_line as is_line_lem};
 ghost use Rattle.player_events.specs.declared.event.Event.{Event};
 
-use idle_clients::{Notice, Notices};
+use connected_clients::{Notice, Notices};
 use mpd_command::Request;
 use player_state::Report;
 use shelf::ShelfFault;
@@ -118,7 +118,7 @@ impl Drop for Outcome {
 
 impl Model for Outcome {
     ghost use Rattle.player_events.specs.Outcomes.{OutcomeData};
-    ghost use Rattle.idle_clients.specs.Rooms.{listed};
+    ghost use Rattle.connected_clients.specs.Rooms.{listed};
 
     ghost Value = { OutcomeData };
 

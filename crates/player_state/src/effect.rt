@@ -95,7 +95,7 @@ impl Drop for CommandEffect {
 impl CommandEffect {
     /// The table of effects. The rate of songs is of no matter to them.
     #[rattlefmt::skip]
-    fn carry_out(self, part: &mut Part, report: Report) -> Result<Report, PlayerFault>
+    fn apply_to(self, part: &mut Part, report: Report) -> Result<Report, PlayerFault>
         requires { Fits part.old (Effect.ByCommand self) }
         ensures part { OnOk result ((rate : ℕ) → part.new ≡ part_after rate part.old (Effect.ByCommand self)) }
         ensures report { (rate : ℕ) → Reports result (report_after rate part.old (Effect.ByCommand self) report) }
@@ -165,7 +165,7 @@ impl Effect {
 /// Does to a part what an event asks for, and gives what is answered to a part of the daemon that is no
 /// client. Where it is refused, nothing changes.
 #[rattlefmt::skip]
-pub fn carry_out(part: &mut Part, rate: &Rate, effect: Effect, report: Report) -> Result<Report, PlayerFault>
+pub fn apply_effect(part: &mut Part, rate: &Rate, effect: Effect, report: Report) -> Result<Report, PlayerFault>
     requires { Fits part.old effect }
     ensures part { OnOk result (part.new ≡ part_after rate.now part.old effect) }
     ensures report { Reports result (report_after rate.now part.old effect report) }
@@ -174,7 +174,7 @@ pub fn carry_out(part: &mut Part, rate: &Rate, effect: Effect, report: Report) -
     ensures err { OnErr result (part.new ≡ part.old) }
 {
     match effect {
-        Effect::ByCommand(effect) => effect.carry_out(part, report),
+        Effect::ByCommand(effect) => effect.apply_to(part, report),
         Effect::ByAudio(step) => take_step(part, rate, step, report),
     }
 }

@@ -9,7 +9,7 @@ mod same;
 mod scan;
 mod state;
 
-pub use effect::{AudioStep, CommandEffect, Effect, carry_out, done};
+pub use effect::{AudioStep, CommandEffect, Effect, apply_effect, done};
 pub use frame_counts::FrameCounts;
 pub use outputs::{Carried, MAX_OUTPUTS, Outputs};
 pub use report::{Feed, Heard, Report};

@@ -3,7 +3,7 @@
 //! A session is a text with a step in each line, and tells what is heard or shown at each. So few functions
 //! hold a player.
 use command_lists::ListForm;
-use idle_clients::Notice;
+use connected_clients::Notice;
 use mpd_command::{CommandSet, Request};
 use mpd_text::{Answer, SharedText, Song};
 use partition::{ListOutcome, Partition};

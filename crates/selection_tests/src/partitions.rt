@@ -4,7 +4,7 @@ use known_tags::TagSet;
 use mpd_command::{Command, CommandSet, Name, PartitionCommand, Request};
 use mpd_text::SharedText;
 use partition_commands::run;
-use parts::{Crossing, Greatest, Openings, Parts, opened};
+use partition_table::{Crossing, Greatest, Openings, Parts, opened};
 use player_state::{Client, Outputs};
 use std::alloc::{AllocError, Global};
 use std::test::Fail;

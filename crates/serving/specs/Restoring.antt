@@ -15,8 +15,8 @@ pub record Speaker (S : Type 0) : Type 0 where
   pub shelf : S
   pub seat : SeatCount
 
-abbrev pub speaker : {S : Type 0} → S → SeatCount → Speaker S
-speaker shelf seat = record { shelf = shelf; seat = seat }
+abbrev pub sender : {S : Type 0} → S → SeatCount → Speaker S
+sender shelf seat = record { shelf = shelf; seat = seat }
 
 module _ {S : Type 0} (standing : S → Standing) (failed : S → S → Call → Type 0) where
   -- The daemon's own client, of the number 65, says a line, which is read without `kill` and without the everyday
@@ -51,5 +51,5 @@ module _ {S : Type 0} (standing : S → Standing) (failed : S → S → Call →
   -- counted.
   abbrev pub IsTextTold : S → SeatCount → SeatCount → List ℕ → ℕ → Type 0
   IsTextTold shelf seat seat_then text refused =
-      (count : ℕ) × (after : Speaker S) × TellsSteps Hears (steps_in false (lines text)) (speaker shelf seat) count after
+      (count : ℕ) × (after : Speaker S) × TellsSteps Hears (steps_in false (lines text)) (sender shelf seat) count after
       × (seat_then ≡ after.seat) × (refused ≡ min count 18446744073709551615)

@@ -37,11 +37,11 @@ struct Restorer<'h, L: Ledgers, S: Shelf + Drop, R: Wait> {
 }
 
 impl<'h, L: Ledgers, S: Shelf + Drop, R: Wait> Model for Restorer<'h, L, S, R> {
-    ghost use Rattle.serving.specs.Restoring.{Speaker, speaker};
+    ghost use Rattle.serving.specs.Restoring.{Speaker, sender};
 
     ghost Value = { Speaker S };
 
-    ghost view = { λ r. speaker r.shelf r.seat };
+    ghost view = { λ r. sender r.shelf r.seat };
 }
 
 /// Tells the lines of the file of this path, where it is there. A line that is refused is told on standard

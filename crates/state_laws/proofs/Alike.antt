@@ -5,8 +5,8 @@ use Rattle.std.specs.Str.{bytes_eq}
 use Rattle.kept_state.specs.Partitions.{Pairwise}
 use Rattle.kept_state.specs.Reading.{Player, given_back}
 use Rattle.kept_state.specs.declared.partitions.KeptPartition.{KeptPartition}
-use Rattle.parts.specs.Parts.{changed, moved_output, part_at}
-use Rattle.parts.proofs.Looks.{at_mapped, moved_keeps}
+use Rattle.partition_table.specs.Parts.{changed, moved_output, part_at}
+use Rattle.partition_table.proofs.Looks.{at_mapped, moved_keeps}
 use Rattle.player_core.specs.Player.{PlayerState}
 use Rattle.player_state.specs.Effects.{part_after}
 use Rattle.player_state.specs.Outputs.{OutputsData, has_failed, is_output}

@@ -1,11 +1,11 @@
 -- The lines of a state change the client's own partition alone, and leave its name and which outputs stand in it.
 use Rattle.std.proofs.Common.{◌≡◌, ℕ, ◌+◌, ◌==◌, Bool, true, false, List, [], ◌∷◌, ◌++◌, Some, None, refl, ap, sym, ◌∙◌, arith, if◌then◌else◌}
 use Rattle.std.proofs.lemmas.Bool.{eq-eqb}
-use Rattle.idle_clients.specs.Clients.{client_of}
+use Rattle.connected_clients.specs.Clients.{client_of}
 use Rattle.kept_state.specs.Lines.{Line}
 use Rattle.kept_state.specs.Reading.{Player, read_step}
 use Rattle.mpd_command.specs.declared.request.Request.{Request}
-use Rattle.parts.specs.Parts.{changed, part_at}
+use Rattle.partition_table.specs.Parts.{changed, part_at}
 use Rattle.partition.specs.Image.{Image}
 use Rattle.partition.specs.Step.{next_image}
 use Rattle.player_events.specs.declared.event.Event.{Event}

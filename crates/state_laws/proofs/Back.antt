@@ -2,7 +2,7 @@
 use Rattle.std.proofs.Common.{◌≡◌, ℕ, suc, ◌+◌, ◌≤◌, Bool, true, false, List, [], ◌∷◌, Option, Some, None, is_some, refl, ap, sym, ◌∙◌, subst, arith, if◌then◌else◌}
 use Rattle.command_arguments.specs.declared.forms.Place.TheVariants.{At}
 use Rattle.command_arguments.specs.declared.forms.SongMode.{SongMode}
-use Rattle.idle_clients.specs.Clients.{client_of}
+use Rattle.connected_clients.specs.Clients.{client_of}
 use Rattle.mpd_command.specs.declared.command.Command.{Command}
 use Rattle.mpd_command.specs.declared.command.Command.TheVariants as command
 use Rattle.mpd_command.specs.declared.name.Name.{Name}
@@ -12,7 +12,7 @@ use Rattle.mpd_command.specs.declared.queue.QueueCommand.TheVariants as queue
 use Rattle.mpd_command.specs.declared.request.Request.{Request}
 use Rattle.mpd_command.specs.declared.request.Request.TheVariants.{Run}
 use Rattle.mpd_text.specs.declared.answers.ranges.Range.TheVariants.{Lone}
-use Rattle.parts.specs.Parts.{part_at}
+use Rattle.partition_table.specs.Parts.{part_at}
 use Rattle.partition.specs.Image.{Image, overview}
 use Rattle.partition.specs.Step.{asked_by, limit_of, next_image, transition_run}
 use Rattle.player_state.specs.Effects.{part_after}

@@ -5,7 +5,7 @@ use Rattle.std.specs.List.{position}
 use Rattle.std.specs.Str.{bytes_eq}
 use Rattle.std.proofs.lemmas.Bool.{cases_lt, eqb-true}
 use Rattle.std.proofs.lemmas.List.{get_or-replicate, get_or_past}
-use Rattle.idle_clients.specs.Clients.{client_of}
+use Rattle.connected_clients.specs.Clients.{client_of}
 use Rattle.kept_state.specs.Lines.{Line}
 use Rattle.kept_state.specs.Partitions.{Pairwise}
 use Rattle.kept_state.specs.PlayerReading.{is_named}
@@ -14,7 +14,7 @@ use Rattle.kept_state.specs.Reading.{opened}
 use Rattle.kept_state.specs.declared.partitions.KeptPartition.{KeptPartition}
 use Rattle.mpd_command.specs.Names.{fewest}
 use Rattle.mpd_command.specs.Requests.{request_of}
-use Rattle.parts.specs.Parts.{changed, holding, known, moved_output, part_at}
+use Rattle.partition_table.specs.Parts.{changed, holding, known, moved_output, part_at}
 use Rattle.partition.specs.Image.{Image, openings_of}
 use Rattle.partition.specs.Step.{next_image}
 use Rattle.partition.specs.declared.state.Setup.{Setup}

@@ -15,8 +15,8 @@ use Rattle.mpd_command.specs.declared.partitions.PartitionCommand.TheVariants as
 use Rattle.mpd_command.specs.declared.request.Request.{Request}
 use Rattle.mpd_command.specs.declared.request.Request.TheVariants.{Run}
 use Rattle.mpd_text.specs.Lines.Quoted.{quoted_text}
-use Rattle.parts.specs.declared.crossing.Crossing.TheVariants.{Brings, Stays}
-use Rattle.parts.specs.Parts.{Known, carried_from, carried_in, crosses_beyond, has_place, holding, is_beyond, known, moved_output, part_at, parts_moved, place_of, shown_outputs}
+use Rattle.partition_table.specs.declared.crossing.Crossing.TheVariants.{Brings, Stays}
+use Rattle.partition_table.specs.Parts.{Known, carried_from, carried_in, crosses_beyond, has_place, holding, is_beyond, known, moved_output, part_at, parts_moved, place_of, shown_outputs}
 use Rattle.partition.specs.Image.{Image}
 use Rattle.partition.specs.Step.{asked_by, limit_of, next_image}
 use Rattle.partition.specs.declared.state.Setup.{Setup}
@@ -37,7 +37,7 @@ use Rattle.state_laws.proofs.Crossings.{IsCalm, Passes, passes}
 use Rattle.state_laws.proofs.Numbers.{AreNumbered, has_number, names_of, same_text}
 use Rattle.state_laws.proofs.Spread.{Fit, IsNamedSo, all_fit_moved, all_fit_same, has_more, moved_home}
 use Rattle.state_laws.proofs.Between.{Filling, Held, aligned_moved, is_held, named_last, numbers_of, one_line}
-use Rattle.parts.specs.declared.crossing.Crossing.{Crossing}
+use Rattle.partition_table.specs.declared.crossing.Crossing.{Crossing}
 use Rattle.player_events.specs.declared.event.Event.{Event}
 use Rattle.player_state.specs.declared.effect.CommandEffect.TheVariants.{Rests}
 use Rattle.state_laws.specs.Limits.{HasLeft, LeadsWithin}

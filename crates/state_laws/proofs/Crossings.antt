@@ -1,15 +1,15 @@
 -- What a command of partitions makes of a daemon.
 use Rattle.std.proofs.Common.{◌≡◌, ℕ, ◌==◌, Bool, true, false, List, [], ◌∷◌, map, Some, None, option_map, refl, ap, sym, ◌∙◌, if◌then◌else◌}
 use Rattle.std.proofs.lemmas.Bool.{eq-eqb, eqb-true}
-use Rattle.idle_clients.specs.Clients.{client_of, clients_after, entered, notified}
+use Rattle.connected_clients.specs.Clients.{client_of, clients_after, entered, notified}
 use Rattle.idle_notes.specs.Notes.{everything}
 use Rattle.idle_notes.specs.declared.sets.Subsystems.{Subsystems}
 use Rattle.mpd_command.specs.declared.command.Command.TheVariants as command
 use Rattle.mpd_command.specs.declared.name.Name.{Name}
 use Rattle.mpd_command.specs.declared.partitions.PartitionCommand.{PartitionCommand}
 use Rattle.mpd_command.specs.declared.request.Request.TheVariants.{Run}
-use Rattle.parts.specs.declared.crossing.Crossing.{Crossing}
-use Rattle.parts.specs.Parts.{changed, known, part_at, parts_moved}
+use Rattle.partition_table.specs.declared.crossing.Crossing.{Crossing}
+use Rattle.partition_table.specs.Parts.{changed, known, part_at, parts_moved}
 use Rattle.partition.specs.Image.{Image}
 use Rattle.partition.specs.Step.{asked_by, next_image, raised_of}
 use Rattle.partition_commands.specs.Partitions.{planned, seated}

@@ -2,7 +2,7 @@
 use Rattle.std.proofs.Common.{◌≡◌, ℕ, suc, ◌+◌, ◌≤◌, ◌==◌, Bool, true, false, not, ◌&&◌, ◌||◌, nat_le, arith, subst, sym, List, [], ◌∷◌, map, Option, Some, None, is_some, option_map, refl, ap, ◌∙◌, if◌then◌else◌}
 use Rattle.std.specs.Prelude.{slice_index_or, slice_set}
 use Rattle.std.proofs.lemmas.Bool.{lt-leb}
-use Rattle.idle_clients.specs.Clients.{client_of, clients_after, notified}
+use Rattle.connected_clients.specs.Clients.{client_of, clients_after, notified}
 use Rattle.idle_notes.specs.Notes.{due, fresh, noted}
 use Rattle.idle_notes.specs.Sets.{is_nonempty}
 use Rattle.idle_notes.specs.declared.pending.Pending.{Pending}
@@ -10,8 +10,8 @@ use Rattle.idle_notes.specs.declared.sets.Subsystems.{Subsystems}
 use Rattle.mpd_command.specs.declared.command.Command.{Command}
 use Rattle.mpd_command.specs.declared.name.Name.{Name}
 use Rattle.mpd_command.specs.declared.request.Request.TheVariants.{Run}
-use Rattle.parts.specs.Parts.{changed, is_within_in, part_at}
-use Rattle.parts.proofs.Looks.{own_changed}
+use Rattle.partition_table.specs.Parts.{changed, is_within_in, part_at}
+use Rattle.partition_table.proofs.Looks.{own_changed}
 use Rattle.partition.specs.Image.{Image, overview}
 use Rattle.partition.specs.declared.partition.PartitionFault.TheVariants.{AtLimit, CutsAtLimit}
 use Rattle.partition.specs.Step.{asked_by, counts_frames, keeps_limits, limit_by, limit_of, ends_waiting, next_image, once_written, place_at, place_in, raised_of, told, transition, transition_line, transition_of, transition_run, transition_there, transition_wished, written_transition}

@@ -3,13 +3,13 @@ use Rattle.std.proofs.Common.{◌≡◌, ℕ, suc, ◌+◌, ◌≤◌, ◌==◌,
 use Rattle.std.specs.Prelude.{slice_index_or, slice_set}
 use Rattle.std.proofs.lemmas.Bool.{cases_lt, eqb-false, eqb-true, lt-leb}
 use Rattle.std.proofs.lemmas.List.{get_or-replicate, get_or-set_other, get_or-set_same, get_or_past, set_past}
-use Rattle.idle_clients.specs.Clients.{client_of}
+use Rattle.connected_clients.specs.Clients.{client_of}
 use Rattle.kept_state.specs.Partitions.{Pairwise}
 use Rattle.mpd_command.specs.declared.command.Command.TheVariants as command
 use Rattle.mpd_command.specs.declared.name.Name.{Name}
 use Rattle.mpd_command.specs.declared.partitions.PartitionCommand.{PartitionCommand}
 use Rattle.mpd_command.specs.declared.request.Request.TheVariants.{Run}
-use Rattle.parts.specs.Parts.{Known, crosses_beyond, holding, is_within_in, known, moved_output, once_more, outputs_moved, part_at}
+use Rattle.partition_table.specs.Parts.{Known, crosses_beyond, holding, is_within_in, known, moved_output, once_more, outputs_moved, part_at}
 use Rattle.partition.specs.Image.{Image}
 use Rattle.partition.specs.Step.{counts_frames, keeps_limits, limit_by, limit_of, next_image, place_at, told}
 use Rattle.partition.specs.declared.partition.PartitionFault.TheVariants.{AtLimit, CutsAtLimit}

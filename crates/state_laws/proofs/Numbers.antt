@@ -5,8 +5,8 @@ use Rattle.std.specs.Str.{bytes_eq}
 use Rattle.std.proofs.lemmas.Bool.{cases_lt, eqb-false, ne_eqb}
 use Rattle.std.proofs.lemmas.Slice.Eq.{bytes_eq-Decides}
 use Rattle.kept_state.specs.PlayerReading.{is_named}
-use Rattle.parts.specs.Parts.{free_place, has_place, known, named, part_at}
-use Rattle.parts.proofs.Looks.{at_known}
+use Rattle.partition_table.specs.Parts.{free_place, has_place, known, named, part_at}
+use Rattle.partition_table.proofs.Looks.{at_known}
 use Rattle.player_state.specs.declared.state.Part.{Part}
 
 -- ---- texts

@@ -1,12 +1,12 @@
 -- A player that was just opened.
 use Rattle.std.proofs.Common.{◌≡◌, ℕ, ◌+◌, ◌==◌, Bool, true, List, [], ◌∷◌, length, Some, None, codes, refl, ap, arith, if◌then◌else◌}
 use Rattle.std.proofs.lemmas.Bool.{eq-eqb}
-use Rattle.idle_clients.specs.Clients.{client_of, newcomer}
+use Rattle.connected_clients.specs.Clients.{client_of, newcomer}
 use Rattle.kept_state.specs.Lines.{state_steps}
 use Rattle.kept_state.specs.Reading.{opened}
 use Rattle.mpd_text.specs.Answers.Number.{number_of}
-use Rattle.parts.specs.Openings.{OpeningsData}
-use Rattle.parts.specs.Parts.{opening_part}
+use Rattle.partition_table.specs.Openings.{OpeningsData}
+use Rattle.partition_table.specs.Parts.{opening_part}
 use Rattle.partition.specs.Image.{first_part, openings_of}
 use Rattle.partition.specs.Step.{next_image}
 use Rattle.player_state.specs.Outputs.{OutputsData}

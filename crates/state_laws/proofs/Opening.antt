@@ -13,10 +13,10 @@ use Rattle.mpd_command.specs.declared.request.Request.{Request}
 use Rattle.mpd_command.specs.declared.request.Request.TheVariants.{Run}
 use Rattle.mpd_text.specs.Lines.Quoted.{quoted_text}
 use Rattle.mpd_text.specs.declared.answers.answer.ErrorNumber.TheVariants.{Exist}
-use Rattle.parts.specs.declared.crossing.Crossing.TheVariants.{Opens}
-use Rattle.parts.specs.Openings.{OpeningsData}
-use Rattle.parts.specs.Parts.{Known, changed, free_place, known, named, opening_part, part_at}
-use Rattle.parts.proofs.Looks.{length-map_known}
+use Rattle.partition_table.specs.declared.crossing.Crossing.TheVariants.{Opens}
+use Rattle.partition_table.specs.Openings.{OpeningsData}
+use Rattle.partition_table.specs.Parts.{Known, changed, free_place, known, named, opening_part, part_at}
+use Rattle.partition_table.proofs.Looks.{length-map_known}
 use Rattle.partition.specs.Image.{Image, openings_of}
 use Rattle.partition.specs.Step.{asked_by, limit_of, next_image}
 use Rattle.partition.specs.declared.state.Setup.{Setup}

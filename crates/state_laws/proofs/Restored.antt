@@ -5,7 +5,7 @@ use Rattle.std.specs.List.{flat_map}
 use Rattle.std.specs.Str.{bytes_eq}
 use Rattle.std.proofs.lemmas.Bool.{le-ltb, lt-ltb}
 use Rattle.std.proofs.lemmas.List.{append-nil, length-append, length-map, map-append}
-use Rattle.idle_clients.specs.Clients.{newcomer}
+use Rattle.connected_clients.specs.Clients.{newcomer}
 use Rattle.kept_state.specs.Lines.{Line, state_steps}
 use Rattle.kept_state.specs.Partitions.{Pairwise}
 use Rattle.kept_state.specs.PlayerReading.{AreNew, PlayerStep, is_named, own_steps, partition_steps, player_steps}
@@ -13,7 +13,7 @@ use Rattle.kept_state.specs.PlayerReading.{PlayerStep as step}
 use Rattle.kept_state.specs.Players.{is_default}
 use Rattle.kept_state.specs.Reading.{given_back, opened}
 use Rattle.kept_state.specs.declared.partitions.KeptPartition.{KeptPartition}
-use Rattle.parts.specs.Parts.{part_at}
+use Rattle.partition_table.specs.Parts.{part_at}
 use Rattle.partition.specs.Image.{Image, first_part, no_events, openings_of}
 use Rattle.partition.specs.Step.{next_image}
 use Rattle.partition.specs.declared.state.Setup.{Setup}

@@ -6,7 +6,7 @@ use Rattle.std.proofs.lemmas.Bool.{cases_lt, eqb-false, eqb-true}
 use Rattle.std.proofs.lemmas.List.{get_or_past, get_or-set_other, get_or-set_same, length-set, set_past}
 use Rattle.kept_state.specs.Reading.{Player}
 use Rattle.kept_state.specs.declared.kept.KeptOutput.{KeptOutput}
-use Rattle.parts.specs.Parts.{moved_output, once_more, outputs_moved}
+use Rattle.partition_table.specs.Parts.{moved_output, once_more, outputs_moved}
 use Rattle.player_state.specs.Outputs.{OutputsData, brought, has_failed, is_output, released}
 use Rattle.player_state.specs.declared.outputs.Carried.{Carried}
 use Rattle.player_state.specs.declared.state.Part.{Part}

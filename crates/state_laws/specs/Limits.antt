@@ -8,8 +8,8 @@ use Rattle.partition.specs.History.{AreTold, replay}
 use Rattle.partition.specs.Image.{Image}
 use Rattle.partition.specs.Lists.{AllWithin}
 use Rattle.partition.specs.declared.state.Setup.{Setup}
-use Rattle.idle_clients.specs.Clients.{client_of}
-use Rattle.parts.specs.Parts.{part_at}
+use Rattle.connected_clients.specs.Clients.{client_of}
+use Rattle.partition_table.specs.Parts.{part_at}
 use Rattle.player_core.specs.Player.{PlayerState}
 use Rattle.player_events.specs.declared.event.LogEntry.{LogEntry}
 use Rattle.player_state.specs.Outputs.{can_count_all}

@@ -2,14 +2,14 @@
 -- MPD's status; that a time is told in whole thousandths of a second is this profile's).
 use Rattle.std.specs.Prelude.{ℕ, ◌≡◌, ◌+◌, ◌^◌, ◌<◌, ◌≤◌, true, false, min, List, [], ◌∷◌, ◌++◌, length, map, Option, Some, None, is_some, slice_get, decimal}
 use Rattle.command_arguments.specs.Forms.{uri_of}
-use Rattle.idle_clients.specs.Clients.{client_of}
+use Rattle.connected_clients.specs.Clients.{client_of}
 use Rattle.song_db.specs.Lines.{duration_text, millis}
 use Rattle.song_queue.specs.declared.entry.Entry.{Entry}
 use Rattle.song_queue.specs.State.{queue_of}
 use Rattle.player_core.specs.declared.state.Playback.{Playback}
 use Rattle.player_core.specs.declared.state.Playback.TheVariants as state
 use Rattle.player_core.specs.Player.{is_stopped}
-use Rattle.parts.specs.Parts.{part_at}
+use Rattle.partition_table.specs.Parts.{part_at}
 use Rattle.partition.specs.Image.{Image}
 use Rattle.partition.specs.declared.state.Setup.{Setup}
 use Rattle.player_state.specs.Outputs.{OutputsData, has_failed, is_enabled, is_output}

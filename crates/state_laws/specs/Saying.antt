@@ -2,7 +2,7 @@
 use Rattle.std.specs.Prelude.{ℕ, ◌≡◌, ◌≤◌, ◌+◌, Bool, true, false, List, [], ◌∷◌, length, Option, Some, None, codes, is_some, if◌then◌else◌}
 use Rattle.command_arguments.specs.Forms.{fade_of, song_mode_of, switch_of, uri_of, volume_of}
 use Rattle.command_arguments.specs.declared.forms.Place.TheVariants.{At}
-use Rattle.idle_clients.specs.Clients.{client_of}
+use Rattle.connected_clients.specs.Clients.{client_of}
 use Rattle.kept_state.specs.Lines.{Line, state_steps}
 use Rattle.kept_state.specs.Lines.{Line as lines}
 use Rattle.kept_state.specs.Reading.{Player, after_line, given_back, opened, read_line}
@@ -22,7 +22,7 @@ use Rattle.mpd_command.specs.declared.request.Request.{Request}
 use Rattle.mpd_command.specs.declared.request.Request.TheVariants.{Run}
 use Rattle.mpd_text.specs.Answers.Millis.{millis, millis_of}
 use Rattle.mpd_text.specs.declared.answers.ranges.Range.TheVariants.{Lone}
-use Rattle.parts.specs.Parts.{part_at}
+use Rattle.partition_table.specs.Parts.{part_at}
 use Rattle.partition.specs.History.{AreTold, replay}
 use Rattle.partition.specs.Image.{Image, opening}
 use Rattle.partition.specs.Step.{next_image, told}

@@ -16,9 +16,9 @@ use Rattle.player_state.specs.declared.state.Library.{Library}
 use Rattle.player_state.specs.declared.state.Part.{Part}
 use Rattle.transitions.specs.Answers.{Answer, ResponseData, shut, stays, succeeds, tells}
 use Rattle.player_state.specs.Effects.{begins_beyond}
-use Rattle.parts.specs.declared.crossing.Crossing.{Crossing}
-use Rattle.parts.specs.declared.crossing.Crossing.TheVariants.{Stays}
-use Rattle.parts.specs.Parts.{changed, crosses_beyond, is_within_in, known, part_at, parts_moved, report_in}
+use Rattle.partition_table.specs.declared.crossing.Crossing.{Crossing}
+use Rattle.partition_table.specs.declared.crossing.Crossing.TheVariants.{Stays}
+use Rattle.partition_table.specs.Parts.{changed, crosses_beyond, is_within_in, known, part_at, parts_moved, report_in}
 use Rattle.transitions.specs.declared.asked.Asked.{Asked}
 use Rattle.transitions.specs.declared.reply.Move.TheVariants.{Enter}
 

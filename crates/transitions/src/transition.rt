@@ -1,7 +1,7 @@
 //! What an event is to do, found out before anything changes.
 ghost use Rattle.std.specs.Prelude.{◌≡◌, if◌then◌else◌, true, false, IfOk, IsErrOf, OnOk, OnErr};
 ghost use Rattle.transitions.specs.CommandResults.{begins_scan as begins_scan_lem, bad_index as bad_index_lem, bad_name as bad_name_lem, closes_client as closes_client_lem, does as does_lem, edits, ends_daemon as ends_daemon_lem, no_such_song as no_such_song_lem, not_playing as not_playing_lem, refusal, shows as shows_lem, writes as writes_lem};
-ghost use Rattle.parts.specs.Parts.{FitsIn, part_at};
+ghost use Rattle.partition_table.specs.Parts.{FitsIn, part_at};
 ghost use Rattle.player_state.specs.Libraries.{library_after, second_after};
 ghost use Rattle.player_state.specs.declared.scan.ScanMove.TheVariants.{End};
 ghost use Rattle.transitions.specs.EarlyReports.{report_of as report_of_early};
@@ -15,7 +15,7 @@ use crate::reply::Move;
 use crate::response::{Response, refuses, shows, shut, shut_down, succeeds, succeeds_and, tells};
 use crate::shelf_calls::ShelfWrite;
 use mpd_text::{Answer, ErrorNumber};
-use parts::{Crossing, Parts};
+use partition_table::{Crossing, Parts};
 use player_core::PlayerFault;
 use player_state::{AudioStep, CommandEffect, Effect, Library, Report, ScanMove, same_songs};
 use song_db::SharedDb;
@@ -389,7 +389,7 @@ impl Transition {
             report,
             crossing,
         } = self;
-        let report = parts.carry_out(place, &library.rate, effect, report.into_report())?;
+        let report = parts.apply(place, &library.rate, effect, report.into_report())?;
         parts.cross(crossing);
         move_scan(library, scan);
         Ok(Telling { response, report })

@@ -52,7 +52,7 @@ impl<'a> Printed<'a> {
             if line.as_bytes() == wanted.text.as_slice() {
                 return true;
             }
-            if ends_answer(line.as_bytes(), wanted.speaker) {
+            if ends_answer(line.as_bytes(), wanted.sender) {
                 return false;
             }
         }
@@ -68,7 +68,7 @@ impl<'a> Printed<'a> {
             if line.as_bytes().starts_with(unwanted.text.as_slice()) {
                 return false;
             }
-            if ends_answer(line.as_bytes(), unwanted.speaker) {
+            if ends_answer(line.as_bytes(), unwanted.sender) {
                 self.at = first;
                 return true;
             }
@@ -77,13 +77,13 @@ impl<'a> Printed<'a> {
     }
 
     /// Passes over the rest of an answer, which has to be a success.
-    fn skip_answer(&mut self, speaker: u8) -> bool {
+    fn skip_answer(&mut self, sender: u8) -> bool {
         for _ in self.at..self.lines.len() {
             let Some(line) = self.next() else {
                 return false;
             };
-            if ends_answer(line.as_bytes(), speaker) {
-                return line.as_bytes() == [speaker, b' ', b'O', b'K'].as_slice();
+            if ends_answer(line.as_bytes(), sender) {
+                return line.as_bytes() == [sender, b' ', b'O', b'K'].as_slice();
             }
         }
         false
@@ -103,10 +103,10 @@ impl<'a> Printed<'a> {
 }
 
 /// Whether a line ends an answer of a client.
-fn ends_answer(line: &[u8], speaker: u8) -> bool {
+fn ends_answer(line: &[u8], sender: u8) -> bool {
     match line {
-        [first, b' ', b'O', b'K'] => *first == speaker,
-        [first, b' ', b'A', b'C', b'K', b' ', ..] => *first == speaker,
+        [first, b' ', b'O', b'K'] => *first == sender,
+        [first, b' ', b'A', b'C', b'K', b' ', ..] => *first == sender,
         _ => false,
     }
 }
@@ -114,7 +114,7 @@ fn ends_answer(line: &[u8], speaker: u8) -> bool {
 /// An answer of which not each line is wanted: its rest is passed over before the next answer.
 #[derive(Clone, Copy)]
 struct Open {
-    speaker: u8,
+    sender: u8,
     step: u64,
 }
 
@@ -122,16 +122,16 @@ struct Open {
 fn open_after(line: &Wanted) -> Option<Open> {
     let Wanted {
         kind,
-        speaker,
+        sender,
         step,
         line: _,
         text,
     } = line;
-    if *kind == Kind::Exact || *kind == Kind::Has && ends_answer(text.as_slice(), *speaker) {
+    if *kind == Kind::Exact || *kind == Kind::Has && ends_answer(text.as_slice(), *sender) {
         return None;
     }
     Some(Open {
-        speaker: *speaker,
+        sender: *sender,
         step: *step,
     })
 }
@@ -149,9 +149,9 @@ enum Fault<'w> {
 fn compare<'w>(printed: &mut Printed<'_>, wanted: &'w [Wanted]) -> Result<(), Fault<'w>> {
     let mut open: Option<Open> = None;
     for line in wanted {
-        if let Some(Open { speaker, step }) = open
+        if let Some(Open { sender, step }) = open
             && (step != line.step || line.kind == Kind::Exact)
-            && !printed.skip_answer(speaker)
+            && !printed.skip_answer(sender)
         {
             return Err(Fault::At(line));
         }
@@ -160,8 +160,8 @@ fn compare<'w>(printed: &mut Printed<'_>, wanted: &'w [Wanted]) -> Result<(), Fa
         }
         open = open_after(line);
     }
-    if let Some(Open { speaker, step: _ }) = open
-        && !printed.skip_answer(speaker)
+    if let Some(Open { sender, step: _ }) = open
+        && !printed.skip_answer(sender)
     {
         return Err(Fault::AtEnd);
     }

@@ -6,7 +6,7 @@ use std::{fs, io};
 pub(crate) const SETTINGS: &str = "settings.toml";
 
 /// What the enabled output writes to.
-const PLAYED: &str = "speakers.pcm";
+const PLAYED: &str = "senders.pcm";
 
 /// What the other output would write to, and the file of stored playlists.
 const OTHERS: [&str; 2] = ["rooms.pcm", "shelf.db"];

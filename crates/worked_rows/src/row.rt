@@ -20,7 +20,7 @@ pub(crate) enum Kind {
 pub(crate) struct Wanted {
     pub(crate) kind: Kind,
     /// The client whose answer it is; no byte of a client at a step.
-    pub(crate) speaker: u8,
+    pub(crate) sender: u8,
     /// How many input lines come before it.
     pub(crate) step: u64,
     /// The number of its line in the row file, from 1.
@@ -38,7 +38,7 @@ pub struct Row {
     wanted: Vec<Wanted>,
     line: u64,
     step: u64,
-    speaker: u8,
+    sender: u8,
 }
 
 impl Row {
@@ -50,7 +50,7 @@ impl Row {
             wanted: Vec::new(alloc),
             line: 0,
             step: 0,
-            speaker: 0,
+            sender: 0,
         };
         for line in text.lines() {
             if !row.takes(alloc, line) {
@@ -85,14 +85,14 @@ impl Row {
 
     fn takes_input(&mut self, line: &[u8]) -> bool {
         self.step = self.step.saturating_add(1);
-        self.speaker = line.first().copied().unwrap_or(0);
+        self.sender = line.first().copied().unwrap_or(0);
         self.input.extend_from_slice(line).is_ok() && self.input.push(b'\n').is_ok()
     }
 
     fn wants(&mut self, kind: Kind, text: Vec<u8>) -> bool {
         let wanted = Wanted {
             kind,
-            speaker: self.speaker,
+            sender: self.sender,
             step: self.step,
             line: self.line,
             text,

@@ -1,6 +1,6 @@
 use Rattle.std.proofs.Common.{[], ◌∷◌}
 use Rattle.std.specs.Prelude.{is_some}
-use Rattle.parts.specs.Parts.{part_at}
+use Rattle.partition_table.specs.Parts.{part_at}
 use Rattle.counted_player.proofs.Sixteen.{at_places}
 use Rattle.counted_player.proofs.places.places_in.Goals as goal
 

@@ -2,7 +2,7 @@ use Rattle.std.proofs.Common.{◌≡◌, ℕ, Bool, List, true, false, Option, S
 use Rattle.std.specs.Option.{option_copied}
 use Rattle.transitions.specs.Shelves.{is_written}
 use Rattle.transitions.specs.Transitions.{TransitionData, acts, or_ended, quiet}
-use Rattle.parts.specs.Parts.{FitsIn, part_at}
+use Rattle.partition_table.specs.Parts.{FitsIn, part_at}
 use Rattle.player_state.specs.declared.effect.AudioStep.{AudioStep}
 use Rattle.player_state.specs.declared.effect.AudioStep.TheVariants.{Settles}
 use Rattle.player_state.specs.declared.state.Part.{Part}

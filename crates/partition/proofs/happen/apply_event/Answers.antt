@@ -4,7 +4,7 @@ use Rattle.shelf.specs.Maps.{Trusted}
 use Rattle.player_events.specs.declared.event.Event.{Event}
 use Rattle.partition.specs.Image.{Image, image_of_state}
 use Rattle.transitions.specs.Transitions.{TransitionData}
-use Rattle.idle_clients.specs.Rooms.{listed}
+use Rattle.connected_clients.specs.Rooms.{listed}
 use Rattle.transitions.specs.Shelves.{IsRead, is_written}
 use Rattle.player_events.specs.Events.{with_store_reply, store_reply_at}
 use Rattle.partition.specs.Step.{question_of, told_by, transition}

@@ -2,11 +2,11 @@ use Rattle.std.proofs.Common.{◌≡◌, ◌∙◌, ◌++◌, [], List, ap, sym,
 use Rattle.std.specs.List.{flat_map}
 use Rattle.idle_notes.specs.declared.sets.Subsystems.{Subsystems}
 use Rattle.player_state.specs.declared.state.Client.{Client}
-use Rattle.idle_clients.specs.Clients.{notice_for}
-use Rattle.idle_clients.specs.declared.notices.Notice.{Notice}
-use Rattle.idle_clients.specs.Rooms.{listed}
-use Rattle.idle_clients.specs.Settled.{nothing}
-use Rattle.idle_clients.specs.Fingerprint.{raised_in}
+use Rattle.connected_clients.specs.Clients.{notice_for}
+use Rattle.connected_clients.specs.declared.notices.Notice.{Notice}
+use Rattle.connected_clients.specs.Rooms.{listed}
+use Rattle.connected_clients.specs.Settled.{nothing}
+use Rattle.connected_clients.specs.Fingerprint.{raised_in}
 use Rattle.partition.proofs.Settled.{no_notices}
 use Rattle.partition.proofs.happen.tell_all.Goals as goal
 

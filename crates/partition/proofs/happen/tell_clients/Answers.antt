@@ -1,11 +1,11 @@
 use Rattle.std.proofs.Common.{◌≡◌, ◌≤◌, sym, subst, length, arith, rules}
 use Rattle.std.specs.Prelude.{count_by, filter}
-use Rattle.idle_clients.specs.Clients.{is_other}
-use Rattle.idle_clients.specs.Rooms.{is_waiting, listed, room_in}
-use Rattle.idle_clients.specs.Settled.{HasRoom}
-use Rattle.idle_clients.specs.Fingerprint.{raised_in}
+use Rattle.connected_clients.specs.Clients.{is_other}
+use Rattle.connected_clients.specs.Rooms.{is_waiting, listed, room_in}
+use Rattle.connected_clients.specs.Settled.{HasRoom}
+use Rattle.connected_clients.specs.Fingerprint.{raised_in}
 use Rattle.partition.proofs.Settled.{fewer_wanted}
-use Rattle.idle_clients.proofs.Tells.{fewer_wait}
+use Rattle.connected_clients.proofs.Tells.{fewer_wait}
 use Rattle.partition.proofs.happen.tell_clients.Goals.{then-closing, else-closing}
 use Rattle.partition.proofs.happen.tell_clients.Goals as goal
 

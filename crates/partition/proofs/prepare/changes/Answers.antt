@@ -1,5 +1,5 @@
 use Rattle.std.proofs.Common.{◌≡◌, ◌∙◌, Bool, true, false, not, ◌&&◌, ◌||◌, ap, sym, subst, refl}
-use Rattle.parts.specs.declared.crossing.Crossing.TheVariants.{Stays}
+use Rattle.partition_table.specs.declared.crossing.Crossing.TheVariants.{Stays}
 use Rattle.player_state.specs.declared.effect.Effect.TheVariants.{ByCommand}
 use Rattle.player_state.specs.declared.effect.CommandEffect.TheVariants.{Rests}
 use Rattle.player_state.specs.declared.scan.ScanMove.TheVariants.{Stay}

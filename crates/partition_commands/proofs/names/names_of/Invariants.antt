@@ -1,5 +1,5 @@
 use Rattle.std.proofs.Common.{◌≡◌, take, map}
-use Rattle.parts.specs.Parts.{Known, known}
+use Rattle.partition_table.specs.Parts.{Known, known}
 use Rattle.partition_commands.proofs.names.names_of.Given as goal
 
 abbrev pub invariant-loop-part : goal.invariant-loop-part

@@ -1,7 +1,7 @@
 use Rattle.std.proofs.Common.{◌≡◌, ◌∙◌, ℕ, ◌≤◌, ap, List, [], ◌∷◌, length, get_or, map, position, arith}
 use Rattle.std.specs.Str.{bytes_eq}
 use Rattle.player_state.specs.declared.state.Part.{Part}
-use Rattle.parts.specs.Parts.{known}
+use Rattle.partition_table.specs.Parts.{known}
 use Rattle.partition_commands.specs.Partitions.{output_named}
 use Rattle.partition_commands.proofs.partitions.output_named.Goals as goal
 

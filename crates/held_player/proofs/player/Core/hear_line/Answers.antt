@@ -1,6 +1,6 @@
 use Rattle.std.proofs.Common.{◌+◌, ◌≤◌, ◌∙◌, List, ap, arith, length, vec_capacity, vec_len}
 use Rattle.std.specs.Prelude.{Ok}
-use Rattle.idle_clients.specs.declared.notices.Notice.{Notice}
+use Rattle.connected_clients.specs.declared.notices.Notice.{Notice}
 use Rattle.partition.specs.History.{Chronicle, with_room}
 use Rattle.counted_player.proofs.Booked.{has_eight}
 use Rattle.held_player.proofs.Few.{has_room}

@@ -1,6 +1,6 @@
 use Rattle.std.proofs.Common.{◌≤◌, List, ap, arith, length, subst}
 use Rattle.std.specs.Prelude.{Ok}
-use Rattle.idle_clients.specs.declared.notices.Notice.{Notice}
+use Rattle.connected_clients.specs.declared.notices.Notice.{Notice}
 use Rattle.partition.specs.History.{Chronicle}
 use Rattle.held_player.specs.Player.{BooksFollow}
 use Rattle.held_player.proofs.Steps.{few_frames, few_told, follows}

@@ -3,7 +3,7 @@ use Rattle.std.specs.Prelude.{All}
 use Rattle.partition.specs.Legal.{HasDistinctIds}
 use Rattle.partition.specs.Image.{Image, image_of_state, opening}
 use Rattle.partition.specs.Invariant.{Came}
-use Rattle.idle_clients.specs.Settled.{AllSettled}
+use Rattle.connected_clients.specs.Settled.{AllSettled}
 use Rattle.partition.specs.World.{trace_after}
 use Rattle.partition.proofs.Chronicles.{leads_on}
 use Rattle.partition.proofs.Settled.{replay_settled}

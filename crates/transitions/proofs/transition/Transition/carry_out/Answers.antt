@@ -1,7 +1,7 @@
 use Rattle.std.proofs.Common.{◌≡◌, ◌∙◌, ap, sym, false, List, map, arith}
 use Rattle.player_state.specs.declared.state.Part.{Part}
-use Rattle.parts.specs.Parts.{crosses_beyond, known}
-use Rattle.parts.proofs.Moves.{can_cross}
+use Rattle.partition_table.specs.Parts.{crosses_beyond, known}
+use Rattle.partition_table.proofs.Moves.{can_cross}
 use Rattle.transitions.proofs.transition.Transition.carry_out.Goals as goal
 
 pub cross-requires : goal.cross-requires

@@ -1,0 +1,8 @@
+use Rattle.std.proofs.Common.{arith}
+use Rattle.std.proofs.lemmas.Grind.{common_steps}
+use Rattle.std.proofs.lemmas.List.Edits.{map_over_more}
+use Rattle.connected_clients.specs.Clients.{shown}
+use Rattle.connected_clients.proofs.clients.show.Goals as goal
+
+pub loop-client-preserved : goal.loop-client-preserved
+loop-client-preserved c = rw c.shown.ensures (grind (arith, common_steps, map_over_more (shown c.args.number c.args.tags)))

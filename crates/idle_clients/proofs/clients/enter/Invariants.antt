@@ -1,6 +1,0 @@
-use Rattle.std.proofs.Common.{◌≡◌, ◌++◌, map, take, drop}
-use Rattle.idle_clients.specs.Clients.{entered}
-use Rattle.idle_clients.proofs.clients.enter.Given as goal
-
-abbrev pub invariant-loop-client : goal.invariant-loop-client
-invariant-loop-client l = l.clients ≡ map (entered l.number l.place) (take l.client-index l.initial.clients) ++ drop l.client-index l.initial.clients

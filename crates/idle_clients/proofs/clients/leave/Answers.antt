@@ -1,7 +1,0 @@
-use Rattle.std.proofs.Common.{rules}
-use Rattle.std.proofs.lemmas.Fn.{filter_same}
-use Rattle.idle_clients.specs.Clients.{is_other}
-use Rattle.idle_clients.proofs.clients.leave.Goals as goal
-
-pub returns : goal.returns
-returns c = filter_same _ (is_other c.args.number) _ (λ x b f h. search rules) _ _ c.retain.ensures.filtered

@@ -1,9 +1,0 @@
-use Rattle.idle_clients.specs.Clients.{notified}
-use Rattle.idle_clients.specs.Fingerprint.{raised_in}
-use Rattle.idle_clients.proofs.Steps.{step_more}
-use Rattle.idle_clients.proofs.clients.notify_all.Goals as goal
-
-pub loop-client-preserved : goal.loop-client-preserved
-loop-client-preserved c =
-    rw c.notify.ensures (step_more (notified (raised_in c.args.raised.now)) c.args.clients.now c.loop-client.clients c.loop-client.client-index _
-    c.loop-client-test.true c.loop-client.auto.clients c.loop-client.invariant)

@@ -1,9 +1,0 @@
-use Rattle.std.proofs.Common.{arith}
-use Rattle.std.proofs.lemmas.Grind.{common_steps}
-use Rattle.std.proofs.lemmas.List.Edits.{map_over_more}
-use Rattle.idle_notes.specs.Notes.{cancelled}
-use Rattle.idle_clients.specs.Clients.{at}
-use Rattle.idle_clients.proofs.clients.resume.Goals as goal
-
-pub loop-client-preserved : goal.loop-client-preserved
-loop-client-preserved c = rw c.resumed.ensures (grind (arith, common_steps, map_over_more (at c.args.number (cancelled))))

@@ -1,6 +1,0 @@
-use Rattle.std.proofs.Common.{◌≡◌, drop}
-use Rattle.idle_clients.specs.Fingerprint.{outputs_at}
-use Rattle.idle_clients.proofs.fingerprint.outputs_at.Given as goal
-
-abbrev pub invariant-loop-at : goal.invariant-loop-at
-invariant-loop-at l = outputs_at l.place l.before ≡ outputs_at l.place (drop l.at-index l.before)

@@ -1,6 +1,0 @@
-use Rattle.std.proofs.Common.{rules, ◌==◌, not}
-use Rattle.std.proofs.lemmas.Fn.{filter_same}
-use Rattle.parts.proofs.crossing.close.Goals as goal
-
-pub returns-clause-items : goal.returns-clause-items
-returns-clause-items c = filter_same _ (λ part. not (part.place == c.args.place)) _ (λ x b f h. search rules) _ _ c.retain.ensures.filtered

@@ -1,6 +1,0 @@
-use Rattle.std.proofs.Common.{◌≡◌, drop}
-use Rattle.parts.specs.Parts.{part_at}
-use Rattle.parts.proofs.parts.part_at.Given as goal
-
-abbrev pub invariant-loop-part : goal.invariant-loop-part
-invariant-loop-part l = part_at l.place l.parts ≡ part_at l.place (drop l.part-index l.parts)
