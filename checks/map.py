@@ -104,7 +104,7 @@ THEOREMS = [
     ('mpd_session', 'Session::turn', 'turns', 'mpd_session/Sessions', 'Turns',
      'mpd_session: turns_join any_cut_of_bytes; mpd_answers: lines_ask_for'),
     ('server_rounds', 'Rounds::next_step', 'next', 'server_rounds/Rounds', 'IsNext', ''),
-    ('daemon_script', 'run_script', 'ok', 'daemon_script/Output', 'WritesOutput', 'daemon_script: runs_are_traced'),
+    ('daemon_script', 'run_script', 'ok', 'daemon_script/Output', 'ShowsInput', 'daemon_script: runs_are_traced'),
     'no partition sees the others',
     ('partition_laws', 'equal_views_hear_the_same', '', 'partition_laws/Apart', 'EqualViewsHearTheSame', 'partition_laws: daemons_stay_legal'),
     ('partition_laws', 'others_may_be_left_out', '', 'partition_laws/Apart', 'OthersMayBeLeftOut', ''),
@@ -148,7 +148,7 @@ THEOREMS = [
     ('kept_state', 'player_text', '', 'kept_state/Players', 'player_text',
      'kept_state: partitions_give_back; state_laws: partitions_come_back told_partitions_come_back'),
     ('kept_state', 'tell_lines', '', 'kept_state/Telling', 'TellsText', ''),
-    ('serving', 'Keeper::look', 'state', 'serving/Keeping', 'IsStateThen', ''),
+    ('serving', 'Keeper::look', 'state', 'serving/Keepers', 'WritesStateIf', ''),
     ('serving', 'restore_text', '', 'serving/Restoring', 'IsTextTold', ''),
     ('command_line', 'command_line', 'asks', 'command_line/Programs', 'Asks', 'command_line: readings'),
 ]

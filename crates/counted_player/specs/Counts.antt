@@ -1,5 +1,5 @@
 -- What contracts see of a player whose events are counted.
-use Rattle.std.specs.Prelude.{ℕ, ◌≡◌, ◌<◌, ◌==◌, Bool, true, false, List, [], ◌∷◌, Option, Some, None, Result, Ok, Err}
+use Rattle.std.specs.Prelude.{ℕ, ◌≡◌, ◌<◌, ◌==◌, Bool, true, false, List, [], ◌∷◌, Option, Some, None, Result, Ok, Err, IfErr, IfOk}
 use Rattle.std.specs.Prelude.{is_some, length, slice_index_or, if◌then◌else◌}
 use Rattle.std.specs.Global.{Vec}
 use Rattle.std.specs.List.{list_any}
@@ -136,12 +136,12 @@ module _ {S : Type 0} (shelf : Ghosts S) where
   abbrev pub AnswersEvent : S → S → SeatCount → Event → OutcomeData → Type 0
   AnswersEvent old new seat event outcome = AnswersSomewhere shelf.standing shelf.failed old new seat event outcome
 
-  -- the requests of a client's list joined the history one after the other, each as an event of the seat
-  abbrev pub JoinsList : Chronicle → Chronicle → S → S → SeatCount → ℕ → ListForm → Vec Request → List OutcomeData → Type 0
-  JoinsList before after old new seat client form requests tolds =
-      RunsList shelf.standing shelf.failed before after old new seat.number client form requests.items tolds
+  -- where a client's list ran, its requests joined the history one after the other, each as an event of the seat
+  abbrev pub Runs : Chronicle → Chronicle → S → S → SeatCount → ℕ → ListForm → Vec Request → Result (List OutcomeData) Stop → Type 0
+  Runs before after old new seat client form requests result =
+      IfOk result (RunsList shelf.standing shelf.failed before after old new seat.number client form requests.items)
 
-  -- those before the one that was refused did, and this is what that leaves
-  abbrev pub RefusesInList : Chronicle → Chronicle → S → S → SeatCount → ℕ → ListForm → Vec Request → Stop → Type 0
-  RefusesInList before after old new seat client form requests stop =
-      StopsList shelf.standing shelf.failed before after old new seat.number client form requests.items stop
+  -- where it halted, those before the one that was refused did, and this is what that leaves
+  abbrev pub Halts : Chronicle → Chronicle → S → S → SeatCount → ℕ → ListForm → Vec Request → Result (List OutcomeData) Stop → Type 0
+  Halts before after old new seat client form requests result =
+      IfErr result (StopsList shelf.standing shelf.failed before after old new seat.number client form requests.items)

@@ -54,8 +54,8 @@ impl<L: Ledgers> Counted<L> {
     ghost use Rattle.partition.specs.Steps.{RefusesStep};
     ghost use Rattle.player_events.specs.Events.{is_line};
     ghost use Rattle.counted_player.specs.Counts.{any_plays, done_in, has_scan, song_at};
-    ghost use Rattle.counted_player.specs.Counts.{AnswersEvent, ArePlaces, Fails, IsCounted, IsFresh};
-    ghost use Rattle.counted_player.specs.Counts.{JoinsEvent, JoinsList, JoinsStep, RefusesInList};
+    ghost use Rattle.counted_player.specs.Counts.{AnswersEvent, ArePlaces, Fails, Halts, IsCounted, IsFresh};
+    ghost use Rattle.counted_player.specs.Counts.{JoinsEvent, JoinsStep, Runs};
     ghost use Rattle.counted_player.specs.Seats.{after_events};
 
     /// A player of which no seat made an event yet.
@@ -131,21 +131,19 @@ impl<L: Ledgers> Counted<L> {
         shelf: &mut S,
         client: u32,
         form: ListForm,
-        requests: Vec<Request>,
+        list: Vec<Request>,
     ) -> Result<ListOutcome, ListFault>
         ensures found { IsCounted seat.old self.old }
         ensures legal { IsPast self.old }
-        ensures ok { IfOk result
-            (JoinsList S.Shelf self.old self.new shelf.old shelf.new seat.old client form requests) }
-        ensures err { IfErr result
-            (RefusesInList S.Shelf self.old self.new shelf.old shelf.new seat.old client form requests) }
+        ensures ok { Runs S.Shelf self.old self.new shelf.old shelf.new seat.old client form list result }
+        ensures err { Halts S.Shelf self.old self.new shelf.old shelf.new seat.old client form list result }
         ensures books { self.new.present.shared.books ≡ self.old.present.shared.books }
         ensures made { seat.new ≡ after_events seat.old (done_in result) }
     {
         let Counted { partition, seats } = self;
         let _past = partition.history();
         seats.audit(seat);
-        let end = partition.run_list(seat.number(), shelf, client, form, requests);
+        let end = partition.run_list(seat.number(), shelf, client, form, list);
         seats.count(seat, done_of(&end) as u64);
         end
     }

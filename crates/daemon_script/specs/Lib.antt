@@ -6,3 +6,5 @@ pub mod Output
 pub mod Pieces
 pub mod Invariant
 pub mod Printing
+pub mod Players
+pub mod Scripts

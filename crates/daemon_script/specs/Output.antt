@@ -1,5 +1,5 @@
 -- What a whole run writes (this profile's script).
-use Rattle.std.specs.Prelude.{◌≡◌, ◌⊎◌, ℕ, ◌+◌, ◌-◌, ◌^◌, min, List, [], ◌∷◌, ◌++◌, map, codes, Option, Some, None, option_map}
+use Rattle.std.specs.Prelude.{◌≡◌, ◌⊎◌, ℕ, ◌+◌, ◌-◌, ◌^◌, min, List, [], ◌∷◌, ◌++◌, map, codes, Option, Some, None, option_map, IfSome, Result, IsErrOf, OnErr, OnOk}
 use Rattle.std.specs.Io.KnownBytes.{Appends, Consumes}
 use Rattle.counted_devices.specs.CallCounts.{HasFailed}
 use Rattle.counted_devices.specs.declared.call_counts.CallCounts.{CallCounts}
@@ -7,6 +7,8 @@ use Rattle.mpd_text.specs.Lines.Cut.{split}
 use Rattle.mpd_text.specs.Lines.Split.{line_of}
 use Rattle.partition.specs.Image.{Image}
 use Rattle.daemon_script.specs.declared.memory.Memory.{Memory}
+use Rattle.daemon_script.specs.declared.run.ScriptFault.{ScriptFault}
+use Rattle.daemon_script.specs.declared.run.ScriptFault.TheVariants.{ReadFault, WriteFault}
 use Rattle.daemon_script.specs.Kinds.{PlayerKind, Traced, Shelved, images, traces, seen}
 use Rattle.daemon_script.specs.Script.{ScriptData, shown_of, opening_script}
 
@@ -58,6 +60,24 @@ abbrev pub WritesFront : {P : Type 0} → PlayerKind P → Option (List ℕ) →
 WritesFront kind unread left old new =
     (read : List ℕ) × Consumes unread left read × (run : Run) × IsRunOf read run × AppendsFront old new (output_of kind read run)
 
+-- What a run writes to a device, by what it reads from another, where what is left to read and what was written are
+-- told so.
+module _ {P R W X : Type 0} (kind : PlayerKind P) (remaining : R → Option (List ℕ)) (contents : W → Option (List ℕ)) where
+  -- a run that succeeds shows what its input asks for
+  abbrev pub ShowsInput : R → W → W → Result X ScriptFault → Type 0
+  ShowsInput reader writer writer' result =
+      OnOk result (IfSome (remaining reader) (WritesOutput kind (contents writer) (contents writer')))
+
+  -- one that stops at a read fault shows all that was read
+  abbrev pub ShowsAll : R → R → W → W → Result X ScriptFault → Type 0
+  ShowsAll reader reader' writer writer' result =
+      IsErrOf result ReadFault → WritesAll kind (remaining reader) (remaining reader') (contents writer) (contents writer')
+
+  -- what one writes that stops at any fault is a front of what was to be shown
+  abbrev pub IsFront : R → R → W → W → Result X ScriptFault → Type 0
+  IsFront reader reader' writer writer' result =
+      OnErr result (WritesFront kind (remaining reader) (remaining reader') (contents writer) (contents writer'))
+
 -- the device was called 2 ^ 32 times since, by a count that stays at its greatest value
 abbrev pub CalledTooOften : CallCounts → CallCounts → Type 0
 CalledTooOften old new = new.calls ≡ min (old.calls + 2 ^ 32) (2 ^ 64 - 1)
@@ -65,6 +85,14 @@ CalledTooOften old new = new.calls ≡ min (old.calls + 2 ^ 32) (2 ^ 64 - 1)
 -- the device failed since, or was called 2 ^ 32 times
 abbrev pub FailedOrTooOften : CallCounts → CallCounts → Type 0
 FailedOrTooOften old new = HasFailed old new ⊎ CalledTooOften old new
+
+-- a read fault comes only where the input failed, or was called too often, and a write fault only where the output
+-- failed
+abbrev pub ReadFaultHasCause : {X : Type 0} → CallCounts → CallCounts → Result X ScriptFault → Type 0
+ReadFaultHasCause old new result = IsErrOf result ReadFault → FailedOrTooOften old new
+
+abbrev pub WriteFaultHasCause : {X : Type 0} → CallCounts → CallCounts → Result X ScriptFault → Type 0
+WriteFaultHasCause old new result = IsErrOf result WriteFault → HasFailed old new
 
 -- what commands read of a player's trace, beside the same shelf
 abbrev pub seen_beside : Shelved Traced → Shelved Image

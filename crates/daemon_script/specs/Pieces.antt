@@ -1,5 +1,6 @@
 -- What parts of a run print: a refused step, some lines, and the lines of a piece of the input.
-use Rattle.std.specs.Prelude.{◌≡◌, ℕ, ◌+◌, ◌<◌, List, ◌++◌, Option, None, Some, map}
+use Rattle.std.specs.Prelude.{◌≡◌, ℕ, ◌+◌, ◌<◌, List, ◌++◌, Option, None, Some, map, Result, OnOk}
+use Rattle.std.specs.Global.{Vec}
 use Rattle.mpd_text.specs.Lines.Cut.{split_from}
 use Rattle.mpd_text.specs.Lines.Split.{line_of}
 use Rattle.partition.specs.Image.{Image}
@@ -10,11 +11,12 @@ use Rattle.daemon_script.specs.declared.memory.Memory.{Memory}
 use Rattle.daemon_script.specs.declared.memory.Memory.TheVariants.{NoneToFold, NoneToRun}
 use Rattle.daemon_script.specs.Output.{Run, script_after, text_of, lines_in, ending}
 use Rattle.daemon_script.specs.Kinds.{images}
-use Rattle.daemon_script.specs.Script.{Found, Enough, NoneFold, NoneRun, ScriptData, ending_of, list_run}
+use Rattle.daemon_script.specs.Script.{Found, Enough, NoneFold, NoneRun, ScriptData, ending_of, list_run, refusal}
 use Rattle.command_lists.specs.declared.word.ListForm.{ListForm}
 use Rattle.mpd_command.specs.declared.request.Request.{Request}
 use Rattle.mpd_text.specs.Answers.Answer.{ack_line}
 use Rattle.player_events.specs.Outcomes.{OutcomeData}
+use Rattle.player_events.specs.declared.event.Event.{Event}
 use Rattle.partition.specs.Lists.{Stop, fault_text}
 
 -- what an event found of memory that was refused
@@ -24,7 +26,11 @@ found_by AtLimit = Enough
 found_by NoMemory = NoneRun
 found_by HistoryFull = NoneFold
 
--- the same of one that may have been refused
+-- an event of a player that found so much memory is refused for this
+abbrev pub IsRefusedFor : Shelved Image → Event → PartitionFault → Type 0
+IsRefusedFor player event fault = refusal images player event (found_by fault) ≡ Some fault
+
+-- what an event found of memory that may have been refused
 abbrev pub found_in : Option PartitionFault → Found
 found_in None = Enough
 found_in (Some fault) = found_by fault
@@ -50,6 +56,13 @@ pub record ShowsPiece (start : Option (List ℕ)) (piece : List ℕ) (old new : 
   pub are : lines_in run ≡ map line_of (split_from start piece).lines
   pub script : new ≡ script_after images old run
   pub text : after ≡ before ++ (text_of images old run ++ ending (split_from start piece).next)
+
+-- both of a call that succeeds, which appends the texts to what was shown
+abbrev pub PrintsLines : {E X : Type 0} → ScriptData (Shelved Image) → ScriptData (Shelved Image) → List (Option (List ℕ)) → Vec ℕ → Vec ℕ → Result X E → Type 0
+PrintsLines old new lines before after result = OnOk result (ShowsLines old new lines before.items after.items)
+
+abbrev pub PrintsPiece : {E X : Type 0} → Option (List ℕ) → List ℕ → ScriptData (Shelved Image) → ScriptData (Shelved Image) → Vec ℕ → Vec ℕ → Result X E → Type 0
+PrintsPiece start piece old new before after result = OnOk result (ShowsPiece start piece old new before.items after.items)
 
 -- a list ran whole, and these are its answers, whatever its answer ends in
 abbrev pub RunsWhole : Shelved Image → Shelved Image → ℕ → ListForm → List Request → List OutcomeData → Type 0

@@ -1,12 +1,15 @@
 -- What lines of a script leave and print, said of the code that runs them: `run` is what the definitions make
 -- of it, by what it found of memory (`M`).
-use Rattle.std.specs.Prelude.{◌≡◌, ◌++◌, ℕ, List, Option, None, unwrap_or}
+use Rattle.std.specs.Prelude.{◌≡◌, ◌++◌, ℕ, List, Option, None, is_none, unwrap_or, Result, IfOk}
 use Rattle.std.specs.Global.{Vec}
 use Rattle.command_lists.specs.declared.list.CommandList.{CommandList}
 use Rattle.daemon_script.specs.Kinds.{Shelved, images}
 use Rattle.daemon_script.specs.Pieces.{found_in}
 use Rattle.daemon_script.specs.Script.{LineRun, ScriptData, Shown, alone_run, asked_run, client_run, commands_run, connect_run, ending_of, event_line, found_first, found_then, line_run, lines_for, list_of, notices_by_number, notices_to, once_read, refusal, scan_result, shown_client, shown_of, shows_window, too_large_run, with_list}
 use Rattle.connected_clients.specs.declared.notices.Notice.{Notice}
+use Rattle.mpd_text.specs.declared.lines.splitter.Line.{Line}
+use Rattle.mpd_text.specs.Lines.Split.{view}
+use Rattle.song_db.specs.Library.{in_byte_order}
 use Rattle.partition.specs.Lists.{Stop, answers_of, stop_text}
 use Rattle.player_events.specs.Outcomes.{OutcomeData}
 use Rattle.std.specs.List.{flat_map}
@@ -48,6 +51,13 @@ module _ {M P : Type 0} where
   abbrev pub PrintsRun : (M → LineRun P) → Vec ℕ → Vec ℕ → M → Type 0
   PrintsRun run old new memory = Prints old new (run memory).text
 
+  -- the same of a call that succeeds
+  abbrev pub LeavesPlayerIfOk : {E : Type 0} → (M → LineRun P) → P → Result M E → Type 0
+  LeavesPlayerIfOk run player result = IfOk result (LeavesPlayer run player)
+
+  abbrev pub PrintsIfOk : {E : Type 0} → (M → LineRun P) → Vec ℕ → Vec ℕ → Result M E → Type 0
+  PrintsIfOk run old new result = IfOk result (PrintsRun run old new)
+
 -- the line of a client that is there
 abbrev pub run_line : CommandSet → Shelved Image → Option CommandList → ℕ → List ℕ → Memory → LineRun (Shelved Image)
 run_line set player list number line memory = line_run images set player list number line memory
@@ -57,8 +67,8 @@ abbrev pub run_list : CommandSet → Shelved Image → ℕ → CommandList → M
 run_list set player number commands memory = commands_run images set player number commands memory
 
 -- a line of a script
-abbrev pub run_shown : ScriptData (Shelved Image) → Option (List ℕ) → Memory → Shown (Shelved Image)
-run_shown script line memory = shown_of images script line memory
+abbrev pub run_shown : ScriptData (Shelved Image) → Line → Memory → Shown (Shelved Image)
+run_shown script line memory = shown_of images script (view line) memory
 
 -- the step that ends the scan
 abbrev pub run_scanned : ScriptData (Shelved Image) → Memory → Shown (Shelved Image)
@@ -88,10 +98,18 @@ run_of set player list number line ran = client_run images set player list numbe
 abbrev pub run_in : CommandSet → Shelved Image → List (Option CommandList) → ℕ → List ℕ → code_run.LineRun → LineRun (Shelved Image)
 run_in set player lists number line ran = run_of set player (list_of number lists) number line ran
 
+-- the lists of all clients are left as a client's line leaves its own
+abbrev pub LeavesAllLists : CommandSet → Shelved Image → ℕ → List ℕ → List (Option CommandList) → List (Option CommandList) → code_run.LineRun → Type 0
+LeavesAllLists set player number line old new ran = LeavesLists (run_in set player old number line) number old new ran
+
 -- the connect of a client that is not there, by what it found of memory where it was refused
 abbrev pub connecting : Shelved Image → ℕ → Option Memory → LineRun (Shelved Image)
 connecting player number refused =
     connect_run images player None number (refusal images player (Connect number) (found_first (unwrap_or refused Ample)))
+
+-- a connect was not refused just where the client is connected by it
+abbrev pub SaysIfConnected : Shelved Image → ℕ → Option Memory → Type 0
+SaysIfConnected player number refused = is_none refused ≡ (connecting player number refused).connected
 
 -- a client is closed for a list that is too large
 abbrev pub closing_list : Shelved Image → Option CommandList → ℕ → Memory → LineRun (Shelved Image)
@@ -132,3 +150,7 @@ IsRead memory = (script : ScriptData (Shelved Image)) (shown : Shown (Shelved Im
 -- a player to which nothing happened, with an empty shelf
 abbrev pub opened_player : Setup → Library → Shelved Image
 opened_player setup library = record { player = opening setup library; shelf = no_contents; window = 0; most = setup.limits.history }
+
+-- a player is opened over the songs that a script has collected, with its limits
+abbrev pub IsOpenedOver : ScriptData (Shelved Image) → Shelved Image → Type 0
+IsOpenedOver script player = player ≡ images.opens script.limits (in_byte_order script.songs)

@@ -1,8 +1,9 @@
 //! Client lines, and the lines that they print.
-ghost use Rattle.daemon_script.specs.Printing.{IsFoundByRefused, LeavesList, LeavesPlayer, PrintsRun};
+ghost use Rattle.daemon_script.specs.Printing.{IsFoundByRefused, LeavesList, LeavesPlayer};
+ghost use Rattle.daemon_script.specs.Printing.{LeavesPlayerIfOk, PrintsIfOk, PrintsRun, SaysIfConnected};
 ghost use Rattle.daemon_script.specs.Printing.{WasConnected, asking, closing_list, connecting, run_line};
 ghost use Rattle.daemon_script.specs.Printing.{run_alone, run_of};
-ghost use Rattle.std.specs.Prelude.{◌≡◌, ◌++◌, None, Some, is_none, false, IfOk, OnOk};
+ghost use Rattle.std.specs.Prelude.{◌≡◌, ◌++◌, None, Some, false, IfOk, OnOk};
 ghost use Rattle.daemon_script.specs.Pieces.{found_by, found_in};
 ghost use Rattle.daemon_script.specs.Script.{Enough, fault_for, found_first, found_then, label, client_run};
 ghost use Rattle.daemon_script.specs.Script.{lines_for, notice_lines, notices_for, reply_for, told_for};
@@ -39,8 +40,7 @@ pub(crate) fn run_line(
 ) -> Result<LineRun, AllocError>
     ensures player { IfOk result (LeavesPlayer (run_of set player.old list.old number line.now) player.new) }
     ensures list { IfOk result (LeavesList (run_of set player.old list.old number line.now) list.new) }
-    ensures text { IfOk result (PrintsRun (run_of set player.old list.old number line.now)
-        shown.old shown.new) }
+    ensures text { PrintsIfOk (run_of set player.old list.old number line.now) shown.old shown.new result }
     ensures connected { IfOk result (WasConnected (run_of set player.old list.old number line.now)) }
     // Where its client's connect is refused, an open list stays.
     ensures kept { IfOk result (λ ran. ran.connected ≡ false → list.new ≡ list.old) }
@@ -70,8 +70,7 @@ fn connect(
 ) -> Result<Option<Memory>, AllocError>
     ensures player { IfOk result (LeavesPlayer (connecting player.old number) player.new) }
     ensures text { IfOk result (PrintsRun (connecting player.old number) shown.old shown.new) }
-    ensures connected { IfOk result (λ refused. is_none refused
-        ≡ (connecting player.old number refused).connected) }
+    ensures connected { IfOk result (SaysIfConnected player.old number) }
 {
     match player.apply(Event::Connect(number)) {
         Ok(greeting) => {
@@ -106,11 +105,9 @@ fn run_connected_line(
     line: &str,
     shown: &mut Vec<u8>,
 ) -> Result<Memory, AllocError>
-    ensures player { IfOk result (LeavesPlayer (run_line set player.old list.old number line.now)
-        player.new) }
+    ensures player { LeavesPlayerIfOk (run_line set player.old list.old number line.now) player.new result }
     ensures list { IfOk result (LeavesList (run_line set player.old list.old number line.now) list.new) }
-    ensures text { IfOk result (PrintsRun (run_line set player.old list.old number line.now)
-        shown.old shown.new) }
+    ensures text { PrintsIfOk (run_line set player.old list.old number line.now) shown.old shown.new result }
     ensures connects { IfOk result (λ memory. found_first memory ≡ Enough) }
 {
     if list.is_too_large_with(Some(line)) {

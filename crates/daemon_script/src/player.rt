@@ -1,8 +1,8 @@
 //! A script's player: a partition, and the shelf in memory that it is lent at each event.
-ghost use Rattle.std.specs.Prelude.{◌≡◌, ◌≤◌, ◌<◌, None, Some, IfErr, IfOk, OnOk};
+ghost use Rattle.std.specs.Prelude.{◌≡◌, ◌≤◌, ◌<◌, None, IfErr, IfOk, OnOk};
 ghost use Rattle.daemon_script.specs.Kinds.{images};
 ghost use Rattle.daemon_script.specs.Printing.{opened_player};
-ghost use Rattle.daemon_script.specs.Pieces.{RunsWhole, StopsWhole, found_by};
+ghost use Rattle.daemon_script.specs.Pieces.{IsRefusedFor, RunsWhole, StopsWhole};
 ghost use Rattle.daemon_script.specs.Script.{Enough, refusal};
 
 use command_lists::ListForm;
@@ -35,10 +35,9 @@ impl Drop for Player {
 }
 
 impl Model for Player {
-    ghost use Rattle.std.specs.Prelude.{length};
     ghost use Rattle.partition.specs.Image.{Image};
-    ghost use Rattle.daemon_script.specs.Contents.{contents_of};
     ghost use Rattle.daemon_script.specs.Kinds.{Shelved};
+    ghost use Rattle.daemon_script.specs.Players.{shelved_of};
 
     ghost Value = { Shelved Image };
 
@@ -48,12 +47,7 @@ impl Model for Player {
 
     ghost coded = { Prim.hlevel (codes, finite.code) };
 
-    ghost view = { λ p. record {
-      player = p.partition.present;
-      shelf = contents_of p.shelf;
-      window = length p.partition.window;
-      most = p.partition.limit;
-    } };
+    ghost view = { shelved_of };
 }
 
 impl Player {
@@ -90,8 +84,7 @@ impl Player {
         ensures player { OnOk result (self.new ≡ images.after self.old event) }
         ensures left { IfErr result (λ fault. self.new ≡ images.left self.old fault) }
         ensures within { OnOk result (refusal images self.old event Enough ≡ None) }
-        ensures refused { IfErr result (λ fault.
-            refusal images self.old event (found_by fault) ≡ Some fault) }
+        ensures refused { IfErr result (IsRefusedFor self.old event) }
     {
         self.partition.apply(SEAT, &mut self.shelf, event)
     }

@@ -1,14 +1,14 @@
 //! Whole runs of a script.
-ghost use Rattle.std.specs.Prelude.{◌≡◌, ◌≤◌, ◌+◌, ◌^◌, OnOk, OnErr, IfErr, IfSome};
-ghost use Rattle.std.specs.Prelude.{IsErrOf, IsSome, Some, []};
+ghost use Rattle.std.specs.Prelude.{◌≡◌, ◌≤◌, ◌+◌, ◌^◌, OnOk, OnErr, IfErr};
+ghost use Rattle.std.specs.Prelude.{IsSome, Some, []};
 ghost use Rattle.std.specs.Io.KnownBytes.{Appends};
 ghost use Rattle.mpd_text.specs.Lines.Cut.{split_from};
 ghost use Rattle.counted_devices.specs.CallCounts.{HasFailed, NoFewer};
 ghost use Rattle.mpd_text.specs.Lines.Split.{views};
 ghost use Rattle.daemon_script.specs.Kinds.{images, traces};
-ghost use Rattle.daemon_script.specs.Output.{WritesOutput, WritesAll, WritesFront, AppendsFront};
-ghost use Rattle.daemon_script.specs.Output.{FailedOrTooOften};
-ghost use Rattle.daemon_script.specs.Pieces.{ShowsLines, ShowsPiece};
+ghost use Rattle.daemon_script.specs.Output.{AppendsFront, IsFront, ReadFaultHasCause, ShowsAll};
+ghost use Rattle.daemon_script.specs.Output.{ShowsInput, WriteFaultHasCause};
+ghost use Rattle.daemon_script.specs.Pieces.{PrintsLines, PrintsPiece};
 ghost use Rattle.daemon_script.specs.Script.{opening_script};
 
 use crate::laws::runs_are_traced;
@@ -58,19 +58,14 @@ pub fn run_script<R: Source, W: Sink>(
     writer: &mut W,
 ) -> Result<(), ScriptFault>
     // What is written is the output for the input, by what its lines found of memory.
-    ensures ok { OnOk result (IfSome (R.remaining reader.old)
-        (WritesOutput traces (W.contents writer.old) (W.contents writer.new))) }
+    ensures ok { ShowsInput traces R.remaining W.contents reader.old writer.old writer.new result }
     // After a read fault it is the whole output for what was read, and else a front of it.
-    ensures read { IsErrOf result ScriptFault.ReadFault → WritesAll traces
-        (R.remaining reader.old) (R.remaining reader.new) (W.contents writer.old) (W.contents writer.new) }
-    ensures front { OnErr result (WritesFront traces
-        (R.remaining reader.old) (R.remaining reader.new) (W.contents writer.old) (W.contents writer.new)) }
+    ensures read { ShowsAll traces R.remaining W.contents reader.old reader.new writer.old writer.new result }
+    ensures front { IsFront traces R.remaining W.contents reader.old reader.new writer.old writer.new result }
     // A fault of a device comes only where it failed, or was read 2 ^ 32 times.
-    ensures read_fault { IsErrOf result ScriptFault.ReadFault
-        → FailedOrTooOften (R.call_counts reader.old) (R.call_counts reader.new) }
+    ensures read_fault { ReadFaultHasCause (R.call_counts reader.old) (R.call_counts reader.new) result }
     ensures few_calls { (R.call_counts reader.new).calls ≤ (R.call_counts reader.old).calls + 2 ^ 32 }
-    ensures write_fault { IsErrOf result ScriptFault.WriteFault
-        → HasFailed (W.call_counts writer.old) (W.call_counts writer.new) }
+    ensures write_fault { WriteFaultHasCause (W.call_counts writer.old) (W.call_counts writer.new) result }
 {
     runs_are_traced();
     let mut splitter = Splitter::new(alloc);
@@ -88,17 +83,12 @@ fn run_pieces<R: Source, W: Sink>(
 ) -> Result<(), ScriptFault>
     requires splitter { splitter.old ≡ Some [] }
     requires script { script.old ≡ opening_script }
-    ensures ok { OnOk result (IfSome (R.remaining reader.old)
-        (WritesOutput images (W.contents writer.old) (W.contents writer.new))) }
-    ensures read { IsErrOf result ScriptFault.ReadFault → WritesAll images
-        (R.remaining reader.old) (R.remaining reader.new) (W.contents writer.old) (W.contents writer.new) }
-    ensures front { OnErr result (WritesFront images
-        (R.remaining reader.old) (R.remaining reader.new) (W.contents writer.old) (W.contents writer.new)) }
-    ensures read_fault { IsErrOf result ScriptFault.ReadFault
-        → FailedOrTooOften (R.call_counts reader.old) (R.call_counts reader.new) }
+    ensures ok { ShowsInput images R.remaining W.contents reader.old writer.old writer.new result }
+    ensures read { ShowsAll images R.remaining W.contents reader.old reader.new writer.old writer.new result }
+    ensures front { IsFront images R.remaining W.contents reader.old reader.new writer.old writer.new result }
+    ensures read_fault { ReadFaultHasCause (R.call_counts reader.old) (R.call_counts reader.new) result }
     ensures few_calls { (R.call_counts reader.new).calls ≤ (R.call_counts reader.old).calls + 2 ^ 32 }
-    ensures write_fault { IsErrOf result ScriptFault.WriteFault
-        → HasFailed (W.call_counts writer.old) (W.call_counts writer.new) }
+    ensures write_fault { WriteFaultHasCause (W.call_counts writer.old) (W.call_counts writer.new) result }
 {
     any_cut();
     let mut shown = Vec::new(alloc);
@@ -129,8 +119,7 @@ fn show_piece(
     shown: &mut Vec<u8>,
 ) -> Result<(), ScriptFault>
     requires { IsSome splitter.old }
-    ensures shows { OnOk result (ShowsPiece splitter.old piece.now
-        script.old script.new shown.old.items shown.new.items) }
+    ensures shows { PrintsPiece splitter.old piece.now script.old script.new shown.old shown.new result }
     ensures next { OnOk result (splitter.new ≡ (split_from splitter.old piece.now).next) }
     ensures fault { IfErr result (λ fault. fault ≡ ScriptFault.NoMemory) }
 {
@@ -146,8 +135,7 @@ fn show_piece(
 
 /// Runs lines one after the other, and appends what they print.
 fn show_lines(script: &mut Script, lines: &[Line], shown: &mut Vec<u8>) -> Result<(), AllocError>
-    ensures { OnOk result (ShowsLines script.old script.new (views lines.now)
-        shown.old.items shown.new.items) }
+    ensures { PrintsLines script.old script.new (views lines.now) shown.old shown.new result }
 {
     for line in lines {
         script.show(line, shown)?;

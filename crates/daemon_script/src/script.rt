@@ -1,10 +1,10 @@
 //! A script: what it collects, and its player.
-ghost use Rattle.daemon_script.specs.Printing.{IsRead, Leaves, LeavesLists, LeavesPlayer, Prints, PrintsBy};
-ghost use Rattle.daemon_script.specs.Printing.{PrintsRun, WasConnected, run_client, run_first, run_in};
+ghost use Rattle.daemon_script.specs.Printing.{IsOpenedOver, IsRead, Leaves, LeavesAllLists, LeavesPlayer};
+ghost use Rattle.daemon_script.specs.Printing.{Prints, PrintsBy, PrintsIfOk, WasConnected, run_client};
+ghost use Rattle.daemon_script.specs.Printing.{run_first, run_in};
 ghost use Rattle.daemon_script.specs.Printing.{run_scanned, run_shown, run_window};
 ghost use Rattle.std.specs.Prelude.{◌≡◌, ◌<◌, ◌≤◌, ◌++◌, length, false, codes, None};
 ghost use Rattle.std.specs.Prelude.{Some, IfOk, OnOk, if◌then◌else◌};
-ghost use Rattle.mpd_text.specs.Lines.Split.{view as view_of_line};
 ghost use Rattle.song_db.specs.Library.{in_byte_order, is_twice_named};
 ghost use Rattle.daemon_script.specs.Kinds.{Shelved, images, one_output as one_output_lem};
 ghost use Rattle.partition.specs.Image.{Image};
@@ -64,6 +64,7 @@ impl Model for Script {
     ghost use Rattle.partition.specs.Image.{Image};
     ghost use Rattle.daemon_script.specs.Kinds.{Shelved};
     ghost use Rattle.daemon_script.specs.Script.{ScriptData};
+    ghost use Rattle.daemon_script.specs.Scripts.{script_of};
     ghost use Rattle.daemon_script.specs.Invariant.{IsScript};
 
     ghost Value = { ScriptData (Shelved Image) };
@@ -74,13 +75,7 @@ impl Model for Script {
 
     ghost coded = { Prim.hlevel (codes, finite.code) };
 
-    ghost view = { λ s. record {
-      limits = s.limits;
-      commands = s.commands;
-      songs = s.songs.items;
-      lists = s.lists;
-      player = s.player;
-    } };
+    ghost view = { script_of };
 
     ghost invariant = { λ s. IsScript s.limits s.songs.items };
 }
@@ -109,9 +104,8 @@ impl Script {
     /// Runs a line, and appends what it prints. An `Err` says that there was no room to append.
     #[tactic(auto, unfolding(crate::specs::Script::shown_of))]
     pub(crate) fn show(&mut self, line: &Line, shown: &mut Vec<u8>) -> Result<Memory, AllocError>
-        ensures script { IfOk result (Leaves (run_shown self.old (view_of_line line.now)) self.new) }
-        ensures text { IfOk result (PrintsBy (run_shown self.old (view_of_line line.now))
-            shown.old shown.new) }
+        ensures script { IfOk result (Leaves (run_shown self.old line.now) self.new) }
+        ensures text { IfOk result (PrintsBy (run_shown self.old line.now) shown.old shown.new) }
     {
         let Line::Text(text) = line else {
             return push_bad(shown);
@@ -332,8 +326,7 @@ impl Script {
 
     /// A player over the songs so far.
     fn opened(&self) -> Result<Player, AllocError>
-        ensures { IfOk result (λ player. player
-            ≡ images.opens self.now.limits (in_byte_order self.now.songs)) }
+        ensures { IfOk result (IsOpenedOver self.now) }
     {
         let library = Library {
             songs: collected(self.alloc, &self.songs)?,
@@ -396,10 +389,8 @@ fn run_listed_line(
 ) -> Result<LineRun, AllocError>
     requires { number < 10 }
     ensures player { IfOk result (LeavesPlayer (run_in set player.old lists.old number line.now) player.new) }
-    ensures lists { IfOk result (LeavesLists (run_in set player.old lists.old number line.now)
-        number lists.old lists.new) }
-    ensures text { IfOk result (PrintsRun (run_in set player.old lists.old number line.now)
-        shown.old shown.new) }
+    ensures lists { IfOk result (LeavesAllLists set player.old number line.now lists.old lists.new) }
+    ensures text { PrintsIfOk (run_in set player.old lists.old number line.now) shown.old shown.new result }
     ensures connected { IfOk result (WasConnected (run_in set player.old lists.old number line.now)) }
     ensures kept { IfOk result (λ ran. ran.connected ≡ false → lists.new ≡ lists.old) }
 {

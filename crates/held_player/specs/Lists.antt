@@ -1,5 +1,5 @@
 -- Command lists under one taking of the lock.
-use Rattle.std.specs.Prelude.{ℕ, ◌≡◌, ◌⊎◌, List, [], ◌++◌, Option, map, slice_index_or}
+use Rattle.std.specs.Prelude.{ℕ, ◌≡◌, ◌⊎◌, List, [], ◌++◌, Option, Result, IfErr, IfOk, map, slice_index_or}
 use Rattle.std.specs.Global.{Vec}
 use Rattle.std.specs.List.{flat_map}
 use Rattle.command_lists.specs.declared.word.ListForm.{ListForm}
@@ -83,12 +83,12 @@ module _ {S : Type 0} (shelf : Ghosts S) where
   StopsAmid old new seat client form requests stop =
       StopsIn shelf.standing shelf.failed old new seat client form requests stop
 
-  -- the commands of a client's list joined the history, and this is what it is handed
-  abbrev pub JoinsAll : View → View → S → S → SeatCount → ℕ → ListForm → Vec Request → HandedList → Type 0
-  JoinsAll before after old new seat client form requests handed =
-      RunsList shelf.standing shelf.failed before.player after.player old new seat.number client form requests.items handed.tolds
+  -- where a client's list ran, its commands joined the history, and this is what the client is handed
+  abbrev pub Runs : View → View → S → S → SeatCount → ℕ → ListForm → Vec Request → Result HandedList Stop → Type 0
+  Runs before after old new seat client form requests result = IfOk result
+      (λ handed. RunsList shelf.standing shelf.failed before.player after.player old new seat.number client form requests.items handed.tolds)
 
-  -- those before the one that was refused did, or the list stopped before it was begun
-  abbrev pub JoinsSome : View → View → S → S → SeatCount → ℕ → ListForm → Vec Request → Stop → Type 0
-  JoinsSome before after old new seat client form requests stop =
-      StopsHere shelf.standing shelf.failed before.player after.player old new seat.number client form requests.items stop
+  -- where it halted, those before the one that was refused did, or it stopped before it was begun
+  abbrev pub Halts : View → View → S → S → SeatCount → ℕ → ListForm → Vec Request → Result HandedList Stop → Type 0
+  Halts before after old new seat client form requests result = IfErr result
+      (StopsHere shelf.standing shelf.failed before.player after.player old new seat.number client form requests.items)

@@ -68,14 +68,14 @@ module _ {S : Type 0} (shelf : Ghosts S) {L : Type 0} where
       (Stops shelf.standing shelf.failed before.counted after.counted old new seat.number (line_of client request))
 
   -- a command list ran
-  abbrev pub RunsHere : Core L → Core L → S → S → SeatCount → ℕ → ListForm → Vec Request → List OutcomeData → Type 0
-  RunsHere before after old new seat client form requests tolds =
-      RunsList shelf.standing shelf.failed before.counted after.counted old new seat.number client form requests.items tolds
+  abbrev pub Runs : Core L → Core L → S → S → SeatCount → ℕ → ListForm → Vec Request → Result (List OutcomeData) Stop → Type 0
+  Runs before after old new seat client form requests result = IfOk result
+      (RunsList shelf.standing shelf.failed before.counted after.counted old new seat.number client form requests.items)
 
-  -- it stopped at one of its commands, or before the first
-  abbrev pub StopsAtOne : Core L → Core L → S → S → SeatCount → ℕ → ListForm → Vec Request → Stop → Type 0
-  StopsAtOne before after old new seat client form requests stop =
-      StopsHere shelf.standing shelf.failed before.counted after.counted old new seat.number client form requests.items stop
+  -- it halted at one of its commands, or before the first
+  abbrev pub Halts : Core L → Core L → S → S → SeatCount → ℕ → ListForm → Vec Request → Result (List OutcomeData) Stop → Type 0
+  Halts before after old new seat client form requests result = IfErr result
+      (StopsHere shelf.standing shelf.failed before.counted after.counted old new seat.number client form requests.items)
 
 -- nothing was written to the lent shelf
 abbrev pub LeavesShelf : {S : Type 0} → Ghosts S → S → S → Type 0

@@ -13,7 +13,7 @@ impl<L: Ledgers> Held<L> {
     ghost use Rattle.held_player.specs.Views.{KeepsBooks};
     ghost use Rattle.std.specs.Prelude.{◌≡◌, length, IfErr, IfOk, IfSome};
     ghost use Rattle.partition.specs.Legal.{IsPast};
-    ghost use Rattle.held_player.specs.Lists.{HandsAll, JoinsAll, JoinsSome, StopsAmid};
+    ghost use Rattle.held_player.specs.Lists.{Halts, HandsAll, Runs, StopsAmid};
     ghost use Rattle.held_player.specs.Lists.{WaitAfterList, WaitAfterStop};
     ghost use Rattle.counted_player.specs.Seats.{after_events};
     ghost use Rattle.counted_player.specs.Counts.{IsCounted};
@@ -32,14 +32,12 @@ impl<L: Ledgers> Held<L> {
         shelf: &mut S,
         client: u32,
         form: ListForm,
-        requests: Vec<Request>,
+        list: Vec<Request>,
     ) -> Result<AnsweredList, ListFault>
         ensures found { IsCounted seat.old self.old.player }
         ensures legal { IsPast self.old.player }
-        ensures ok { IfOk result
-            (JoinsAll S.Shelf self.old self.new shelf.old shelf.new seat.old client form requests) }
-        ensures err { IfErr result
-            (JoinsSome S.Shelf self.old self.new shelf.old shelf.new seat.old client form requests) }
+        ensures ok { Runs S.Shelf self.old self.new shelf.old shelf.new seat.old client form list result }
+        ensures err { Halts S.Shelf self.old self.new shelf.old shelf.new seat.old client form list result }
         ensures front { IfOk result (λ a. a.front ≡ first_for client self.old.waiting) }
         ensures own { IfOk result (λ a. IfSome a.front (λ notice. notice.client ≡ client)) }
         ensures waiting { IfOk result (WaitAfterList client self.old.waiting self.new.waiting) }
@@ -47,11 +45,11 @@ impl<L: Ledgers> Held<L> {
         ensures made { IfOk result (λ a. seat.new ≡ after_events seat.old (length a.tolds)) }
         ensures done { IfErr result (λ stop. seat.new ≡ after_events seat.old stop.done) }
         ensures books { KeepsBooks self.old self.new }
-        ensures somewhere { IfOk result (HandsAll S.Shelf shelf.old shelf.new seat.old client form requests) }
-        ensures stopped { IfErr result (StopsAmid S.Shelf shelf.old shelf.new seat.old client form requests) }
+        ensures somewhere { IfOk result (HandsAll S.Shelf shelf.old shelf.new seat.old client form list) }
+        ensures stopped { IfErr result (StopsAmid S.Shelf shelf.old shelf.new seat.old client form list) }
     {
         let core = &mut self.core;
-        let end = core.run_list(self.alloc, seat, shelf, client, form, requests);
+        let end = core.run_list(self.alloc, seat, shelf, client, form, list);
         note_change(&mut core.changes, &mut core.seen, &core.counted, false);
         match end {
             Ok(outcome) => {

@@ -3,7 +3,7 @@ ghost use Rattle.std.specs.Prelude.{◌≡◌, [], IfErr, IfOk, map, slice_index
 ghost use Rattle.counted_player.specs.Counts.{MayFind, done_in};
 ghost use Rattle.counted_player.specs.Seats.{after_events};
 ghost use Rattle.held_player.specs.Lists.{StopsAmid, TellsAll, notices_in, unbegun as unbegun_lem};
-ghost use Rattle.held_player.specs.Player.{KeepsFrames, RunsHere, StopsAtOne};
+ghost use Rattle.held_player.specs.Player.{Halts, KeepsFrames, Runs};
 ghost use Rattle.held_player.specs.Waiting.{HasRoomFor};
 
 use crate::player::Core;
@@ -24,25 +24,23 @@ impl<L: Ledgers> Core<L> {
         shelf: &mut S,
         client: u32,
         form: ListForm,
-        requests: Vec<Request>,
+        list: Vec<Request>,
     ) -> Result<ListOutcome, ListFault>
         ensures found { MayFind seat.old self.old.counted }
-        ensures ok { IfOk result
-            (RunsHere S.Shelf self.old self.new shelf.old shelf.new seat.old client form requests) }
-        ensures err { IfErr result
-            (StopsAtOne S.Shelf self.old self.new shelf.old shelf.new seat.old client form requests) }
+        ensures ok { Runs S.Shelf self.old self.new shelf.old shelf.new seat.old client form list result }
+        ensures err { Halts S.Shelf self.old self.new shelf.old shelf.new seat.old client form list result }
         ensures made { seat.new ≡ after_events seat.old (done_in result) }
         ensures books { KeepsFrames self.old.counted self.new.counted }
         ensures waiting { self.new.waiting.items ≡ self.old.waiting.items }
         ensures room { IfOk result (λ tolds. HasRoomFor self.new.waiting (notices_in tolds)) }
         ensures room_then { IfErr result (λ stop. HasRoomFor self.new.waiting (notices_in stop.tolds)) }
-        ensures somewhere { IfOk result (TellsAll S.Shelf shelf.old shelf.new seat.old client form requests) }
-        ensures stopped { IfErr result (StopsAmid S.Shelf shelf.old shelf.new seat.old client form requests) }
+        ensures somewhere { IfOk result (TellsAll S.Shelf shelf.old shelf.new seat.old client form list) }
+        ensures stopped { IfErr result (StopsAmid S.Shelf shelf.old shelf.new seat.old client form list) }
     {
         if self.begin(seat).is_err() {
-            return Err(unbegun(alloc, &requests));
+            return Err(unbegun(alloc, &list));
         }
-        self.counted.run_list(seat, shelf, client, form, requests)
+        self.counted.run_list(seat, shelf, client, form, list)
     }
 }
 

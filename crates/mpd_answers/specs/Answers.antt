@@ -25,6 +25,7 @@ use Rattle.partition.specs.declared.partition.PartitionFault.TheVariants.{NoMemo
 use Rattle.shelf.specs.Calls.{Call}
 use Rattle.shelf.specs.Maps.{Standing}
 use Rattle.mpd_answers.specs.declared.asker.Asker.{Asker}
+use Rattle.mpd_answers.specs.Output.{OutputsJoinOver}
 use Rattle.mpd_answers.specs.Requests.{Asking, Single, Whole}
 
 -- what a session is lent: a seat with its count, and a shelf
@@ -123,3 +124,13 @@ at_uptime asker uptime = record asker { commands = record asker.commands { uptim
 abbrev pub AnswersSometime : {S : Type 0} → (S → Standing) → (S → S → Call → Type 0) → Asker → Caller S → Asking → List ℕ → Next → Caller S → Type 0
 AnswersSometime standing failed asker before one text next after =
     (uptime : Option ℕ) × Answers standing failed (at_uptime asker uptime) before one text next after
+
+-- What turns write one after the other is written over many turns: where no time passes, and where it does,
+-- so that `stats` shows another number of seconds.
+module _ {S : Type 0} (standing : S → Standing) (failed : S → S → Call → Type 0) where
+  abbrev pub OutputsJoinTimeless : Type 0
+  OutputsJoinTimeless = (asker : Asker) → OutputsJoinOver (Answers standing failed asker) (Answers standing failed asker) HasGrown
+
+  abbrev pub OutputsJoinSometime : Type 0
+  OutputsJoinSometime = (asker : Asker) (uptime : Option ℕ)
+      → OutputsJoinOver (Answers standing failed (at_uptime asker uptime)) (AnswersSometime standing failed asker) HasGrown

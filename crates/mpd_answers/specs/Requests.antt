@@ -1,11 +1,12 @@
 -- What a client asks for by its lines (MPD protocol reference, Requests and Command lists).
-use Rattle.std.specs.Prelude.{◌≡◌, Bool, false, true, List, [], ◌∷◌, ◌++◌, Option, Some, None}
+use Rattle.std.specs.Prelude.{◌≡◌, ◌⊎◌, ◌+◌, Bool, false, true, List, [], ◌∷◌, ◌++◌, length, Option, Some, None}
 use Rattle.command_lists.specs.Grammar.{BeginsNone, IsOpen, IsPart, Whole as WholePart, Dropped}
 use Rattle.command_lists.specs.Lists.{LineData, is_too_large, outcome_of}
 use Rattle.command_lists.specs.declared.collector.Taken.{Taken}
 use Rattle.command_lists.specs.declared.collector.Taken.TheVariants.{Alone, Begun, Collected, Ended, TooLarge}
 use Rattle.command_lists.specs.declared.list.CommandList.{CommandList}
-use Rattle.mpd_text.specs.Lines.Split.{view}
+use Rattle.mpd_text.specs.Lines.Split.{view, views}
+use Rattle.mpd_text.specs.declared.lines.splitter.Line.{Line}
 use Rattle.mpd_answers.specs.declared.gatherer.ClientRequest.{ClientRequest}
 use Rattle.mpd_answers.specs.declared.gatherer.ClientRequest.TheVariants.{Single as OneLine, Whole as OneList}
 
@@ -95,8 +96,13 @@ abbrev pub Takes : ListState → List LineData → Option ClientRequest → List
 Takes old [] asked new left = Unit {0}
 Takes old (line ∷ lines) asked new left = (left ≡ lines) × (gather_line old line ≡ record { asked = askings_of asked; list = new })
 
-abbrev pub TakesFirst : ListState → List LineData → ListState → List LineData → Option ClientRequest → Type 0
-TakesFirst old lines new left asked = Takes old lines asked new left
+-- the same of the lines that a caller has
+abbrev pub TakesFirst : ListState → List Line → ListState → List Line → Option ClientRequest → Type 0
+TakesFirst old lines new left asked = Takes old (views lines) asked new (views left)
+
+-- one line less waits, or none did
+abbrev pub HasOneLess : List Line → List Line → Type 0
+HasOneLess lines left = (length left + 1 ≡ length lines) ⊎ (lines ≡ [])
 
 abbrev pub is_over : ListState → Bool
 is_over (Within list) = false

@@ -37,10 +37,8 @@ impl Model for Gatherer {
 }
 
 impl Gatherer {
-    ghost use Rattle.std.specs.Prelude.{◌≡◌, ◌+◌, ◌⊎◌, [], None, false};
-    ghost use Rattle.std.specs.Prelude.{IfOk, IfSome, OnErr, OnOk, length};
-    ghost use Rattle.mpd_text.specs.Lines.Split.{views};
-    ghost use Rattle.mpd_answers.specs.Requests.{Within, TakesFirst, is_over as is_over_in};
+    ghost use Rattle.std.specs.Prelude.{◌≡◌, None, false, IfOk, IfSome, OnErr, OnOk};
+    ghost use Rattle.mpd_answers.specs.Requests.{HasOneLess, TakesFirst, Within, is_over as is_over_in};
 
     /// A gatherer to which no line came.
     pub fn new() -> Gatherer
@@ -65,10 +63,8 @@ impl Gatherer {
         alloc: Global,
         lines: &mut VecDeque<Line>,
     ) -> Result<Option<ClientRequest>, AllocError>
-        ensures ok { IfOk result
-            (TakesFirst self.old (views lines.old.items) self.new (views lines.new.items)) }
-        ensures shorter { OnOk result
-            (length lines.new.items + 1 ≡ length lines.old.items ⊎ (lines.old.items ≡ [])) }
+        ensures ok { IfOk result (TakesFirst self.old lines.old.items self.new lines.new.items) }
+        ensures shorter { OnOk result (HasOneLess lines.old.items lines.new.items) }
         ensures open { IfOk result (λ asked. IfSome asked (λ _. is_over_in self.new ≡ false)) }
         ensures err { OnErr result ((self.new ≡ self.old) × (lines.new.items ≡ lines.old.items)) }
     {

@@ -1,8 +1,7 @@
 //! Laws of what is asked, and of what may be written for it. A caller that calls one may use it; each does
 //! nothing.
-ghost use Rattle.std.specs.Prelude.{ℕ, Option};
-ghost use Rattle.mpd_answers.specs.Answers.{Answers, AnswersSometime, HasGrown, at_uptime};
-ghost use Rattle.mpd_answers.specs.Output.{OutputsJoin, OutputsJoinOver};
+ghost use Rattle.mpd_answers.specs.Answers.{Answers, OutputsJoinSometime, OutputsJoinTimeless};
+ghost use Rattle.mpd_answers.specs.Output.{OutputsJoin};
 ghost use Rattle.mpd_answers.specs.Requests.{LinesAskFor, LinesInAnyCut};
 ghost use Rattle.mpd_answers.specs.declared.asker.Asker.{Asker};
 
@@ -28,8 +27,6 @@ pub fn outputs_join<S: Shelf>()
 /// What turns write one after the other is written over many turns, whoever is served between them; also where time
 /// passes, so that `stats` shows another number of seconds.
 pub fn outputs_join_over<S: Shelf>()
-    ensures timeless { (asker : Asker) → OutputsJoinOver
-        (Answers S.standing S.failed asker) (Answers S.standing S.failed asker) HasGrown }
-    ensures sometime { (asker : Asker) (uptime : Option ℕ) → OutputsJoinOver
-        (Answers S.standing S.failed (at_uptime asker uptime)) (AnswersSometime S.standing S.failed asker) HasGrown }
+    ensures timeless { OutputsJoinTimeless S.standing S.failed }
+    ensures sometime { OutputsJoinSometime S.standing S.failed }
 {}

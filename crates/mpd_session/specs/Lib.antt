@@ -1,3 +1,4 @@
+pub mod Conversations
 pub mod Devices
 pub mod Ends
 pub mod Sessions

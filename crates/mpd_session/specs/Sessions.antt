@@ -15,7 +15,7 @@ use Rattle.mpd_session.specs.declared.end.End.{End}
 use Rattle.mpd_session.specs.declared.end.End.TheVariants.{Left, Killed, LongLine, LargeList, Unsent, NoPeer, ReadFault, WriteFault}
 use Rattle.mpd_session.specs.declared.end.SessionFault.{SessionFault}
 use Rattle.mpd_session.specs.declared.end.SessionFault.TheVariants.{NoMemory}
-use Rattle.mpd_session.specs.Devices.{WritesOut}
+use Rattle.mpd_session.specs.Devices.{EndsByReader, WritesOut}
 use Rattle.mpd_answers.specs.Notices.{AreNotices}
 use Rattle.mpd_answers.specs.Output.{IsOutput, IsLastOutput}
 use Rattle.mpd_answers.specs.Owing.{is_nothing, owed_bytes}
@@ -109,8 +109,9 @@ HasPiece c = c.piece.items ≢ []
 abbrev pub IsShort : SessionData → CallCounts → CallCounts → Type 0
 IsShort s reader reader' = HasMore s ⊎ (reader' ≡ reader)
 
-abbrev pub StopsShort : Conversation → CallCounts → CallCounts → Type 0
-StopsShort c reader reader' = IsShort (session_of c) reader reader'
+-- the same of a conversation, where a reader's calls are counted so
+abbrev pub StopsShort : {I : Type 0} → (I → CallCounts) → Conversation → I → I → Type 0
+StopsShort counts c reader reader' = IsShort (session_of c) (counts reader) (counts reader')
 
 -- what was written and what is not grow by the output, and bytes go from the second to the first
 abbrev pub Grows : Option (List ℕ) → List ℕ → Option (List ℕ) → List ℕ → List ℕ → Type 0
@@ -194,6 +195,21 @@ module _ {P : Type 0} (Answers : P → Asking → List ℕ → Next → P → Ty
 -- A turn of a closed session: nothing is read, run or said.
 abbrev pub StaysClosed : Held → Option (List ℕ) → Held → Option (List ℕ) → Type 0
 StaysClosed old written new written' = (new.pending ≡ old.pending) × (new.ended ≡ old.ended) × Grows written old.unsent written' new.unsent []
+
+-- the same of a session, where it was closed; the bytes that a writer has taken are told so
+abbrev pub StaysIfClosed : {O : Type 0} → (O → Option (List ℕ)) → SessionData → SessionData → O → O → Type 0
+StaysIfClosed contents old new writer writer' =
+    old.held.ended ≢ None → StaysClosed old.held (contents writer) new.held (contents writer')
+
+-- a turn of a closed session writes all that there is, as far as its writer goes, whose calls are counted so
+abbrev pub WritesAllIfClosed : {O : Type 0} → (O → CallCounts) → SessionData → SessionData → O → O → Type 0
+WritesAllIfClosed counts old new writer writer' = old.held.ended ≢ None → WritesAll new (counts writer) (counts writer')
+
+-- a turn of an open session leaves it as its reader did, whose calls are counted so: ended by a fault of it, or by the
+-- peer, or by neither
+abbrev pub EndsByItsReader : {I : Type 0} → (I → CallCounts) → SessionData → SessionData → I → I → Type 0
+EndsByItsReader counts old new reader reader' =
+    old.held.ended ≡ None → EndsByReader new.held.ended (counts reader) (counts reader')
 
 -- An open session that passed no limit: no line came that is too long, no list that is too large, and no more
 -- than 16 MiB are not written.
@@ -287,10 +303,10 @@ abbrev pub end_in_list : Bool → Option End
 end_in_list true = Some LargeList
 end_in_list false = None
 
--- A session that stays open goes on, unless it is short of memory.
-abbrev pub GoesOnUnlessShort : Result (Option End) SessionFault → SessionData → CallCounts → CallCounts → Type 0
-GoesOnUnlessShort answer new reader reader' =
-    new.held.ended ≡ None → (answer ≡ Ok None) ⊎ ((answer ≡ Err NoMemory) × IsShort new reader reader')
+-- A session that stays open goes on, unless it is short of memory; its reader's calls are counted so.
+abbrev pub GoesOnUnlessShort : {I : Type 0} → (I → CallCounts) → Result (Option End) SessionFault → SessionData → I → I → Type 0
+GoesOnUnlessShort counts answer new reader reader' =
+    new.held.ended ≡ None → (answer ≡ Ok None) ⊎ ((answer ≡ Err NoMemory) × IsShort new (counts reader) (counts reader'))
 
 -- what comes with more bytes
 abbrev pub then_read : Coming → List ℕ → Coming
@@ -324,9 +340,10 @@ EndsForLongLine old new = (new.ended ≡ old.ended)
 abbrev pub ReadsInto : Conversation → Option (List ℕ) → Conversation → Option (List ℕ) → Type 0
 ReadsInto old unread new unread' = ReadsOn (held_of old) unread (held_of new) unread'
 
--- a session is closed for its writer's fault only where it was before, or where that failed
-abbrev pub FailsAsItsWriter : Conversation → Conversation → CallCounts → CallCounts → Type 0
-FailsAsItsWriter old new calls calls' = new.ended ≡ Some WriteFault → (old.ended ≡ Some WriteFault) ⊎ HasFailedSince calls calls'
+-- a session is closed for its writer's fault only where it was before, or where that failed, whose calls are counted so
+abbrev pub FailsAsItsWriter : {O : Type 0} → (O → CallCounts) → Conversation → Conversation → O → O → Type 0
+FailsAsItsWriter counts old new writer writer' =
+    new.ended ≡ Some WriteFault → (old.ended ≡ Some WriteFault) ⊎ HasFailedSince (counts writer) (counts writer')
 
 -- a write ends a session for its writer's fault only where it was ended for that before, or the writer failed
 abbrev pub FailsOnlyBy : Bool → Option End → Option End → Type 0

@@ -10,23 +10,24 @@
 //! for the next turn: a line is run once, whatever becomes of its answer. No more is read while lines wait,
 //! and no more is run while the client takes too little, so one that asks and never reads costs a bounded
 //! piece of memory, and is closed.
-ghost use Rattle.std.specs.Prelude.{◌≡◌, ◌≢◌, ◌<◌, ◌≤◌, ◌+◌, ◌⊎◌, []};
-ghost use Rattle.std.specs.Prelude.{Some, None, true, false, OnOk, OnErr, IfOk, is_ok, length, map, take};
+ghost use Rattle.std.specs.Prelude.{◌≡◌, ◌≢◌, ◌<◌, ◌≤◌, ◌+◌, []};
+ghost use Rattle.std.specs.Prelude.{Some, None, true, false, OnOk, OnErr, IfOk, is_ok, length, take};
 ghost use Rattle.std.specs.Io.KnownBytes.{Appends, Consumes};
-ghost use Rattle.mpd_text.specs.Lines.Split.{views, line_of};
 ghost use Rattle.mpd_text.specs.Lines.Cut.{split_from};
 ghost use Rattle.mpd_answers.specs.Answers.{Answers, caller};
 ghost use Rattle.mpd_answers.specs.Owing.{is_nothing, waits_after};
 ghost use Rattle.mpd_answers.specs.Requests.{is_over};
 ghost use Rattle.mpd_session.specs.declared.end.End.{End};
-ghost use Rattle.counted_devices.specs.CallCounts.{HasFailed};
-ghost use Rattle.mpd_session.specs.Devices.{EndsByReader, NeverFails, ReadEnds, StaysSound, WritesOut};
+ghost use Rattle.mpd_session.specs.Conversations.{AreLinesOf, HasFailedIf, IsEndOfFault};
+ghost use Rattle.mpd_session.specs.Conversations.{IsUnsplitOrUnasked, SaysBy, SendsFrom, WritesUnsent};
+ghost use Rattle.mpd_session.specs.Conversations.{WritesWhole};
+ghost use Rattle.mpd_session.specs.Devices.{EndsByReader, NeverFails, ReadEnds, StaysSound};
 ghost use Rattle.mpd_session.specs.Devices.{is_given_up as is_given_up_lem};
-ghost use Rattle.mpd_session.specs.Sessions.{Blames, BlamesNone, BlamesReader, BlamesWriter, HasFailedSince};
+ghost use Rattle.mpd_session.specs.Sessions.{Blames, BlamesNone, BlamesReader, BlamesWriter};
 ghost use Rattle.mpd_session.specs.Sessions.{EndsByWrite, EndsForLongLine, EndsWithoutBytes, FailsOnlyBy};
-ghost use Rattle.mpd_session.specs.Sessions.{FailsAsItsWriter, HasMore, HasNoLongLine, HasPiece, StopsShort};
+ghost use Rattle.mpd_session.specs.Sessions.{FailsAsItsWriter, HasMore, HasNoLongLine, StopsShort};
 ghost use Rattle.mpd_session.specs.Sessions.{KeepsAllButRead, KeepsAllButSplit, KeepsAllButTold, ReadsInto};
-ghost use Rattle.mpd_session.specs.Sessions.{Runs, Says, Sends, TellsOf, Turns};
+ghost use Rattle.mpd_session.specs.Sessions.{Runs, TellsOf, Turns};
 ghost use Rattle.mpd_session.specs.Sessions.{coming, held_of, pending_of, session_of, side};
 ghost use Rattle.mpd_session.specs.Sessions.{end_by as end_by_lem, end_in_list as end_in_list_lem};
 
@@ -103,8 +104,7 @@ impl Conversation {
         ensures open { self.new.ended ≡ None → is_over self.new.gatherer ≡ false }
         ensures nothing { is_ok result ≡ true → is_nothing self.new.owed ≡ true }
         ensures long { is_ok result ≡ true → HasNoLongLine self.new }
-        ensures more { OnErr result
-            (StopsShort self.new (I.call_counts reader.old) (I.call_counts reader.new)) }
+        ensures more { OnErr result (StopsShort I.call_counts self.new reader.old reader.new) }
         ensures turns { Turns (Answers S.standing S.failed self.old.asker)
             (side (held_of self.old) seat.old shelf.old (I.remaining reader.old) (O.contents writer.old))
             (side (held_of self.new) seat.new shelf.new (I.remaining reader.new) (O.contents writer.new)) }
@@ -129,8 +129,7 @@ impl Conversation {
     fn take_in<I: Source>(&mut self, reader: &mut I) -> Result<(), AllocError>
         requires { self.old.ended ≡ None }
         ensures frame { KeepsAllButRead self.old self.new }
-        ensures more { OnErr result
-            (HasPiece self.new ⊎ (I.call_counts reader.new ≡ I.call_counts reader.old)) }
+        ensures more { OnErr result (IsUnsplitOrUnasked I.call_counts self.new reader.old reader.new) }
         ensures reads { ReadsInto self.old (I.remaining reader.old) self.new (I.remaining reader.new) }
         ensures blamed { BlamesReader self.new.ended (I.call_counts reader.old) (I.call_counts reader.new) }
         ensures reader { EndsByReader self.new.ended (I.call_counts reader.old) (I.call_counts reader.new) }
@@ -277,9 +276,7 @@ impl Conversation {
         requires some { self.old.lines.items ≢ [] }
         ensures asker { self.new.asker ≡ self.old.asker }
         ensures open { self.new.ended ≡ None → is_over self.new.gatherer ≡ false }
-        ensures says { Says (Answers S.standing S.failed self.old.asker)
-            (held_of self.old) (caller seat.old shelf.old)
-            (held_of self.new) (caller seat.new shelf.new) }
+        ensures says { SaysBy S.Shelf self.old self.new seat.old seat.new shelf.old shelf.new }
         ensures nothing { OnOk result (is_nothing self.new.owed ≡ true) }
         ensures shorter { OnOk result (length self.new.lines.items + 1 ≡ length self.old.lines.items) }
         ensures piece { self.new.piece ≡ self.old.piece }
@@ -302,14 +299,11 @@ impl Conversation {
         ensures frame { self.new ≡ record self.old { unsent = self.new.unsent; ended = self.new.ended } }
         ensures stays { self.new.ended ≡ None → self.old.ended ≡ None }
         ensures few { self.new.ended ≡ None → length self.new.unsent ≤ 16777216 }
-        ensures sends { Sends
-            (held_of self.old) (O.contents writer.old) (held_of self.new) (O.contents writer.new) }
-        ensures failed { FailsAsItsWriter self.old self.new
-            (O.call_counts writer.old) (O.call_counts writer.new) }
+        ensures sends { SendsFrom self.old (O.contents writer.old) self.new (O.contents writer.new) }
+        ensures failed { FailsAsItsWriter O.call_counts self.old self.new writer.old writer.new }
         ensures calm { (O.call_counts writer.old).failures ≤ (O.call_counts writer.new).failures }
         ensures sound { StaysSound self.new.ended (O.call_counts writer.old) (O.call_counts writer.new) }
-        ensures writes { WritesOut self.new.ended self.new.unsent
-            (O.call_counts writer.old) (O.call_counts writer.new) }
+        ensures writes { WritesUnsent self.new (O.call_counts writer.old) (O.call_counts writer.new) }
     {
         if is_given_up(self.ended) {
             return;
@@ -350,8 +344,7 @@ fn read_some<I: Source>(reader: &mut I, buf: &mut [u8]) -> Got
 
 /// The end by a read that failed so.
 fn end_of_fault(fault: ErrorKind) -> Option<End>
-    ensures { ((result ≡ None) × (fault ≡ ErrorKind.WouldBlock))
-        ⊎ ((result ≡ Some End.ReadFault) × (fault ≢ ErrorKind.WouldBlock)) }
+    ensures { IsEndOfFault fault result }
 {
     if is_failure(fault) {
         Some(End::ReadFault)
@@ -370,8 +363,7 @@ fn is_failure(fault: ErrorKind) -> bool
 
 /// The lines that the piece ends, also where a longer one comes after them.
 fn split_piece(splitter: &mut Splitter, piece: &[u8]) -> Result<Vec<Line>, AllocError>
-    ensures lines { IfOk result
-        (λ lines. views lines.items ≡ map line_of (split_from splitter.old piece.now).lines) }
+    ensures lines { IfOk result (AreLinesOf splitter.old piece.now) }
     ensures next { OnOk result (splitter.new ≡ (split_from splitter.old piece.now).next) }
     ensures err { OnErr result (splitter.new ≡ splitter.old) }
 {
@@ -449,13 +441,11 @@ struct Sent {
 fn send_some<O: Sink>(writer: &mut O, bytes: &[u8]) -> Sent
     ensures count { result.count ≤ length bytes.now }
     ensures written { Appends (O.contents writer.old) (O.contents writer.new) (take result.count bytes.now) }
-    ensures failed { result.failed ≡ true →
-        HasFailedSince (O.call_counts writer.old) (O.call_counts writer.new) }
+    ensures failed { HasFailedIf result.failed (O.call_counts writer.old) (O.call_counts writer.new) }
     ensures calm { (O.call_counts writer.old).failures ≤ (O.call_counts writer.new).failures }
     ensures sound { result.failed ≡ false →
         NeverFails (O.call_counts writer.old) (O.call_counts writer.new) }
-    ensures all { (result.count ≡ length bytes.now)
-        ⊎ HasFailed (O.call_counts writer.old) (O.call_counts writer.new) }
+    ensures all { WritesWhole O.call_counts result.count bytes.now writer.old writer.new }
 {
     let mut count = 0;
     while count < bytes.len() {

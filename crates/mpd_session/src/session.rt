@@ -37,13 +37,13 @@ impl Model for Session {
 }
 
 impl Session {
-    ghost use Rattle.std.specs.Prelude.{◌≡◌, ◌≢◌, None, Ok, false, IfOk};
+    ghost use Rattle.std.specs.Prelude.{◌≡◌, None, Ok, false, IfOk};
     ghost use Rattle.mpd_answers.specs.Answers.{Answers};
-    ghost use Rattle.mpd_session.specs.Devices.{EndsByReader, StaysSound};
+    ghost use Rattle.mpd_session.specs.Devices.{StaysSound};
     ghost use Rattle.mpd_session.specs.Ends.{TellsEnd};
-    ghost use Rattle.mpd_session.specs.Sessions.{Blames, GoesOnUnlessShort, HasRunAll, IsWithinLimits};
-    ghost use Rattle.mpd_session.specs.Sessions.{ReadsNoMore, StaysClosed, Turns, WritesAll, new_session};
-    ghost use Rattle.mpd_session.specs.Sessions.{side};
+    ghost use Rattle.mpd_session.specs.Sessions.{Blames, EndsByItsReader, GoesOnUnlessShort, HasRunAll};
+    ghost use Rattle.mpd_session.specs.Sessions.{IsWithinLimits, ReadsNoMore, StaysIfClosed, Turns};
+    ghost use Rattle.mpd_session.specs.Sessions.{WritesAllIfClosed, new_session, side};
     ghost use Rattle.mpd_session.specs.Sessions.{has_unsent as has_unsent_lem, may_wait as may_wait_lem, told_uptime};
 
     /// The session of a client that the player let in, and what it was greeted with. Nothing was read, and
@@ -124,23 +124,19 @@ impl Session {
         ensures turns { self.old.held.ended ≡ None → Turns (Answers S.standing S.failed self.old.asker)
             (side self.old.held seat.old shelf.old (I.remaining reader.old) (O.contents writer.old))
             (side self.new.held seat.new shelf.new (I.remaining reader.new) (O.contents writer.new)) }
-        ensures closed { self.old.held.ended ≢ None →
-            StaysClosed self.old.held (O.contents writer.old) self.new.held (O.contents writer.new) }
+        ensures closed { StaysIfClosed O.contents self.old self.new writer.old writer.new }
         ensures tells { TellsEnd self.old.held.ended self.new.held.ended result }
         ensures goes { result ≡ Ok None → HasRunAll self.new.held }
         ensures within { result ≡ Ok None → IsWithinLimits self.new.held }
         ensures settled { result ≡ Ok None → self.new.owes ≡ false }
-        ensures lasts { GoesOnUnlessShort result self.new
-            (I.call_counts reader.old) (I.call_counts reader.new) }
+        ensures lasts { GoesOnUnlessShort I.call_counts result self.new reader.old reader.new }
         ensures blamed { self.old.held.ended ≡ None → Blames self.new.held.ended
             (I.call_counts reader.old) (I.call_counts reader.new)
             (O.call_counts writer.old) (O.call_counts writer.new) }
-        ensures reader { self.old.held.ended ≡ None → EndsByReader self.new.held.ended
-            (I.call_counts reader.old) (I.call_counts reader.new) }
+        ensures reader { EndsByItsReader I.call_counts self.old self.new reader.old reader.new }
         ensures unread { ReadsNoMore self.old.held (I.call_counts reader.old) (I.call_counts reader.new) }
         ensures sound { StaysSound self.new.held.ended (O.call_counts writer.old) (O.call_counts writer.new) }
-        ensures writes { self.old.held.ended ≢ None →
-            WritesAll self.new (O.call_counts writer.old) (O.call_counts writer.new) }
+        ensures writes { WritesAllIfClosed O.call_counts self.old self.new writer.old writer.new }
     {
         if let Some(end) = self.conversation.ended {
             let _settled = self.conversation.settle();

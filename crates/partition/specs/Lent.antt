@@ -126,10 +126,10 @@ module _ {S : Type 0} (lent : Ghosts S) where
   abbrev pub HasCause : S → S → State → Event → Event → PartitionFault → Type 0
   HasCause old new state asked told fault = (fault ≡ NoMemory) ⊎ ServesEvent old new state asked told
 
-  -- an event joined the history of a state
-  abbrev pub RecordsIn : State → State → Vec LogEntry → Vec LogEntry → S → S → ℕ → Event → OutcomeData → Type 0
-  RecordsIn before after history later old new seat event outcome =
-      Records lent.standing lent.failed (image_of_state before) (image_of_state after) history.items later.items old new seat event outcome
+  -- where an event ran, it joined the history of a state
+  abbrev pub RecordsIn : State → State → Vec LogEntry → Vec LogEntry → S → S → ℕ → Event → Result OutcomeData PartitionFault → Type 0
+  RecordsIn before after log later old new seat event result =
+      IfOk result (Records lent.standing lent.failed (image_of_state before) (image_of_state after) log.items later.items old new seat event)
 
   -- a state refused an event
   abbrev pub IsRefusedIn : State → S → S → ℕ → Event → PartitionFault → Type 0

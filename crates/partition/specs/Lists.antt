@@ -1,6 +1,6 @@
 -- Command lists (MPD protocol reference, Command lists; that each command is an event of its own is this
 -- profile's).
-use Rattle.std.specs.Prelude.{◌≡◌, ℕ, ◌+◌, ◌-◌, ◌<◌, true, false, List, [], ◌∷◌, ◌++◌, length, map, nat_le, take, codes, slice_get, slice_index_or, Option, Some, None, if◌then◌else◌}
+use Rattle.std.specs.Prelude.{◌≡◌, ℕ, ◌+◌, ◌-◌, ◌<◌, true, false, List, [], ◌∷◌, ◌++◌, length, map, nat_le, take, codes, slice_get, slice_index_or, Option, Some, None, Result, IfErr, IfOk, if◌then◌else◌}
 use Rattle.std.specs.List.{flat_map, list_any}
 use Rattle.std.specs.Global.{Vec}
 use Rattle.std.specs.Option.{ForSome}
@@ -103,6 +103,9 @@ pub record Stop : Type 0 where
   pub command : List ℕ
   pub cause : PartitionFault
 
+abbrev pub stop_from : ℕ → List OutcomeData → List ℕ → PartitionFault → Stop
+stop_from done tolds command cause = record { done = done; tolds = tolds; command = command; cause = cause }
+
 -- the answer of a list that could not be run to its end
 abbrev pub stop_text : Stop → List ℕ
 stop_text stop = flat_map (λ t. t.answer.text) stop.tolds ++ ack_line 52 stop.done stop.command (fault_text stop.cause)
@@ -144,12 +147,12 @@ module _ {S : Type 0} (standing : S → Standing) (failed : S → S → Call →
 
 -- The same for any type of shelf: a clause passes `S.Shelf`, which is all that the type says of itself.
 module _ {S : Type 0} (lent : Ghosts S) where
-  -- a list ran: all its entries joined the history
-  abbrev pub RunsBy : Chronicle → Chronicle → S → S → ℕ → ℕ → ListForm → Vec Request → List OutcomeData → Type 0
-  RunsBy before after old new seat client form requests tolds =
-      RunsList lent.standing lent.failed before after old new seat client form requests.items tolds
+  -- where a list ran, all its entries joined the history
+  abbrev pub RunsBy : Chronicle → Chronicle → S → S → ℕ → ℕ → ListForm → Vec Request → Result (List OutcomeData) Stop → Type 0
+  RunsBy before after old new seat client form requests result =
+      IfOk result (RunsList lent.standing lent.failed before after old new seat client form requests.items)
 
-  -- a list stopped at one of its commands, which was refused
-  abbrev pub StopsBy : Chronicle → Chronicle → S → S → ℕ → ℕ → ListForm → Vec Request → Stop → Type 0
-  StopsBy before after old new seat client form requests stop =
-      StopsList lent.standing lent.failed before after old new seat client form requests.items stop
+  -- where a list stopped, it was at one of its commands, which was refused
+  abbrev pub StopsBy : Chronicle → Chronicle → S → S → ℕ → ℕ → ListForm → Vec Request → Result (List OutcomeData) Stop → Type 0
+  StopsBy before after old new seat client form requests result =
+      IfErr result (StopsList lent.standing lent.failed before after old new seat client form requests.items)

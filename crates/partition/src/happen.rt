@@ -90,7 +90,7 @@ impl Applied {
 pub(crate) fn record_event<S: Shelf>(
     alloc: Global,
     state: &mut State,
-    history: &mut Vec<Logged>,
+    log: &mut Vec<Logged>,
     shelf: &mut S,
     seat: u8,
     event: Event,
@@ -98,18 +98,17 @@ pub(crate) fn record_event<S: Shelf>(
     requires seat { seat < 16 }
     requires count { nat_le 9223372036854775807 (slice_index_or state.old.made seat 0) ≡ false }
     requires settled { AllSettled state.old.clients.items }
-    ensures ok { IfOk result (RecordsIn S.Shelf
-        state.old state.new history.old history.new shelf.old shelf.new seat event) }
+    ensures ok { RecordsIn S.Shelf state.old state.new log.old log.new shelf.old shelf.new seat event result }
     ensures refused { IfErr result (IsRefusedIn S.Shelf state.old shelf.old shelf.new seat event) }
     ensures unchanged { OnErr result (image_of_state state.new ≡ image_of_state state.old) }
-    ensures unkept { OnErr result (history.new.items ≡ history.old.items) }
+    ensures unkept { OnErr result (log.new.items ≡ log.old.items) }
 {
     let mut event = event;
-    if reserve(history, &mut state.clients).is_err() {
+    if reserve(log, &mut state.clients).is_err() {
         return Err(PartitionFault::NoMemory);
     }
     match apply_event(alloc, state, shelf, &mut event) {
-        Ok(applied) => Ok(keep(state, history, seat, event, applied)),
+        Ok(applied) => Ok(keep(state, log, seat, event, applied)),
         Err(fault) => Err(fault),
     }
 }

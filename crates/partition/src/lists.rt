@@ -80,16 +80,11 @@ pub struct ListFault {
 }
 
 impl Model for ListFault {
-    ghost use Rattle.partition.specs.Lists.{Stop};
+    ghost use Rattle.partition.specs.Lists.{Stop, stop_from};
 
     ghost Value = { Stop };
 
-    ghost view = { λ f. record {
-      done = f.done;
-      tolds = f.outcomes.items;
-      command = f.command.now;
-      cause = f.cause;
-    } };
+    ghost view = { λ f. stop_from f.done f.outcomes.items f.command.now f.cause };
 }
 
 impl ListFault {

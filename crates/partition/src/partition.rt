@@ -311,10 +311,8 @@ impl Partition {
         requests: Vec<Request>,
     ) -> Result<ListOutcome, ListFault>
         requires { seat < 16 }
-        ensures ok { IfOk result (RunsBy S.Shelf
-            self.old self.new shelf.old shelf.new seat client form requests) }
-        ensures err { IfErr result (StopsBy S.Shelf
-            self.old self.new shelf.old shelf.new seat client form requests) }
+        ensures ok { RunsBy S.Shelf self.old self.new shelf.old shelf.new seat client form requests result }
+        ensures err { StopsBy S.Shelf self.old self.new shelf.old shelf.new seat client form requests result }
         ensures legal { IsPast self.old }
     {
         self.legal();
@@ -356,10 +354,8 @@ impl Partition {
         requires seat { seat < 16 }
         requires empty { outcomes.items ≡ [] }
         requires room { length requests.items ≤ vec_capacity outcomes }
-        ensures ok { IfOk result (RunsBy S.Shelf
-            self.old self.new shelf.old shelf.new seat client form requests) }
-        ensures err { IfErr result (StopsBy S.Shelf
-            self.old self.new shelf.old shelf.new seat client form requests) }
+        ensures ok { RunsBy S.Shelf self.old self.new shelf.old shelf.new seat client form requests result }
+        ensures err { StopsBy S.Shelf self.old self.new shelf.old shelf.new seat client form requests result }
     {
         self.legal();
         for request in requests {

@@ -2,3 +2,4 @@ pub mod Starting
 pub mod Restoring
 pub mod Storing
 pub mod Keeping
+pub mod Keepers

@@ -3,6 +3,8 @@ use Rattle.std.specs.Prelude.{ℕ, Bool, false, List, ◌++◌, Option, Some, No
 use Rattle.std.specs.Global.{Global}
 use Rattle.std.specs.Str.{bytes_eq}
 use Rattle.settings.specs.declared.values.Settings.{Settings}
+use Rattle.opened_player.specs.Opened.{commands_for}
+use Rattle.serving.specs.declared.run.ServingOptions.{ServingOptions}
 
 abbrev pub texts_of : Option (String Global) → Option (List ℕ)
 texts_of text = option_map string_bytes text
@@ -18,3 +20,7 @@ is_state_shelf settings = are_one (texts_of settings.state) (texts_of settings.s
 -- where a state's file is kept, of which so many lines were refused
 abbrev pub aside_for : List ℕ → ℕ → Option (List ℕ)
 aside_for path refused = if nat_lt 0 refused then Some (path ++ codes ".refused") else None
+
+-- how a daemon plays and serves by the settings
+abbrev pub serving_options : Settings → ServingOptions
+serving_options settings = record { rate = settings.rate; ring = settings.ring; commands = commands_for settings }

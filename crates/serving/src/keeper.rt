@@ -164,7 +164,7 @@ struct Keeper<'h, L: Ledgers, S: Shelf + Drop, R: Wait + Clock + Copy> {
 
 impl<'h, L: Ledgers, S: Shelf + Drop, R: Wait + Clock + Copy> Keeper<'h, L, S, R> {
     ghost use Rattle.std.specs.Prelude.{◌≡◌, IfOk, false, string_bytes, true};
-    ghost use Rattle.serving.specs.Keeping.{IsAnswered, IsKeptThen, IsStateThen};
+    ghost use Rattle.serving.specs.Keepers.{IsAnsweredTo, IsKeptFor, IsStateFor, WritesStateIf};
 
     /// Comes to the player, and keeps its state until the daemon has ended.
     fn keep(&mut self) {
@@ -258,8 +258,7 @@ impl<'h, L: Ledgers, S: Shelf + Drop, R: Wait + Clock + Copy> Keeper<'h, L, S, R
     /// Looks at the player, and keeps its state. False where there was no memory for it, or it could not be written.
     fn look(&mut self) -> bool
         ensures left { result ≡ false → self.new.file.written ≡ self.old.file.written }
-        ensures state { result ≡ true → IsStateThen S.standing S.failed self.old.shelf self.new.shelf
-            self.old.seat self.new.seat self.old.names.items (string_bytes self.new.file.written) }
+        ensures state { WritesStateIf S.Shelf self.old self.new result }
     {
         match self.state() {
             Ok(text) => self.write(text),
@@ -295,8 +294,7 @@ impl<'h, L: Ledgers, S: Shelf + Drop, R: Wait + Clock + Copy> Keeper<'h, L, S, R
     /// looked at before and after.
     fn state(&mut self) -> Result<String, AllocError>
         ensures file { self.new.file ≡ self.old.file }
-        ensures state { IfOk result (λ text. IsStateThen S.standing S.failed self.old.shelf self.new.shelf
-            self.old.seat self.new.seat self.old.names.items (string_bytes text)) }
+        ensures state { IfOk result (λ text. IsStateFor S.Shelf self.old self.new (string_bytes text)) }
     {
         let before = self.gates.off_for_paths();
         let kept = self.kept()?;
@@ -308,8 +306,7 @@ impl<'h, L: Ledgers, S: Shelf + Drop, R: Wait + Clock + Copy> Keeper<'h, L, S, R
     /// What is kept by the player's answers to the questions.
     fn kept(&mut self) -> Result<Vec<KeptPartition>, AllocError>
         ensures file { self.new.file ≡ self.old.file }
-        ensures kept { IfOk result (IsKeptThen S.standing S.failed self.old.shelf self.new.shelf
-            self.old.seat self.new.seat self.old.names.items) }
+        ensures kept { IfOk result (IsKeptFor S.Shelf self.old self.new) }
     {
         let answered = self.ask()?;
         kept_by(self.host.alloc(), &answered)
@@ -318,8 +315,7 @@ impl<'h, L: Ledgers, S: Shelf + Drop, R: Wait + Clock + Copy> Keeper<'h, L, S, R
     /// The player's answers to the questions, all given at one moment.
     fn ask(&mut self) -> Result<AnsweredList, AllocError>
         ensures file { self.new.file ≡ self.old.file }
-        ensures answered { IfOk result (IsAnswered S.standing S.failed self.old.shelf self.new.shelf
-            self.old.seat self.new.seat self.old.names.items) }
+        ensures answered { IfOk result (IsAnsweredTo S.Shelf self.old self.new) }
     {
         let requests = questions_of(self.host.alloc(), &self.names)?;
         let (seat, shelf) = (&mut self.seat, &mut self.shelf);

@@ -1,8 +1,7 @@
 //! A daemon over the files of the system, with a shelf of any kind.
 ghost use Rattle.settings.specs.Values.{AreWithin};
 ghost use Rattle.held_player.specs.Blanks.{AreFor};
-ghost use Rattle.opened_player.specs.Opened.{commands_for};
-ghost use Rattle.serving.specs.Starting.{is_state_shelf as is_state_shelf_lem, texts_of};
+ghost use Rattle.serving.specs.Starting.{is_state_shelf as is_state_shelf_lem, serving_options, texts_of};
 ghost use Rattle.std.specs.Prelude.{◌≡◌, IfOk, OnOk, false};
 
 use crate::address::{address_of, listen_at};
@@ -181,7 +180,7 @@ fn state_of(alloc: Global, settings: &Settings) -> Result<Option<String>, AllocE
 }
 
 fn serving_options_of(settings: &Settings) -> ServingOptions
-    ensures { result ≡ record { rate = settings.now.rate; ring = settings.now.ring; commands = commands_for settings.now } }
+    ensures { result ≡ serving_options settings.now }
 {
     ServingOptions {
         rate: settings.rate.frames(),

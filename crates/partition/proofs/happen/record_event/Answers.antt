@@ -12,7 +12,7 @@ returns-then-is_err-clause-refused g c =
 pub returns-in-Ok-clause-ok : goal.returns-in-Ok-clause-ok
 returns-in-Ok-clause-ok g c =
     let i : Image = image_of_state c.args.state.now in
-    records_before g.S.Shelf.standing g.S.Shelf.failed (record i { clients = c.reserve.new.clients.items }) i _ c.args.history.now.items _ c.args.shelf.now c.apply_event.new.shelf c.args.seat c.args.event c.apply_event.new.event _
+    records_before g.S.Shelf.standing g.S.Shelf.failed (record i { clients = c.reserve.new.clients.items }) i _ c.args.log.now.items _ c.args.shelf.now c.apply_event.new.shelf c.args.seat c.args.event c.apply_event.new.event _
     (ap (λ (ks : List Client). record i { clients = ks }) c.reserve.ensures.clients) c.apply_event.ensures.event (search rules) (search rules) (search rules) (search rules) (search rules) (search rules) (search rules)
 
 pub returns-in-Err-clause-refused : goal.returns-in-Err-clause-refused

@@ -15,16 +15,16 @@ invariant_of-self-2 g c =
     let p = c.self.inside in
     let did = c.in_ok-outcome.ensures.ok in
     let h : LogEntry = record { seat = c.args.seat; event = with_store_reply c.args.event did.heard; told = c.in_ok-outcome.outcome } in
-    let on = goes_on (image_of_state p.base.value) (image_of_state p.state) (image_of_state c.record_event.new.state) p.history.items c.record_event.new.history.items h
+    let on = goes_on (image_of_state p.base.value) (image_of_state p.state) (image_of_state c.record_event.new.state) p.history.items c.record_event.new.log.items h
     c.self.invariant.present c.self.invariant.told did.present did.told_is did.window in
     record {
       room = c.self.invariant.room;
-      few = fits p.limit p.history.items c.record_event.new.history.items h did.window
+      few = fits p.limit p.history.items c.record_event.new.log.items h did.window
           (subst (λ (ch : Chronicle). length ch.window < ch.limit) (sym c.self.view_is) c.requires.room);
       came = c.self.invariant.came;
       present = on.0;
       told = on.1;
-      bytes = more_bytes p.history.items c.record_event.new.history.items h p.bytes c.last_bytes.result _ did.window c.self.invariant.bytes
+      bytes = more_bytes p.history.items c.record_event.new.log.items h p.bytes c.last_bytes.result _ did.window c.self.invariant.bytes
           (c.last_bytes.ensures p.history.items h (c.deref.ensures.value ∙ did.window)) c.saturating_add-self-inside.ensures;
     }
 
