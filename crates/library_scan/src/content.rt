@@ -62,7 +62,7 @@ pub fn content_of<M: Media>(
 ) -> Result<Content, AllocError>
     // It is what the whole bytes mean.
     ensures value { KeepsBytes everyday rate.now (M.all_bytes media.old) result }
-    // It is unread exactly where the device failed, or was called too often.
+    // If the device failed, it is unread. If not, it is unread only if the device was called too often.
     ensures cause { UnreadOnFailure (M.call_counts media.old) (M.call_counts media.new) result }
     ensures calm { NoFewer (M.call_counts media.old) (M.call_counts media.new) }
 {
