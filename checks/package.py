@@ -25,7 +25,7 @@ sys.path.insert(0, os.path.join(HERE, 'serve'))
 
 import household
 import release
-from daemon import ROOT, Table, free_port, program_of, put_songs
+from daemon import ROOT, Table, arguments_of, free_port, program_of, put_songs
 from household import ALSA_UNIT, AVAHI, DOCUMENTS, RUN, SETTINGS, STATE, content, last_of
 
 DEB = os.path.join(ROOT, 'packaging', 'deb')
@@ -371,8 +371,7 @@ def check_package(given, folder):
 
 
 def main():
-    parser = argparse.ArgumentParser(description='Tests the Debian package in a fresh Debian.')
-    parser.add_argument('program', nargs='?', help='the built program (default: crates/music_daemon/out/music_daemon)')
+    parser = arguments_of('Tests the Debian package in a fresh Debian.')
     parser.add_argument('--suite', default='bookworm', help='the release of Debian (default: bookworm)')
     parser.add_argument('--mirror', default='http://deb.debian.org/debian', help='where debootstrap downloads it from')
     parser.add_argument('--base', metavar='FOLDER', help='copy this folder, which debootstrap has made, instead of making a new one')

@@ -7,7 +7,6 @@ The second number of a part is its size when compressed with xz, which is about 
 belongs to is known from its symbol, which names the crate; a generic function belongs to the crate that defines it, such as `std_alloc`,
 not to the one that uses it. This needs binutils and xz. packaging/deb refuses a package that is above the limit.
 """
-import argparse
 import collections
 import os
 import re
@@ -19,7 +18,7 @@ sys.dont_write_bytecode = True
 sys.path.insert(0, os.path.join(os.path.dirname(os.path.abspath(__file__)), 'serve'))
 
 from crates import table_of
-from daemon import ROOT, program_of
+from daemon import ROOT, arguments_of, program_of
 
 DEB = os.path.join(ROOT, 'packaging', 'deb')
 PARTS = [('machine code', ('.text',)), ('constants', ('.rodata', '.data.rel.ro', '.data')),
@@ -85,8 +84,7 @@ def code_of(program):
 
 
 def main():
-    parser = argparse.ArgumentParser(description='Shows what takes the space in the program and its package.')
-    parser.add_argument('program', nargs='?', help='the built program (default: crates/music_daemon/out/music_daemon)')
+    parser = arguments_of('Shows what takes the space in the program and its package.')
     program = program_of(parser.parse_args().program)
     with tempfile.TemporaryDirectory() as folder:
         package = os.path.join(folder, 'it.deb')

@@ -4,12 +4,9 @@
 # The program is built in a temporary copy of the crates, together with what is proved already; the rest is proved there first.
 set -eu
 here=$(cd "$(dirname "$0")" && pwd)
-root=$(cd "${1:-$here/../..}" && pwd)
-work=$(mktemp -d)
-trap 'rm -rf "$work"' EXIT
-python3 "$here/../crates.py" "$root" filters mpd_text --for "$here/filter_bench" "$work"
-(cd "$work/crates/filter_bench" && rt run > "$work/ours.log" 2>&1) || { cat "$work/ours.log"; exit 1; }
-grep -E '^[a-z_]+ [0-9]+ [0-9]+ [0-9]+ [0-9]+$' "$work/ours.log" | awk '
+. "$here/../in_a_copy.sh"
+run_program filter_bench filters mpd_text
+grep -E '^[a-z_]+ [0-9]+ [0-9]+ [0-9]+ [0-9]+$' "$work/log" | awk '
     BEGIN { printf "%-18s %14s %18s %14s %8s\n", "", "filters/s", "ms a filter", "target, ms", "songs" }
     { printf "%-18s %14.0f %18.3f %14s %8d\n", $1, $2 * 1e9 / $3, $3 / 1e6 / $2, ($5 == 0 ? "-" : $5), $4 / $2 }
 '

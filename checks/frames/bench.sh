@@ -4,14 +4,11 @@
 # The program is built in a temporary copy of the crates, together with what is proved already; the rest is proved there first.
 set -eu
 here=$(cd "$(dirname "$0")" && pwd)
-root=$(cd "${1:-$here/../..}" && pwd)
-work=$(mktemp -d)
-trap 'rm -rf "$work"' EXIT
-python3 "$here/../crates.py" "$root" output_ring pcm_mix counted_devices --for "$here/frame_bench" "$work"
+. "$here/../in_a_copy.sh"
 gcc -O2 -o "$work/kernels" "$here/kernels.c"
-(cd "$work/crates/frame_bench" && rt run > "$work/ours.log" 2>&1) || { cat "$work/ours.log"; exit 1; }
+run_program frame_bench output_ring pcm_mix counted_devices
 "$work/kernels" > "$work/c.txt"
-grep -E '^[a-z_0-9]+ [0-9]+ [0-9]+ [0-9]+$' "$work/ours.log" > "$work/ours.txt"
+grep -E '^[a-z_0-9]+ [0-9]+ [0-9]+ [0-9]+$' "$work/log" > "$work/ours.txt"
 awk '
     NR == FNR { time[$1] = $3; sum[$1] = $4; next }
     FNR == 1 { printf "%-22s %14s %14s %7s  %s\n", "", "million/s", "C, million/s", "ratio", "same result" }

@@ -6,12 +6,9 @@
 # The program is built in a temporary copy of the crates, together with what is proved already; the rest is proved there first.
 set -eu
 here=$(cd "$(dirname "$0")" && pwd)
-root=$(cd "${1:-$here/../..}" && pwd)
-work=$(mktemp -d)
-trap 'rm -rf "$work"' EXIT
-python3 "$here/../crates.py" "$root" partition player_events transitions player_state shelf_contents shelf mpd_command song_db mpd_text --for "$here/list_bench" "$work"
-(cd "$work/crates/list_bench" && rt run > "$work/ours.log" 2>&1) || { cat "$work/ours.log"; exit 1; }
-grep -E '^lists [a-z_]+ [0-9]+ [0-9]+ (yes|NO)$' "$work/ours.log" | awk '
+. "$here/../in_a_copy.sh"
+run_program list_bench partition player_events transitions player_state shelf_contents shelf mpd_command song_db mpd_text
+grep -E '^lists [a-z_]+ [0-9]+ [0-9]+ (yes|NO)$' "$work/log" | awk '
     {
         if (!($2 in best)) { rows[++count] = $2; best[$2] = $3; least[$2] = $4; right[$2] = "yes" }
         if ($3 < best[$2]) best[$2] = $3
@@ -26,7 +23,7 @@ grep -E '^lists [a-z_]+ [0-9]+ [0-9]+ (yes|NO)$' "$work/ours.log" | awk '
         }
     }
 '
-grep -E '^parts [0-9]+ ' "$work/ours.log" | awk '
+grep -E '^parts [0-9]+ ' "$work/log" | awk '
     {
         nanos = $2
         sub(/^parts [0-9]+ /, "")

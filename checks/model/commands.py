@@ -1,5 +1,6 @@
 """The table of commands: how many arguments each has, which forms these have, and what the command does."""
 from dataclasses import dataclass
+from operator import attrgetter
 from typing import Callable
 
 from words import ARGUMENT, PERMISSION, UNKNOWN, Ack, NoCommand
@@ -25,29 +26,12 @@ class Speaker:
     world: object
     client: object
 
-    @property
-    def partition(self):
-        return self.world.partitions[self.client.partition]
-
-    @property
-    def queue(self):
-        return self.partition.queue
-
-    @property
-    def player(self):
-        return self.partition.player
-
-    @property
-    def order(self):
-        return self.partition.player.order
-
-    @property
-    def library(self):
-        return self.world.library
-
-    @property
-    def shelf(self):
-        return self.world.shelf
+    partition = property(lambda self: self.world.partitions[self.client.partition])
+    queue = property(attrgetter('partition.queue'))
+    player = property(attrgetter('partition.player'))
+    order = property(attrgetter('partition.player.order'))
+    library = property(attrgetter('world.library'))
+    shelf = property(attrgetter('world.shelf'))
 
 
 def by_forms(forms, optional, more):

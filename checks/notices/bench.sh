@@ -5,12 +5,9 @@
 # The program is built in a temporary copy of the crates, together with what is proved already; the rest is proved there first.
 set -eu
 here=$(cd "$(dirname "$0")" && pwd)
-root=$(cd "${1:-$here/../..}" && pwd)
-work=$(mktemp -d)
-trap 'rm -rf "$work"' EXIT
-python3 "$here/../crates.py" "$root" partition player_events transitions player_state shelf mpd_command song_db mpd_text --for "$here/notice_bench" "$work"
-(cd "$work/crates/notice_bench" && rt run > "$work/ours.log" 2>&1) || { cat "$work/ours.log"; exit 1; }
-grep -E '^notices [0-9]+ [0-9]+ [0-9]+ [0-9]+ [0-9]+$' "$work/ours.log" | awk '
+. "$here/../in_a_copy.sh"
+run_program notice_bench partition player_events transitions player_state shelf mpd_command song_db mpd_text
+grep -E '^notices [0-9]+ [0-9]+ [0-9]+ [0-9]+ [0-9]+$' "$work/log" | awk '
     {
         change = $4 / 1000 / $3
         idles = $5 / 1000 / $3
@@ -28,7 +25,7 @@ grep -E '^notices [0-9]+ [0-9]+ [0-9]+ [0-9]+ [0-9]+$' "$work/ours.log" | awk '
         }
     }
 '
-grep -E '^pings [0-9]+ [0-9]+ [0-9]+$' "$work/ours.log" | awk '
+grep -E '^pings [0-9]+ [0-9]+ [0-9]+$' "$work/log" | awk '
     {
         each = $4 / $3
         if (!($2 in best)) { rows[++count] = $2; best[$2] = each }

@@ -5,13 +5,9 @@
 # The program is built in a temporary copy of the crates, together with what is proved already; the rest is proved there first.
 set -eu
 here=$(cd "$(dirname "$0")" && pwd)
-root=$(cd "${1:-$here/../..}" && pwd)
-work=$(mktemp -d)
-trap 'rm -rf "$work"' EXIT
-python3 "$here/../crates.py" "$root" song_groups song_search song_db filters mpd_text --for "$here/search_bench" "$work"
-(cd "$work/crates/search_bench" && rt run > "$work/log" 2>&1) || true
-[ -x "$work/crates/search_bench/out/search_bench" ] || { cat "$work/log"; exit 1; }
-python3 - "$work/crates/search_bench/out/search_bench" > "$work/told" <<'END'
+. "$here/../in_a_copy.sh"
+build_program search_bench song_groups song_search song_db filters mpd_text
+python3 - "$built" > "$work/told" <<'END'
 import resource, subprocess, sys
 print(subprocess.run(sys.argv[1:], stdout=subprocess.PIPE, check=True, text=True).stdout, end='')
 texts = len('000/000000.wav') + len('Title 000000') + len('Artist 00') + len('Album 000')

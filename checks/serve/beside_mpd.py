@@ -8,7 +8,6 @@ It needs Debian's package mpd. Each figure is the best of a few rounds, in which
 ratio, and fails if an answer took 40 ms or more, as it does when TCP delays an acknowledgement. The part of each round trip that this script
 itself takes, in Python, is the same for both; the first line shows how long that is, by a round trip to a server that only echoes lines.
 """
-import argparse
 import os
 import selectors
 import shutil
@@ -22,7 +21,7 @@ import time
 sys.dont_write_bytecode = True
 
 import pairs
-from daemon import Client, Daemon, Mpd, Table, program_of, put_songs
+from daemon import Client, Daemon, Mpd, Table, given_to, program_of, put_songs
 
 LATE = 0.040   # how many seconds TCP may delay an acknowledgement
 ENTRIES = 16_000
@@ -234,10 +233,7 @@ def shown(figure, unit):
 
 
 def main():
-    parser = argparse.ArgumentParser(description='Compares the daemon with MPD.')
-    parser.add_argument('program', nargs='?', help='the built program (default: crates/music_daemon/out/music_daemon)')
-    parser.add_argument('--rounds', type=int, default=3, help='how many rounds are measured (default: 3)')
-    given = parser.parse_args()
+    given = given_to('Compares the daemon with MPD.', rounds=(3, 'how many rounds are measured'))
     program = program_of(given.program)
     if not shutil.which('mpd'):
         print('mpd is not installed (Debian: apt-get install mpd), so only the daemon is measured')

@@ -544,15 +544,13 @@ def main():
     with tempfile.TemporaryDirectory() as folder:
         music = os.path.join(folder, 'music')
         put_music(music)
-        pacer = Pacer(os.path.join(folder, 'fifo'))
-        daemon = Daemon(program, folder, music, [pacer.path], shelf=os.path.join(folder, 'shelf.db'),
-                        more='everyday = true' if is_everyday else '')
-        proxy = Proxy(daemon.port)
-        steps = Steps(table, daemon, proxy)
-        with_everyday = [(['/usr/share/perl5/Audio/MPD.pm'], lambda: run_audio_mpd(steps, proxy.port)),
-                         (['mpd-sima'], lambda: run_sima(steps, proxy.port, folder)),
-                         (['cantata', 'Xvfb', 'xdotool', 'dbus-run-session'], lambda: run_cantata(steps, proxy.port, folder))]
-        try:
+        with Pacer(os.path.join(folder, 'fifo')) as pacer, \
+                Daemon(program, folder, music, [pacer.path], shelf=os.path.join(folder, 'shelf.db'), more='everyday = true' if is_everyday else '') as daemon:
+            proxy = Proxy(daemon.port)
+            steps = Steps(table, daemon, proxy)
+            with_everyday = [(['/usr/share/perl5/Audio/MPD.pm'], lambda: run_audio_mpd(steps, proxy.port)),
+                             (['mpd-sima'], lambda: run_sima(steps, proxy.port, folder)),
+                             (['cantata', 'Xvfb', 'xdotool', 'dbus-run-session'], lambda: run_cantata(steps, proxy.port, folder))]
             for needed, run in [(['mpc'], lambda: run_mpc(steps, proxy.port)), (['/usr/lib/python3/dist-packages/mpd'], lambda: run_library(steps, proxy.port)),
                                 (['ncmpc', 'tmux'], lambda: run_ncmpc(steps, proxy.port, folder)),
                                 (['ncmpc', 'mpc', 'tmux'], lambda: run_partitions(steps, proxy.port, folder)),
@@ -563,9 +561,6 @@ def main():
                     table.row(os.path.basename(needed[0]), 'left out', 'not installed: %s' % ', '.join(missing))
                 else:
                     run()
-        finally:
-            daemon.kill()
-            pacer.close()
     return table.status()
 
 

@@ -1,4 +1,5 @@
-"""Starts a daemon, or MPD, for a check; makes its songs; and connects clients to it."""
+"""Reads the arguments of a check; starts a daemon, or MPD, for it; makes its songs; and connects clients to it."""
+import argparse
 import os
 import re
 import socket
@@ -25,6 +26,22 @@ def program_of(path):
     if not os.access(path, os.X_OK):
         sys.exit('%s: there is no such program; build it first' % path)
     return path
+
+
+def arguments_of(description):
+    """A parser of the arguments of a check, of which the first is the built program."""
+    parser = argparse.ArgumentParser(description=description)
+    parser.add_argument('program', nargs='?', help='the built program (default: crates/music_daemon/out/music_daemon)')
+    return parser
+
+
+def given_to(description, **numbers):
+    """The arguments that a check was given: the program, and options that are whole numbers or seconds. An option is told here by its default and
+    by what --help says of it."""
+    parser = arguments_of(description)
+    for name, (default, meaning) in numbers.items():
+        parser.add_argument('--' + name, type=type(default), default=default, help='%s (default: %s)' % (meaning, format(default, ',.0f')))
+    return parser.parse_args()
 
 
 # Between its fork and its exec, a child process has everything open that other threads have open. The port that `free_port` tries out must not
@@ -63,6 +80,11 @@ def put_songs(folder, count, frames, rate=44100):
         with open(os.path.join(below, '%04d.wav' % number), 'wb') as file:
             head = wave([], 1, 8, rate, tags=tags)
             file.write(head[:-4] + struct.pack('<I', frames) + b'\x80' * frames)
+
+
+def uri_of(number):
+    """The URI of a song that `put_songs` has written, by its number from 0."""
+    return 'album %02d/%04d.wav' % (number // 10, number)
 
 
 class Client:
@@ -142,7 +164,21 @@ def path_of_link(link):
         return None
 
 
-class Process:
+class Child:
+    """A process that a check has started. If it is used in a `with`, it is killed at the end of this."""
+
+    def kill(self):
+        self.process.kill()
+        self.process.wait()
+
+    def __enter__(self):
+        return self
+
+    def __exit__(self, *fault):
+        self.kill()
+
+
+class Process(Child):
     """A running server, and what the system says about it."""
 
     def __init__(self, words, port, folder, wait=True, environment=None):
@@ -201,10 +237,6 @@ class Process:
         folder = '/proc/%d/fd' % self.process.pid
         return [path for path in map(path_of_link, [os.path.join(folder, name) for name in os.listdir(folder)]) if path]
 
-    def kill(self):
-        self.process.kill()
-        self.process.wait()
-
 
 class Daemon(Process):
     """music_daemon, with a settings file that is written here."""
@@ -257,7 +289,7 @@ class Mpd(Process):
         client.close()
 
 
-class Pacer:
+class Pacer(Child):
     """A FIFO with a reader that reads so many frames a second, like a sound card."""
 
     CODE = 'import sys, time\nfile = open(sys.argv[1], "rb", 0)\nrate = int(sys.argv[2])\nstart = time.monotonic()\ndone = 0\n' \
@@ -268,10 +300,6 @@ class Pacer:
         os.mkfifo(path)
         self.path = path
         self.process = subprocess.Popen([sys.executable, '-c', self.CODE, path, str(rate)])
-
-    def close(self):
-        self.process.kill()
-        self.process.wait()
 
 
 class Table:
@@ -288,15 +316,20 @@ class Table:
 
     def status(self):
         """Prints how many rows were wrong, and returns the exit status."""
-        print('\n%d failed' % self.failed)
-        return 1 if self.failed else 0
+        return status_of(self.failed)
 
 
-def check_each(program, table, checks, rate):
-    """Runs each check with a new folder, in which there are three songs of twenty seconds; returns the exit status."""
+def status_of(failed):
+    """Prints how many times something was wrong, and returns the exit status."""
+    print('\n%d failed' % failed)
+    return 1 if failed else 0
+
+
+def check_each(program, table, checks, rate, songs=3):
+    """Runs each check with a new folder, in which there are so many songs of twenty seconds; returns the exit status."""
     for check in checks:
         with tempfile.TemporaryDirectory() as folder:
             music = os.path.join(folder, 'music')
-            put_songs(music, 3, 20 * rate)
+            put_songs(music, songs, 20 * rate)
             check(table, program, folder, music)
     return table.status()

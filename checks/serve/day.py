@@ -9,7 +9,6 @@ outputs; one has the folder scanned while songs are added to it and removed; one
 and so many songs have been played; if that takes longer than so many seconds (600), it fails. It prints the edits, songs, scans and switches;
 the slowest answer; the memory at each tenth of the edits, which must not grow in the second half; and the frame counts of both outputs.
 """
-import argparse
 import os
 import random
 import re
@@ -21,7 +20,7 @@ import time
 
 sys.dont_write_bytecode = True
 
-from daemon import Daemon, Table, program_of, put_songs
+from daemon import Daemon, Table, given_to, program_of, put_songs, uri_of
 
 RATE = 44100
 LENGTH = 22050      # how many frames a song has
@@ -55,10 +54,6 @@ class Day:
             self.slowest = max(self.slowest, seconds)
 
 
-def uri_of(number):
-    return 'album %02d/%04d.wav' % (number // 10, number)
-
-
 def edit(draw, length):
     """A random edit of a queue with so many entries; it keeps the length between FEW and MANY."""
     place = lambda: draw.randrange(FEW // 2)
@@ -80,79 +75,68 @@ def edit(draw, length):
     return 'move %d:%d %d' % (place() // 2, FEW // 4 + place() // 2, place() // 2)
 
 
-def edits(day, number):
-    """A client that edits until the day is over. If what it deletes is gone already, it is refused, which is right."""
-    client, draw = day.daemon.client(), random.Random(number)
-    while not day.is_over.is_set():
-        length = int(client.value('status', 'playlistlength'))
-        lines = [edit(draw, length) for _ in range(SHARE)]
-        in_list = draw.randrange(2) == 0
-        begin = time.monotonic()
-        if in_list:
-            client.send('\n'.join(['command_list_ok_begin', *lines, 'command_list_end']))
-            answer = client.answer()
-            made, refused = answer.count('list_OK'), answer[-1] != 'OK'
-        else:
-            client.send('\n'.join(lines))
-            last = [client.answer()[-1] for _ in lines]
-            made, refused = last.count('OK'), sum(word != 'OK' for word in last)
-        day.answered(made, refused, time.monotonic() - begin)
-    client.close()
+def edits(day, client, draw):
+    """Edits the queue. If what is deleted is gone already, the line is refused, which is right."""
+    length = int(client.value('status', 'playlistlength'))
+    lines = [edit(draw, length) for _ in range(SHARE)]
+    in_list = draw.randrange(2) == 0
+    begin = time.monotonic()
+    if in_list:
+        client.send('\n'.join(['command_list_ok_begin', *lines, 'command_list_end']))
+        answer = client.answer()
+        made, refused = answer.count('list_OK'), answer[-1] != 'OK'
+    else:
+        client.send('\n'.join(lines))
+        last = [client.answer()[-1] for _ in lines]
+        made, refused = last.count('OK'), sum(word != 'OK' for word in last)
+    day.answered(made, refused, time.monotonic() - begin)
 
 
-def plays(day, number):
-    """A client that changes modes, and skips now and then."""
-    client, draw = day.daemon.client(), random.Random(number)
-    while not day.is_over.is_set():
-        client.must(draw.choice(['random 1', 'random 0', 'crossfade 0', 'crossfade 1', 'setvol %d' % draw.randrange(101), 'pause 0', 'single 0']))
-        if client.value('status', 'state') != 'play':
-            client.must('play')
-        client.ask(draw.choice(['next', 'previous', 'currentsong', 'playlistinfo 0:20']))
-        day.count('skips')
-        time.sleep(0.05)
-    client.close()
+def plays(day, client, draw):
+    """Changes modes, and skips now and then."""
+    client.must(draw.choice(['random 1', 'random 0', 'crossfade 0', 'crossfade 1', 'setvol %d' % draw.randrange(101), 'pause 0', 'single 0']))
+    if client.value('status', 'state') != 'play':
+        client.must('play')
+    client.ask(draw.choice(['next', 'previous', 'currentsong', 'playlistinfo 0:20']))
+    day.count('skips')
+    time.sleep(0.05)
 
 
-def switches(day):
-    """A client that switches the second output off and on."""
-    client = day.daemon.client()
-    while not day.is_over.is_set():
-        client.must('disableoutput 1')
-        time.sleep(0.1)
-        client.must('enableoutput 1')
-        time.sleep(0.2)
-        day.count('switches')
-    client.close()
+def switches(day, client):
+    """Switches the second output off and on."""
+    client.must('disableoutput 1')
+    time.sleep(0.1)
+    client.must('enableoutput 1')
+    time.sleep(0.2)
+    day.count('switches')
 
 
-def scans(day, music):
-    """A client that adds an album to the folder and removes it again, and has the folder scanned each time; no queue uses this album."""
-    client, more = day.daemon.client(), os.path.join(music, 'more')
-    while not day.is_over.is_set():
-        if os.path.exists(more):
-            shutil.rmtree(more)
-        else:
-            put_songs(more, 10, LENGTH)
-        client.must('update')
-        while client.value('status', 'updating_db') and not day.is_over.is_set():
-            time.sleep(0.02)
-        day.count('scans')
-        time.sleep(0.5)
-    client.close()
+def scans(day, client, more):
+    """Adds an album to the folder of music, or removes it again, and has the folder scanned; no queue uses this album."""
+    if os.path.exists(more):
+        shutil.rmtree(more)
+    else:
+        put_songs(more, 10, LENGTH)
+    client.must('update')
+    while client.value('status', 'updating_db') and not day.is_over.is_set():
+        time.sleep(0.02)
+    day.count('scans')
+    time.sleep(0.5)
 
 
-def waits(day):
-    """A client that waits in `idle` again and again."""
-    client = day.daemon.client()
-    while not day.is_over.is_set():
-        client.must('idle playlist player mixer options output database update')
-        day.count('notices')
-    client.close()
+def waits(day, client):
+    """Waits in `idle`."""
+    client.must('idle playlist player mixer options output database update')
+    day.count('notices')
 
 
-def guarded(day, work, *words):
+def repeats(day, work, *words):
+    """A client that does one of these works again and again until the day is over."""
     try:
-        work(day, *words)
+        client = day.daemon.client()
+        while not day.is_over.is_set():
+            work(day, client, *words)
+        client.close()
     except Exception as fault:
         with day.lock:
             day.faults.append('%s: %s' % (work.__name__, fault))
@@ -166,12 +150,8 @@ def written(daemon):
 
 
 def main():
-    parser = argparse.ArgumentParser(description="A day's work in minutes.")
-    parser.add_argument('program', nargs='?', help='the built program (default: crates/music_daemon/out/music_daemon)')
-    parser.add_argument('--edits', type=int, default=1_000_000, help='how many edits (default: 1,000,000)')
-    parser.add_argument('--songs', type=int, default=10_000, help='how many songs (default: 10,000)')
-    parser.add_argument('--seconds', type=int, default=600, help='how many seconds it may take (default: 600)')
-    given = parser.parse_args()
+    given = given_to("A day's work in minutes.", edits=(1_000_000, 'how many edits'), songs=(10_000, 'how many songs'),
+                     seconds=(600, 'how many seconds it may take'))
     table = Table('A day: %d edits, %d songs' % (given.edits, given.songs), 34, 60)
     with tempfile.TemporaryDirectory() as folder:
         live(table, program_of(given.program), folder, given)
@@ -186,8 +166,9 @@ def live(table, program, folder, given):
     for line in ('repeat 1', 'add ""', 'add ""', 'play'):
         client.must(line)
     day = Day(daemon)
-    works = [(edits, number) for number in range(4)] + [(plays, 4), (switches,), (scans, music), (waits,)]
-    threads = [threading.Thread(target=guarded, args=(day, *work), daemon=True) for work in works]
+    works = [(edits, random.Random(number)) for number in range(4)]
+    works += [(plays, random.Random(4)), (switches,), (scans, os.path.join(music, 'more')), (waits,)]
+    threads = [threading.Thread(target=repeats, args=(day, *work), daemon=True) for work in works]
     begin, memory = time.monotonic(), []
     for thread in threads:
         thread.start()

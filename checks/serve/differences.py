@@ -18,7 +18,6 @@ are compared; these have names on the page too, but no marks in the transcripts.
 The check fails if answers do not differ in the way that the transcript says, if a difference is not on the page, if one that is on the page no
 longer occurs, or if no transcript uses some command that music_daemon has.
 """
-import argparse
 import difflib
 import glob
 import os
@@ -31,7 +30,7 @@ from concurrent.futures import ThreadPoolExecutor
 
 sys.dont_write_bytecode = True
 
-from daemon import HERE, ROOT, Daemon, Mpd, Pacer, Table, program_of, values
+from daemon import HERE, ROOT, Daemon, Mpd, Pacer, Table, arguments_of, program_of, values
 from sides import RATE, Side, put_library
 
 PAGE = os.path.join(ROOT, 'docs', 'DIFFERENCES.md')
@@ -300,8 +299,7 @@ def judged(seen, commands, table, is_written):
 
 
 def words():
-    parser = argparse.ArgumentParser(description="Compares the daemon's answers with MPD's.")
-    parser.add_argument('program', nargs='?', help='the built program (default: crates/music_daemon/out/music_daemon)')
+    parser = arguments_of("Compares the daemon's answers with MPD's.")
     parser.add_argument('--write', action='store_true', help='write the differences into the transcripts and docs/DIFFERENCES.md')
     parser.add_argument('--only', metavar='NAME', help='compare only the transcripts of this file')
     parser.add_argument('--songs', metavar='FOLDER', help='only write the songs of the transcripts to this folder')
@@ -337,10 +335,8 @@ def compared_by(given, folder, table):
         if not given.only:
             judged(seen, values(sides[1].owner.must('commands'), 'command'), table, given.write)
     finally:
-        for server in servers:
-            server.kill()
-        for pacer in pacers:
-            pacer.close()
+        for one in servers + pacers:
+            one.kill()
 
 
 def main():

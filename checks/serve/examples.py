@@ -7,7 +7,6 @@ They are: three rooms, with snapserver, aplay and a file; two queues in two room
 alsa-utils; if snapserver or aplay is not installed, another reader takes its place. The exit status is 1 if a room did not play what it should,
 or if an answer is wrong.
 """
-import argparse
 import os
 import re
 import shutil
@@ -18,7 +17,7 @@ import time
 
 sys.dont_write_bytecode = True
 
-from daemon import Pacer, Process, ROOT, Table, free_port, program_of
+from daemon import Pacer, Process, ROOT, Table, arguments_of, free_port, program_of
 
 ALL = 132296        # how many frames all files of examples/tunes have
 LONGEST = 30        # how many seconds a room may take to play them
@@ -104,7 +103,7 @@ def check_two(table, program, folder):
         wait_for(client, 'stop')
     written, right = daemon.end()
     for pacer in pacers:
-        pacer.close()
+        pacer.kill()
     table.row('two rooms, two queues', 'frames %s' % written, right=status == 0 and right and written == [ALL] * 2)
     if status:
         print(told)
@@ -117,15 +116,14 @@ def check_ratings(table, program, folder):
     queue = [line for line in daemon.client().must('playlistinfo') if line.startswith('file: ')]
     right = daemon.end()[1]
     for pacer in pacers:
-        pacer.close()
+        pacer.kill()
     table.row('ratings by stickers', 'the queue: %s' % ', '.join(queue), right=status == 0 and right and queue == ['file: bells.wav'])
     if status:
         print(told)
 
 
 def main():
-    parser = argparse.ArgumentParser(description='Runs the examples of README.md and examples/README.md.')
-    parser.add_argument('program', nargs='?', help='the built program (default: crates/music_daemon/out/music_daemon)')
+    parser = arguments_of('Runs the examples of README.md and examples/README.md.')
     program, table = program_of(parser.parse_args().program), Table('Examples', 34, 60)
     for check in (check_three, check_two, check_ratings):
         with tempfile.TemporaryDirectory() as folder:

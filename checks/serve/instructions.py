@@ -10,7 +10,6 @@ take the instructions, including everything that each function calls: for a ping
 a change in a queue of 16,000, and for a frame without and with cross-fades. It leaves out functions that take less than a twentieth (except the
 lock), and those around everything. It needs Debian's package valgrind.
 """
-import argparse
 import os
 import re
 import struct
@@ -20,7 +19,7 @@ import tempfile
 
 sys.dont_write_bytecode = True
 
-from daemon import Daemon, Table, program_of, put_songs, wave
+from daemon import Daemon, Table, arguments_of, program_of, put_songs, wave
 
 PINGS = 20_000
 IN_FLIGHT = 64
@@ -153,8 +152,7 @@ def show_where(program):
 
 
 def main():
-    parser = argparse.ArgumentParser(description='Counts the instructions that a ping and a frame take.')
-    parser.add_argument('program', nargs='?', help='the built program (default: crates/music_daemon/out/music_daemon)')
+    parser = arguments_of('Counts the instructions that a ping and a frame take.')
     parser.add_argument('--where', action='store_true', help='show which functions take the instructions')
     given = parser.parse_args()
     program = program_of(given.program)

@@ -7,7 +7,6 @@ made, or as it is after it.
 Two clients save playlists, change them and set stickers, as fast as they get answers. The daemon is killed at a random moment and started again
 with the same file. Every change that was answered must be there completely, and the one that was not answered either completely or not at all.
 """
-import argparse
 import os
 import random
 import sys
@@ -17,7 +16,7 @@ import time
 
 sys.dont_write_bytecode = True
 
-from daemon import Daemon, Table, program_of, put_songs
+from daemon import Daemon, Table, given_to, program_of, put_songs
 
 LONGEST = 0.15  # how many seconds the clients have at most before the kill
 
@@ -79,10 +78,7 @@ class Saver(threading.Thread):
 
 
 def main():
-    parser = argparse.ArgumentParser(description='Kills the daemon with kill -9 while clients save.')
-    parser.add_argument('program', nargs='?', help='the built program (default: crates/music_daemon/out/music_daemon)')
-    parser.add_argument('--times', type=int, default=100, help='how many times (default: 100)')
-    given = parser.parse_args()
+    given = given_to('Kills the daemon with kill -9 while clients save.', times=(100, 'how many times'))
     program = program_of(given.program)
     draw = random.Random(7)
     table = Table('kill -9 while clients save', 40, 60)

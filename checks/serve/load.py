@@ -8,7 +8,6 @@ one that sends 10 MB without a newline; one that sends random bytes; and so many
 answers a second, and times. The exit status is 1 if a client gets no answer or a wrong one, if an answer takes a second or longer, or if the
 daemon afterwards has more open files, or much more memory, than before.
 """
-import argparse
 import os
 import random
 import selectors
@@ -20,7 +19,7 @@ import time
 
 sys.dont_write_bytecode = True
 
-from daemon import Client, Daemon, Pacer, Table, program_of, put_songs
+from daemon import Client, Daemon, Pacer, Table, given_to, program_of, put_songs
 
 SLOWEST = 1.0       # how many seconds an answer may take
 GROWTH = 80         # by how many megabytes the daemon may grow, for unsent answers and the history's window
@@ -255,19 +254,15 @@ def check_misbehaviour(table, daemon, connections):
 
 
 def main():
-    parser = argparse.ArgumentParser(description='Puts load on the daemon.')
-    parser.add_argument('program', nargs='?', help='the built program (default: crates/music_daemon/out/music_daemon)')
-    parser.add_argument('--seconds', type=int, default=60, help='how long the 64 clients send requests (default: 60)')
-    parser.add_argument('--connections', type=int, default=10_000, help='how many connections are opened and closed (default: 10,000)')
-    given = parser.parse_args()
+    given = given_to('Puts load on the daemon.', seconds=(60, 'how long the 64 clients send requests'),
+                     connections=(10_000, 'how many connections are opened and closed'))
     program = program_of(given.program)
     table = Table('Load, while 8 outputs play', 30, 100)
     with tempfile.TemporaryDirectory() as folder:
         music = os.path.join(folder, 'music')
         put_songs(music, 100, 441_000)
-        pacer = Pacer(os.path.join(folder, 'fifo'))
-        daemon = Daemon(program, folder, music, [pacer.path] + ['/dev/null'] * 7, shelf=os.path.join(folder, 'shelf.db'))
-        try:
+        with Pacer(os.path.join(folder, 'fifo')) as pacer, \
+                Daemon(program, folder, music, [pacer.path] + ['/dev/null'] * 7, shelf=os.path.join(folder, 'shelf.db')) as daemon:
             client = daemon.client()
             for line in ['add ""'] * 10 + ['repeat 1', 'play']:
                 client.must(line)
@@ -283,9 +278,6 @@ def main():
             status, summary = daemon.end()
             table.row('the end', 'status %d, %d outputs settled' % (status, sum('unsettled' not in line for line in summary)),
                       right=status == 0 and len(summary) == 8 and not any('unsettled' in line for line in summary))
-        finally:
-            daemon.kill()
-            pacer.close()
     return table.status()
 
 

@@ -14,7 +14,6 @@ happens:
 - the daemon has no memory for its end, and ends with status 1 and that line.
 Otherwise the output's file has everything that was played, and the frame counts in the summary balance.
 """
-import argparse
 import concurrent.futures
 import os
 import re
@@ -26,7 +25,7 @@ import time
 sys.dont_write_bytecode = True
 sys.path.append(os.path.dirname(os.path.dirname(os.path.abspath(__file__))))
 
-from daemon import END, START, Client, Daemon, program_of, wave
+from daemon import END, START, Client, Daemon, arguments_of, program_of, status_of, wave
 from program import build_library, counts_in
 
 FRAMES = {'a.wav': 1000, 'b.wav': 1500}
@@ -246,8 +245,7 @@ def run(program, library, music, number):
 
 
 def main():
-    parser = argparse.ArgumentParser(description='Refuses one allocation of the daemon in each run.')
-    parser.add_argument('program', nargs='?', help='the built program (default: crates/music_daemon/out/music_daemon)')
+    parser = arguments_of('Refuses one allocation of the daemon in each run.')
     parser.add_argument('--step', type=int, default=1, metavar='N', help='refuse only every Nth allocation (default: 1)')
     parser.add_argument('--jobs', type=int, default=4, help='how many runs at a time (default: 4)')
     given = parser.parse_args()
@@ -273,8 +271,7 @@ def main():
         print('  %-16s %6d' % (sort, sorts[sort]))
     for why in failures:
         print('    ' + why)
-    print('\n%d failed' % len(failures))
-    return 1 if failures else 0
+    return status_of(len(failures))
 
 
 if __name__ == '__main__':

@@ -8,7 +8,6 @@ sqlite3 and the daemon read what is then in the file.
 The file is one that was closed properly, and one that was left open, with its log next to it. The worked row about stickers of playlists is also
 run on a file, with a restart between any two of its lines.
 """
-import argparse
 import glob
 import os
 import random
@@ -21,7 +20,7 @@ import time
 sys.dont_write_bytecode = True
 sys.path.append(os.path.dirname(os.path.dirname(os.path.abspath(__file__))))
 
-from daemon import ROOT, Daemon, Table, program_of, put_songs
+from daemon import ROOT, Daemon, Table, given_to, program_of, put_songs, uri_of
 from program import build_library
 
 ROW = os.path.join(ROOT, 'crates', 'worked_rows', 'data', 'stickers-of-stored-playlists.row')
@@ -239,16 +238,13 @@ def seconds_to_start(trial):
 
 
 def main():
-    parser = argparse.ArgumentParser(description='Checks that a start converts a playlist store of profile 1.')
-    parser.add_argument('program', nargs='?', help='the built program (default: crates/music_daemon/out/music_daemon)')
-    parser.add_argument('--kills', type=int, default=200, help='how many kills at random moments (default: 200)')
-    given = parser.parse_args()
+    given = given_to('Checks that a start converts a playlist store of profile 1.', kills=(200, 'how many kills at random moments'))
     program = program_of(given.program)
     table = Table('A playlist store of profile 1 that is converted', 70, 40)
     with tempfile.TemporaryDirectory() as folder:
         music, library = os.path.join(folder, 'music'), build_library(folder)
         put_songs(music, 12, 100)
-        songs = ['album %02d/%04d.wav' % (number // 10, number) for number in range(12)]
+        songs = [uri_of(number) for number in range(12)]
         for how, is_closed in (('closed', True), ('left open', False)):
             trial = Trial(program, folder, music, *small(songs), is_closed)
             right = read(trial.path)[0] == 1 and trial.is_told() and is_kept(trial.path, trial.lists, trial.stickers)

@@ -80,7 +80,7 @@ def check_reader_goes(table, program, folder, music):
     client.must('stop')
     time.sleep(2)
     status, summary = daemon.end()
-    pacer.close()
+    pacer.kill()
     table.row('', summary[1], right=status == 0 and 'unsettled' not in ''.join(summary))
 
 

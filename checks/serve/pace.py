@@ -8,7 +8,6 @@ that the frame counts balance. Then it prints frames a second through one and th
 microseconds of a ping: alone, while three more clients ping, and while the decoder and three such outputs take the lock for each block. A daemon
 that is stopped or paused may use half a percent of one processor.
 """
-import argparse
 import os
 import re
 import struct
@@ -19,7 +18,7 @@ import time
 
 sys.dont_write_bytecode = True
 
-from daemon import Daemon, Pacer, Table, program_of, put_songs, wave
+from daemon import Daemon, Pacer, Table, given_to, program_of, put_songs, status_of, wave
 
 RATE = 44100
 LONG = 10_000_000  # how many frames the long song has, of 16 bits and two channels
@@ -67,7 +66,7 @@ def check_idle(table, program, count, seconds):
         client.close()
         status, summary = daemon.end()
         for pacer in pacers:
-            pacer.close()
+            pacer.kill()
         numbers, right = settled(summary)
         right = right and status == 0 and len(numbers) == count and stopped <= IDLE and paused <= IDLE
         table.row(count, '%.2f %%' % stopped, '%.2f %%' % paused, '%.2f %%' % playing, '%.1f MB' % memory,
@@ -137,10 +136,7 @@ def check_callers(table, program, seconds):
 
 
 def main():
-    parser = argparse.ArgumentParser(description='Measures what the daemon costs, and how fast it decodes.')
-    parser.add_argument('program', nargs='?', help='the built program (default: crates/music_daemon/out/music_daemon)')
-    parser.add_argument('--seconds', type=float, default=10, help='for how long each figure is measured (default: 10)')
-    given = parser.parse_args()
+    given = given_to('Measures what the daemon costs, and how fast it decodes.', seconds=(10.0, 'for how long each figure is measured'))
     program = program_of(given.program)
     idle = Table('Processor time, of one processor\n  outputs  stopped   paused    playing   memory     the end', 7, 8, 8, 8, 9, 60)
     for count in (0, 1, 3, 8):
@@ -150,9 +146,7 @@ def main():
         check_speed(speed, program, count, given.seconds)
     pings = Table('\nA ping, 64 in flight\n  alone     3 clients  3 outputs', 8, 9, 9)
     check_callers(pings, program, given.seconds / 2)
-    failed = idle.failed + speed.failed + pings.failed
-    print('\n%d failed' % failed)
-    return 1 if failed else 0
+    return status_of(idle.failed + speed.failed + pings.failed)
 
 
 if __name__ == '__main__':

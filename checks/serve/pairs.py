@@ -129,7 +129,7 @@ def figures(program, folder, with_mpd):
     pacers = [Pacer(path, RATE) for path in paths[0] + (paths[1] if with_mpd else [])]
     found = Pair(program, folder, music, with_mpd, paths[0], [PIPE % path for path in paths[1]]).figures(of_pipes)
     for pacer in pacers:
-        pacer.close()
+        pacer.kill()
     idle = Pair(program, folder, music, with_mpd, ['/dev/null'], [FAST]).figures(of_idle)
     yield 'processor, playing to two FIFOs', '%', {name: it[0] for name, it in found.items()}
     yield 'wake-ups a second, the same', '', {name: it[1] for name, it in found.items()}

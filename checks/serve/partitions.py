@@ -9,18 +9,16 @@ which the reader stalls; and an output that is moved back and forth while both i
 client is told of a change in another partition, if a room falls silent because of another room's reader, or if the frame counts of an output do not
 balance.
 """
-import argparse
 import os
 import random
 import re
 import subprocess
 import sys
-import tempfile
 import time
 
 sys.dont_write_bytecode = True
 
-from daemon import Client, Daemon, Pacer, Table, program_of, put_songs
+from daemon import Daemon, Pacer, Table, check_each, given_to, program_of
 from load import Asker, run_askers
 
 MOST = 16           # how many partitions there are
@@ -112,7 +110,7 @@ def balances(table, daemon, pacers=(), client=None):
     client.close()
     status, summary = daemon.end()
     for pacer in pacers:
-        pacer.close()
+        pacer.kill()
     books = [[int(word) for word in BOOKS.match(line).groups()] for line in summary if BOOKS.match(line)]
     right = status == 0 and books and all(decoded == written + discarded + left for _, decoded, written, discarded, left in books)
     table.row('frame counts at the end', '%d outputs, %d frames decoded' % (len(books), sum(book[1] for book in books)), right=right)
@@ -200,18 +198,10 @@ def check_moves(table, program, folder, music):
 
 
 def main():
-    parser = argparse.ArgumentParser(description='Checks partitions.')
-    parser.add_argument('program', nargs='?', help='the built program (default: crates/music_daemon/out/music_daemon)')
-    parser.add_argument('--seconds', type=float, default=20, help='how long the clients send requests (default: 20)')
-    given = parser.parse_args()
+    given = given_to('Checks partitions.', seconds=(20.0, 'how long the clients send requests'))
     program, table = program_of(given.program), Table('Partitions', 34, 90)
     checks = [lambda *them: check_load(*them, given.seconds), check_cost, check_rooms, check_moves]
-    for check in checks:
-        with tempfile.TemporaryDirectory() as folder:
-            music = os.path.join(folder, 'music')
-            put_songs(music, 20, 20 * 44100)
-            check(table, program, folder, music)
-    return table.status()
+    return check_each(program, table, checks, 44100, songs=20)
 
 
 if __name__ == '__main__':

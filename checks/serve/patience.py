@@ -116,7 +116,7 @@ def end(table, daemon, readers=()):
     table.row('frame counts', '; '.join('%d = %d + %d + %d' % tuple(book[1:]) for book in books), right=right)
     for reader in readers:
         reader.goes_on()
-        reader.close()
+        reader.kill()
     return books
 
 
@@ -210,7 +210,7 @@ def check_unread(table, program, folder, music):
         time.sleep(1)
         count = sum(size for _, size in reader.pieces())
         table.row('', '%d bytes, whole frames' % count, right=count > 0 and count % 4 == 0)
-        reader.close()
+        reader.kill()
         off = becomes(lambda: enabled(client), '01', PATIENCE + 1 + LATEST)
         table.row('it leaves: switched off after', shown(off), right=off is not None and off >= PATIENCE - 0.5)
     end(table, daemon, [paced])
@@ -366,7 +366,7 @@ def check_kept(table, program, folder, music):
             end(table, daemon, [reader])
         else:
             daemon.kill()
-            reader.close()
+            reader.kill()
         with open(kept) as file:
             lines = [line.strip() for line in file if 'output' in line or 'setvol' in line]
         table.row('the state after `%s`' % word, ' '.join(lines), right=off is not None and lines == ['setvol 50', 'enableoutput 0'])

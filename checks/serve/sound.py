@@ -135,7 +135,7 @@ def check_a_seek(table, program, folder, music, songs):
         time.sleep(0.05)
     time.sleep(1.5)
     _status, summary = daemon.end()
-    pacer.close()
+    pacer.kill()
     found, rest = open(path, 'rb').read(), as_bytes(songs[5][20000:])
     front = found[:len(found) - len(rest)]
     right = found.endswith(rest) and 0 < len(front) and as_bytes(songs[0] + songs[5]).startswith(front)

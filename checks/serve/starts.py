@@ -14,7 +14,7 @@ import time
 
 sys.dont_write_bytecode = True
 
-from daemon import Daemon, Table, program_of, put_songs
+from daemon import Daemon, Table, program_of, put_songs, status_of
 
 GOOD = 'music = "%(music)s"\nlisten = "127.0.0.1:%(taken)d"\n'
 OUTPUT = '[[output]]\nname = "%s"\npath = "/nosuch"\n'
@@ -135,8 +135,7 @@ def main():
         music = os.path.join(folder, 'music')
         put_songs(music, 12, 100)
         failed = check_faults(program, folder, music) + check_one_start(program, folder, music)
-    print('\n%d failed' % failed)
-    return 1 if failed else 0
+    return status_of(failed)
 
 
 if __name__ == '__main__':

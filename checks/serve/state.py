@@ -9,7 +9,6 @@ and started again with the same state file. The queue that comes back must be on
 first write, it is the one from the start. The full disk is a small one in memory, and the file of another user is read as the user nobody; both
 need root.
 """
-import argparse
 import concurrent.futures
 import os
 import random
@@ -22,7 +21,7 @@ import time
 
 sys.dont_write_bytecode = True
 
-from daemon import Daemon, Pacer, Table, program_of, put_songs
+from daemon import Daemon, Pacer, Table, given_to, program_of, put_songs, status_of, uri_of
 
 OLDEST = 3.0    # how many seconds old the queue that comes back may be
 LONGEST = 5.0   # how many seconds a client has at most before the kill
@@ -51,6 +50,24 @@ def state_of(client):
 
 def started(program, folder, music, path, outputs=()):
     return Daemon(program, folder, music, outputs, more='state = "%s"' % path)
+
+
+def restarted(start, kept, ends, change, seen):
+    """Starts a daemon that has no saved state yet, and lets `change` send it lines; then ends it, with `kill` or kill -9, and starts it again.
+    Returns this daemon, and what `seen` says of the daemon before its end and after the restart."""
+    if os.path.exists(kept):
+        os.remove(kept)
+    daemon = start()
+    client = daemon.client()
+    change(client)
+    wanted = seen(client)
+    if ends == 'kill':
+        daemon.end()
+    else:
+        time.sleep(OLDEST)
+        daemon.kill()
+    daemon = start()
+    return daemon, wanted, seen(daemon.client())
 
 
 class Editor(threading.Thread):
@@ -107,20 +124,8 @@ def check_all_back(program, folder, music):
     kept = os.path.join(folder, 'kept')
     for name, last in LAST:
         for ends in ('kill', 'kill -9'):
-            if os.path.exists(kept):
-                os.remove(kept)
-            daemon = started(program, folder, music, kept, ['/dev/null'])
-            client = daemon.client()
-            for line in EDITS + last:
-                client.must(line)
-            wanted = state_of(client)
-            if ends == 'kill':
-                daemon.end()
-            else:
-                time.sleep(OLDEST)
-                daemon.kill()
-            daemon = started(program, folder, music, kept, ['/dev/null'])
-            found = state_of(daemon.client())
+            daemon, wanted, found = restarted(
+                lambda: started(program, folder, music, kept, ['/dev/null']), kept, ends, lambda client: [client.must(line) for line in EDITS + last], state_of)
             told = 'as it was' if found == wanted else '%s instead of %s' % (found, wanted)
             table.row('%s, after %s' % (name, ends), told, right=found == wanted and daemon.errors().count('\n') == 0)
             daemon.end()
@@ -151,7 +156,7 @@ def check_played(program, folder, music):
         right = found[:2] == wanted[:2] and place - most <= at <= place + 0.5
         table.row('after %s' % ends, '%.1f s of %.1f s' % (at, place), right=right)
         daemon.kill()
-        pacer.close()
+        pacer.kill()
     return table.failed
 
 
@@ -230,19 +235,8 @@ def check_rooms(program, folder, music):
     table = Table('\nPartitions', 50, 60)
     kept = os.path.join(folder, 'rooms')
     for ends in ('kill', 'kill -9'):
-        if os.path.exists(kept):
-            os.remove(kept)
-        daemon = started(program, folder, music, kept, OUTPUTS)
-        client = daemon.client()
-        open_rooms(client, ROOMS)
-        wanted = rooms_of(client)
-        if ends == 'kill':
-            daemon.end()
-        else:
-            time.sleep(OLDEST)
-            daemon.kill()
-        daemon = started(program, folder, music, kept, OUTPUTS)
-        found = rooms_of(daemon.client())
+        daemon, wanted, found = restarted(
+            lambda: started(program, folder, music, kept, OUTPUTS), kept, ends, lambda client: open_rooms(client, ROOMS), rooms_of)
         is_same = rounded(found) == rounded(wanted)
         told = 'as it was' if is_same else '%s instead of %s' % (found, wanted)
         table.row('three partitions, after %s' % ends, told, right=is_same and 'music_daemon: state: ' not in daemon.errors())
@@ -479,24 +473,20 @@ def one_file(program, folder, music):
 
 
 def main():
-    parser = argparse.ArgumentParser(description='Checks the saved state across restarts.')
-    parser.add_argument('program', nargs='?', help='the built program (default: crates/music_daemon/out/music_daemon)')
-    parser.add_argument('--times', type=int, default=200, help='how many times the daemon is killed in each series (default: 200)')
-    parser.add_argument('--beside', type=int, default=8, help='how many daemons run at a time (default: 8)')
-    given = parser.parse_args()
+    given = given_to('Checks the saved state across restarts.', times=(200, 'how many times the daemon is killed in each series'),
+                     beside=(8, 'how many daemons run at a time'))
     program = program_of(given.program)
     with tempfile.TemporaryDirectory() as folder:
         os.chmod(folder, 0o755)
         music = os.path.join(folder, 'music')
         put_songs(music, 12, 441000)
-        songs = ['album %02d/%04d.wav' % (number // 10, number) for number in range(12)]
+        songs = [uri_of(number) for number in range(12)]
         failed = check_all_back(program, folder, music) + check_played(program, folder, music) + check_files(program, folder, music)
         failed += check_full(program, folder, music) + check_stops(program, folder, music, given.beside)
         failed += check_rooms(program, folder, music)
         failed += check_kills(program, folder, music, songs, given.times, given.beside)
         failed += check_kills(program, folder, music, songs, given.times, given.beside, rooms_killed_once, 'kill -9 while three clients edit in three partitions')
-    print('\n%d failed' % failed)
-    return 1 if failed else 0
+    return status_of(failed)
 
 
 sys.exit(main())

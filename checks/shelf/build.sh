@@ -1,10 +1,6 @@
-#!/bin/sh
-# Builds shelf_bench in a copy of the crates in the folder WORK, together with what is proved already; the rest is proved there first.
-# Usage: build.sh ROOT WORK     (the program is then WORK/crates/shelf_bench/out/shelf_bench)
-set -eu
-here=$(cd "$(dirname "$0")" && pwd)
-root=$1
-work=$2
+# Builds shelf_bench for bench.sh and reader.sh, which read this file with `.`; afterwards `built` is the program. What else it
+# needs and sets is explained in in_a_copy.sh.
+. "$here/../in_a_copy.sh"
 command -v sqlite3 > /dev/null || { echo 'sqlite3 is not installed (Debian: apt-get install sqlite3)'; exit 1; }
-python3 "$here/../crates.py" "$root" shelf_database shelf sqlite --for "$here/shelf_bench" "$work"
-(cd "$work/crates/shelf_bench" && rt run -- list memory 1 > "$work/log" 2>&1) || { cat "$work/log"; exit 1; }
+copy_program shelf_bench shelf_database shelf sqlite
+run_copy -- list memory 1

@@ -4,7 +4,7 @@ import random
 import shutil
 
 from answers import Fault
-from daemon import put_songs, values
+from daemon import put_songs, uri_of, values
 from loop import CLOSE, CONNECT, Waits
 
 SONGS = 100         # how many songs the folder has
@@ -16,10 +16,6 @@ LOOKS = ['ping', 'status', 'currentsong', 'playlistinfo 0:5', 'plchangesposid 1 
 # the refusals that have a reason: the player has stopped, or the output is in another partition
 REFUSED = {'next': '[55@0] {next} not playing', 'previous': '[55@0] {previous} not playing', 'seekcur': '[55@0] {seekcur} not playing',
            'toggleoutput': '[50@0] {toggleoutput} no such output', 'enableoutput': '[50@0] {enableoutput} no such output'}
-
-
-def uri_of(number):
-    return 'album %02d/%04d.wav' % (number // 10, number)
 
 
 def ask(request, *permitted):

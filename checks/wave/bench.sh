@@ -4,11 +4,8 @@
 # The program is built in a temporary copy of the crates, together with what is proved already; the rest is proved there first.
 set -eu
 here=$(cd "$(dirname "$0")" && pwd)
-root=$(cd "${1:-$here/../..}" && pwd)
-work=$(mktemp -d)
-trap 'rm -rf "$work"' EXIT
-python3 "$here/../crates.py" "$root" wave counted_devices --for "$here/wave_bench" "$work"
-(cd "$work/crates/wave_bench" && rt run > "$work/log" 2>&1) || { cat "$work/log"; exit 1; }
+. "$here/../in_a_copy.sh"
+run_program wave_bench wave counted_devices
 grep -E '^[a-z]+ [0-9]+ [0-9]+ [0-9]+$' "$work/log" | awk '
     NR == 1 { copy = $3 / $2; printf "%-10s %16s %14s\n", "", "million frames/s", "time to memcpy" }
     { printf "%-10s %16.1f %14.1f\n", $1, $2 * 1000 / $3, $3 / $2 / copy }

@@ -4,12 +4,7 @@
 # The program is built in a temporary copy of the crates, together with what is proved already; the rest is proved there first.
 set -eu
 here=$(cd "$(dirname "$0")" && pwd)
-root=$(cd "${1:-$here/../..}" && pwd)
-work=$(mktemp -d)
-trap 'rm -rf "$work"' EXIT
-python3 "$here/../crates.py" "$root" wave counted_devices --for "$here/wave_show" "$work"
+. "$here/../in_a_copy.sh"
 gcc -shared -fPIC -O2 -o "$work/faulty.so" "$root/checks/faulty.c" -ldl
-# This run finds no file; it only proves and builds the program.
-(cd "$work/crates/wave_show" && rt run > "$work/log" 2>&1) || true
-[ -x "$work/crates/wave_show/out/wave_show" ] || { cat "$work/log"; exit 1; }
-python3 "$here/faults.py" "$work/crates/wave_show/out/wave_show" "$work/faulty.so"
+build_program wave_show wave counted_devices
+python3 "$here/faults.py" "$built" "$work/faulty.so"
