@@ -202,12 +202,13 @@ def long_queue(server, client, songs, keep):
     version = client.value('status', 'playlist')
     client.must('swap 100 9000')
     keep('plchangesposid after a change', 'us', *round_trips(client, 'plchangesposid ' + version, 500))
+    keep('shuffle, 16,000 entries', 'us', *round_trips(client, 'shuffle', 50))
     for line in ('random 1', 'play 0', 'pause 1'):
         client.must(line)
     keep('status, paused in random order', 'us', *round_trips(client, 'status', 500))
     for line in ('stop', 'random 0'):
         client.must(line)
-    keep('a ping beside who reads it, 99th of 100', 'ms', beside_reader(server))
+    keep('ping during playlistinfo, 99th of 100', 'ms', beside_reader(server))
     client.must('clear')
     keep('memory, empty again', 'MB', server.memory())
 

@@ -102,17 +102,23 @@ def of_idle(server):
 
 
 def of_library(server):
-    """Milliseconds that `listall` takes, the best of five times."""
-    client, best = server.client(), float('inf')
+    """Milliseconds that `listall` takes, and an `update` that finds no change: each the best of five times."""
+    client, listed, updated = server.client(), [], []
     for _ in range(5):
         start = time.perf_counter()
         client.send('listall')
         held = bytearray()
         while not held.endswith(b'\nOK\n'):
             held += client.socket.recv(1 << 20)
-        best = min(best, time.perf_counter() - start)
+        listed.append(time.perf_counter() - start)
+    for _ in range(5):
+        start = time.perf_counter()
+        client.must('update')
+        while any(line.startswith('updating_db') for line in client.must('status')):
+            time.sleep(0.001)
+        updated.append(time.perf_counter() - start)
     client.close()
-    return best * 1e3
+    return min(listed) * 1e3, min(updated) * 1e3
 
 
 def figures(program, folder, with_mpd):
@@ -120,7 +126,9 @@ def figures(program, folder, with_mpd):
     library, music = os.path.join(folder, 'library'), os.path.join(folder, 'music')
     put_songs(library, LIBRARY, 441)
     put_song(music)
-    yield 'listall, 5,000 songs', 'ms', Pair(program, folder, library, with_mpd, ['/dev/null'], [NULL]).figures(of_library)
+    large = Pair(program, folder, library, with_mpd, ['/dev/null'], [NULL]).figures(of_library)
+    yield 'listall, 5,000 songs', 'ms', {name: it[0] for name, it in large.items()}
+    yield 'update, 5,000 unchanged files', 'ms', {name: it[1] for name, it in large.items()}
     for name, outputs, entries, fade in (('frames a second, 1 null output', 1, 150, 0), ('frames a second, 3 null outputs', 3, 40, 0),
                                          ('the same with 1 and cross-fades', 1, 60, FADE)):
         pair = Pair(program, folder, music, with_mpd, ['/dev/null'] * outputs, [FAST] * outputs)
