@@ -1,6 +1,5 @@
 //! The forms of arguments: what one word can be read as.
 ghost use Rattle.std.specs.Prelude.{◌≡◌, ℕ, List, Option, Some, None, IfOk, ◌<◌, option_map};
-ghost use Rattle.std.specs.Str.{str_eq_ignore_ascii_case};
 ghost use Rattle.mpd_text.specs.Answers.Millis.{millis_of};
 ghost use Rattle.mpd_text.specs.Answers.Number.{number_of};
 ghost use Rattle.mpd_text.specs.Answers.Range.{range_of};
@@ -11,7 +10,7 @@ ghost use Rattle.command_arguments.specs.Forms.{IsAfterSign, any_text, uri_of, s
 use crate::fade::FadeSeconds;
 use crate::volume::Volume;
 use idle_notes::Subsystem;
-use known_tags::KnownTag;
+use known_tags::{KnownTag, same_word};
 use mpd_text::{BASE_TAG_NAMES, Millis, Range, TagName, Text, number};
 use std::alloc::{AllocError, Global};
 
@@ -210,12 +209,6 @@ fn tag(word: &str) -> Option<TagName>
         .iter()
         .copied()
         .find(|name| same_word(name.text(), word))
-}
-
-fn same_word(word: &str, other: &str) -> bool
-    ensures { result ≡ str_eq_ignore_ascii_case word.now other.now }
-{
-    word.eq_ignore_ascii_case(other)
 }
 
 /// Songs of an answer: those from a place on, up to another place without it. The start is not above the end.

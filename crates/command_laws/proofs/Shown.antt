@@ -22,6 +22,7 @@ use Rattle.player_state.specs.declared.state.Part.{Part}
 use Rattle.player_state.specs.declared.state.Library.{Library}
 use Rattle.transitions.specs.CommandResults.{shows}
 use Rattle.status_commands.specs.Status as status
+use Rattle.status_commands.proofs.Lines.{two, three, four, five}
 use Rattle.command_laws.specs.Shown.{IsPlaceOf, Shown, ShowsConsume, ShowsFade, ShowsFlag, ShowsLength, ShowsProgress, ShowsScan, ShowsSingle, ShowsSong, ShowsState, ShowsTime, ShowsWhole, ShowsWorld, StatusShowsWorld, line_if, seconds, text_of, whole_seconds}
 
 -- the place of the first entry with an id
@@ -195,18 +196,6 @@ world everyday part library = record {
 }
 
 -- the lines are these, in this order
-two : (a b r : List ℕ) → (a ++ b) ++ r ≡ a ++ (b ++ r)
-two a b r = append_assoc a b r
-
-three : (a b c r : List ℕ) → (a ++ (b ++ c)) ++ r ≡ a ++ (b ++ (c ++ r))
-three a b c r = append_assoc a (b ++ c) r ∙ ap (λ l. a ++ l) (two b c r)
-
-four : (a b c d r : List ℕ) → (a ++ (b ++ (c ++ d))) ++ r ≡ a ++ (b ++ (c ++ (d ++ r)))
-four a b c d r = append_assoc a (b ++ (c ++ d)) r ∙ ap (λ l. a ++ l) (three b c d r)
-
-five : (a b c d e r : List ℕ) → (a ++ (b ++ (c ++ (d ++ e)))) ++ r ≡ a ++ (b ++ (c ++ (d ++ (e ++ r))))
-five a b c d e r = append_assoc a (b ++ (c ++ (d ++ e))) r ∙ ap (λ l. a ++ l) (four b c d e r)
-
 mode-lines : (volume : ℕ) (m : Modes) (r : List ℕ) → status.mode_lines volume m ++ r
     ≡ pair_line (codes "volume") (decimal volume) ++ (pair_line (codes "repeat") (decimal (status.digit m.repeat)) ++ (pair_line (codes "random") (decimal (status.digit m.random))
     ++ (pair_line (codes "single") (status.single_text m.single) ++ (pair_line (codes "consume") (status.consume_text m.consume) ++ r))))

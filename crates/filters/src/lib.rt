@@ -11,7 +11,7 @@ mod state;
 mod words;
 
 pub use expression::{Field, Filter, Test};
-pub use matching::Case;
+pub use matching::{Case, after_prefix};
 pub use pairs::Pair;
 pub use reading::{FilterFault, one_answer, parsed_is_the_answer};
 pub use state::MAX_DEPTH;

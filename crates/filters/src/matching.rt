@@ -194,7 +194,7 @@ fn is_under(uri: &str, folder: &str) -> bool
 }
 
 /// The bytes after a prefix, if they begin with it.
-fn after_prefix<'a>(bytes: &'a [u8], prefix: &[u8]) -> Option<&'a [u8]>
+pub fn after_prefix<'a>(bytes: &'a [u8], prefix: &[u8]) -> Option<&'a [u8]>
     ensures { MatchOption result (LacksPrefix prefix.now bytes.now) (λ rest. bytes.now ≡ prefix.now ++ rest.now) }
 {
     bytes.strip_prefix(prefix)

@@ -6,7 +6,8 @@ ghost use Rattle.filters.specs.declared.state.Stop.TheVariants.{Syntax, NoMemory
 
 use crate::expression::{Field, Filter, Test};
 use crate::stack::Stack;
-use crate::words::{Vocabulary, field_named, is_word_byte, same_word};
+use crate::words::{Vocabulary, field_named, is_word_byte};
+use known_tags::same_word;
 use mpd_text::{Sequence, Text};
 use std::alloc::{AllocError, AllocFailed, Global};
 

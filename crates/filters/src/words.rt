@@ -1,9 +1,9 @@
 //! The words that name what a filter compares (MPD protocol reference, Tags and Filters).
 ghost use Rattle.std.specs.Prelude.{◌≡◌};
-ghost use Rattle.filters.specs.Words.{is_letter as is_letter_lem, is_word_byte as is_word_byte_lem, same_word as same_word_lem, field_named as field_named_lem, base_field as base_field_lem, known_field as known_field_lem, field_of_tag as field_of_tag_lem};
+ghost use Rattle.filters.specs.Words.{is_letter as is_letter_lem, is_word_byte as is_word_byte_lem, field_named as field_named_lem, base_field as base_field_lem, known_field as known_field_lem, field_of_tag as field_of_tag_lem};
 
 use crate::expression::Field;
-use known_tags::KnownTag;
+use known_tags::{KnownTag, same_word};
 use mpd_text::TagName;
 
 /// Which words name what a filter compares.
@@ -94,11 +94,4 @@ fn field_of_tag(tag: KnownTag) -> Field
         Some(name) => Field::Tag(name),
         None => Field::NoTag,
     }
-}
-
-/// Whether two words are the same, whatever the case of their ASCII letters.
-pub fn same_word(word: &str, name: &str) -> bool
-    ensures { result ≡ same_word_lem word.now name.now }
-{
-    word.eq_ignore_ascii_case(name)
 }

@@ -210,7 +210,8 @@ fn first_named(tags: &[KnownTag], word: &str) -> Option<KnownTag>
     tags.iter().copied().find(|tag| same_word(word, tag.text()))
 }
 
-fn same_word(word: &str, name: &str) -> bool
+/// Whether two words are the same, whatever the case of their ASCII letters.
+pub fn same_word(word: &str, name: &str) -> bool
     ensures { result ≡ str_eq_ignore_ascii_case word.now name.now }
 {
     word.eq_ignore_ascii_case(name)

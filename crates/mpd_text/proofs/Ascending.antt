@@ -42,25 +42,25 @@ same_ascending xs ys h =
     ap keys (same_map order apart (from_entries (map key_of xs)) (from_entries (map key_of ys))
     (λ q. get-from_entries order (map key_of xs) q ∙ finds q xs ∙ ap (λ b. cond b (Some tt) None) (h q) ∙ sym (finds q ys) ∙ sym (get-from_entries order (map key_of ys) q)))
 
-less : (o : Ordering) → o ≡ Less → T (is_lt o)
+pub less : (o : Ordering) → o ≡ Less → T (is_lt o)
 less Less e = tt
 less Equal e = cc
 less Greater e = cc
 
-is-less : (o : Ordering) → T (is_lt o) → o ≡ Less
+pub is-less : (o : Ordering) → T (is_lt o) → o ≡ Less
 is-less Less h = refl
 is-less Equal h = absurd h
 is-less Greater h = absurd h
 
-both : (a b : Bool) → T a → T b → T (a && b)
+pub both : (a b : Bool) → T a → T b → T (a && b)
 both true b h k = k
 both false b h k = h
 
-first : (a b : Bool) → T (a && b) → T a
+pub first : (a b : Bool) → T (a && b) → T a
 first true b h = tt
 first false b h = h
 
-second : (a b : Bool) → T (a && b) → T b
+pub second : (a b : Bool) → T (a && b) → T b
 second true b h = h
 second false b h = absurd h
 

@@ -1,5 +1,5 @@
 -- What `status` and `stats` answer are their lines, and each line is the same where nothing is told of it.
-use Rattle.std.proofs.Common.{◌≡◌, ℕ, Bool, true, false, List, [], ◌∷◌, ◌++◌, length, refl, ap, sym, ◌∙◌, append_assoc, codes, decimal, if◌then◌else◌}
+use Rattle.std.proofs.Common.{◌≡◌, ℕ, Bool, true, false, List, [], ◌∷◌, ◌++◌, length, refl, ap, sym, ◌∙◌, codes, decimal, if◌then◌else◌}
 use Rattle.idle_notes.specs.declared.subsystem.Subsystem.TheVariants as subsystem
 use Rattle.play_order.specs.declared.modes.Modes.{Modes}
 use Rattle.song_queue.specs.State.{entries_of, queue_of}
@@ -15,6 +15,7 @@ use Rattle.connected_clients.specs.declared.fingerprint.Options.{Options}
 use Rattle.status_commands.specs.Stats.{library_lines, playtime_line, uptime_line}
 use Rattle.status_commands.specs.Status as status
 use Rattle.status_commands.specs.Status.{result_of as status_result}
+use Rattle.status_commands.proofs.Lines.{four, five}
 use Rattle.notice_laws.specs.Lines.{field, status_lines, text_of, while_going}
 use Rattle.notice_laws.specs.Passages.{HearsOfNone, Passage, Stays, library_of}
 use Rattle.notice_laws.specs.Told.{HasLines, LinesAreTold}
@@ -24,18 +25,6 @@ use Rattle.notice_laws.proofs.Unheard.{options_kept, playing_kept, queue_kept, s
 append-nil : (l : List ℕ) → l ++ [] ≡ l
 append-nil [] = refl
 append-nil (x ∷ xs) = ap (λ l. x ∷ l) (append-nil xs)
-
-two : (a b r : List ℕ) → (a ++ b) ++ r ≡ a ++ (b ++ r)
-two a b r = append_assoc a b r
-
-three : (a b c r : List ℕ) → (a ++ (b ++ c)) ++ r ≡ a ++ (b ++ (c ++ r))
-three a b c r = append_assoc a (b ++ c) r ∙ ap (λ l. a ++ l) (two b c r)
-
-four : (a b c d r : List ℕ) → (a ++ (b ++ (c ++ d))) ++ r ≡ a ++ (b ++ (c ++ (d ++ r)))
-four a b c d r = append_assoc a (b ++ (c ++ d)) r ∙ ap (λ l. a ++ l) (three b c d r)
-
-five : (a b c d e r : List ℕ) → (a ++ (b ++ (c ++ (d ++ e)))) ++ r ≡ a ++ (b ++ (c ++ (d ++ (e ++ r))))
-five a b c d e r = append_assoc a (b ++ (c ++ (d ++ e))) r ∙ ap (λ l. a ++ l) (four b c d e r)
 
 mode-lines : (volume : ℕ) (m : Modes) (r : List ℕ) → status.mode_lines volume m ++ r
     ≡ field (codes "volume") (decimal volume) ++ (field (codes "repeat") (decimal (status.digit m.repeat)) ++ (field (codes "random") (decimal (status.digit m.random))

@@ -7,13 +7,13 @@ use Rattle.std.proofs.lemmas.Bool.Decides.{nat_tests}
 use Rattle.std.proofs.lemmas.List.{get_or-set_other, get_or-set_same, length-set}
 use Rattle.player_state.specs.Outputs.{OutputsData, brought, carried, is_output, released}
 use Rattle.player_state.specs.declared.effect.Effect.{Effect}
-use Rattle.player_state.specs.declared.effect.Effect.TheVariants.{ByCommand, ByAudio}
-use Rattle.player_state.specs.declared.effect.CommandEffect.TheVariants.{Rests, Switches}
-use Rattle.player_state.specs.declared.effect.AudioStep.TheVariants.{Settles}
+use Rattle.player_state.specs.declared.effect.Effect.TheVariants.{ByCommand}
+use Rattle.player_state.specs.declared.effect.CommandEffect.TheVariants.{Rests}
 use Rattle.player_state.specs.declared.outputs.Carried.{Carried}
 use Rattle.partition_table.specs.Parts.{Known, carried_from, carried_in, has_place, holding, holds_any_in, known, known_at, once_more, outputs_moved, shown_outputs}
 use Rattle.partition_table.specs.declared.crossing.Crossing.{Crossing}
 use Rattle.partition_table.specs.declared.crossing.Crossing.TheVariants.{Stays, Opens, Closes, Brings}
+use Rattle.partition_table.proofs.Moves.{here_known, moves_known}
 use Rattle.partition_table.proofs.Looks.{known_moved, knowns_changed, knowns_moved, outputs_known}
 use Rattle.partition_laws.specs.Moves.{AreApart, HasEight, Moved, Spot, spot}
 
@@ -82,18 +82,6 @@ apart_alike (f ∷ fs) (g ∷ gs) all a = (
   λ output is. holding_alike output fs gs all.1 (a.2 output (sym (ap (λ here. slice_index_or here output false) all.0.1) ∙ is)),
   apart_alike fs gs all.1 a.3,
 )
-
-here_known : (outputs : OutputsData) (effect : Effect) → (outputs_known outputs effect).here ≡ outputs.here
-here_known outputs (ByCommand (Switches output on)) = refl
-here_known outputs (ByAudio (Settles output written discarded true)) = refl
-here_known outputs (ByAudio (Settles output written discarded false)) = refl
-here_known outputs _ = refl
-
-moves_known : (outputs : OutputsData) (effect : Effect) → (outputs_known outputs effect).moves ≡ outputs.moves
-moves_known outputs (ByCommand (Switches output on)) = refl
-moves_known outputs (ByAudio (Settles output written discarded true)) = refl
-moves_known outputs (ByAudio (Settles output written discarded false)) = refl
-moves_known outputs _ = refl
 
 alike_self : (fs : List Known) → AllAlike fs fs
 alike_self [] = tt

@@ -14,13 +14,13 @@ use Rattle.partition_table.specs.declared.crossing.Crossing.TheVariants.{Stays, 
 use Rattle.partition_table.specs.Parts.{Known, carried_from, carried_in, changed, crosses_beyond, has_place, holding, is_beyond, known, known_at}
 use Rattle.partition_table.proofs.Looks.{known_changed, knowns_changed, outputs_known}
 
-here_known : (outputs : OutputsData) (effect : Effect) → (outputs_known outputs effect).here ≡ outputs.here
+pub here_known : (outputs : OutputsData) (effect : Effect) → (outputs_known outputs effect).here ≡ outputs.here
 here_known outputs (ByCommand (Switches output on)) = refl
 here_known outputs (ByAudio (Settles output written discarded true)) = refl
 here_known outputs (ByAudio (Settles output written discarded false)) = refl
 here_known outputs _ = refl
 
-moves_known : (outputs : OutputsData) (effect : Effect) → (outputs_known outputs effect).moves ≡ outputs.moves
+pub moves_known : (outputs : OutputsData) (effect : Effect) → (outputs_known outputs effect).moves ≡ outputs.moves
 moves_known outputs (ByCommand (Switches output on)) = refl
 moves_known outputs (ByAudio (Settles output written discarded true)) = refl
 moves_known outputs (ByAudio (Settles output written discarded false)) = refl

@@ -1,10 +1,10 @@
 //! The lines that a player's reports to the decoder, an output or the scans print.
 ghost use Rattle.std.specs.Prelude.{◌≡◌, ◌++◌, string_bytes, IfOk, OnOk};
-ghost use Rattle.status_commands.specs.Status.{digit as digit_lem};
 ghost use Rattle.script_reports.specs.Reports.{done_text, fade_text as fade_text_lem, feed_text, frames_text as frames_text_lem, had_text, job_text, live_text, moves_text as moves_text_lem, part_text as part_text_lem, report_text, wanted_text, window_text};
 
 use player_core::{FadePart, Job};
 use player_state::{Feed, Heard, Report};
+use status_commands::status::digit;
 use std::alloc::{AllocError, Global};
 
 /// Appends what an event tells that comes from no client: `! ok` where it tells nothing.
@@ -142,11 +142,4 @@ pub fn push_window(
 {
     let line = format!(in alloc; "! window {window} {own}\n")?;
     shown.extend_from_slice(line.as_bytes())
-}
-
-/// How a flag is printed.
-fn digit(on: bool) -> u8
-    ensures { result ≡ digit_lem on }
-{
-    if on { 1 } else { 0 }
 }

@@ -5,13 +5,14 @@ use Rattle.std.specs.List.{list_any, Contains, AllByRecursion, dedup, dedup_from
 use Rattle.std.specs.List.Sorted.{IsStrictlySortedBy}
 use Rattle.std.specs.Ordering.{eq_by_cmp, is_lt}
 use Rattle.std.specs.declared.cmp.Ordering.{Ordering}
-use Rattle.std.specs.declared.cmp.Ordering.TheVariants.{Less, Equal, Greater}
+use Rattle.std.specs.declared.cmp.Ordering.TheVariants.{Less, Equal}
 use Rattle.std.specs.Cmp.{IsTotalOrder, both_ways, eq_by_cmp_equiv, Equal-is}
 use Rattle.std.specs.FinMap.{IsAntisymmetric, entries, keys, entries_sorted, from_entries, from_sorted, entries-from_sorted, get-entries, get-from_entries, get-from_sorted, same_map}
 use Rattle.std.specs.FinMap.Entries.{find, below_all, is_sorted, is_some-find}
 use Rattle.std.proofs.lemmas.List.Kept.{Contains-dedup, Contains-from_dedup}
 use Rattle.std.proofs.lemmas.List.Sorted.{IsPermutation-map, list_any-IsPermutation}
 use Rattle.std.proofs.lemmas.Map.Views.{list_any-from_Contains, Contains-from_any}
+use Rattle.mpd_text.proofs.Ascending.{less, is-less, both, first, second}
 
 -- an element as a key, with nothing at it
 abbrev pub key : {K : Type 0} → K → K × Unit {0}
@@ -33,28 +34,6 @@ names {K} (x ∷ xs) = ap (λ (rest : List K). x ∷ rest) (names xs)
 finds : {K : Type 0} (R : K → K → Ordering) (x : K) (xs : List K) → find R x (map key xs) ≡ cond (among R x xs) (Some tt) None
 finds R x [] = refl
 finds R x (y ∷ ys) = elim (eq_by_cmp R x y) as (λ b. cond b (Some tt) (find R x (map key ys)) ≡ cond (b || among R x ys) (Some tt) None) [ true ↦ refl | false ↦ finds R x ys ]
-
-less : (o : Ordering) → o ≡ Less → T (is_lt o)
-less Less e = tt
-less Equal e = cc
-less Greater e = cc
-
-is-less : (o : Ordering) → T (is_lt o) → o ≡ Less
-is-less Less h = refl
-is-less Equal h = absurd h
-is-less Greater h = absurd h
-
-both : (a b : Bool) → T a → T b → T (a && b)
-both true b h k = k
-both false b h k = h
-
-first : (a b : Bool) → T (a && b) → T a
-first true b h = tt
-first false b h = h
-
-second : (a b : Bool) → T (a && b) → T b
-second true b h = h
-second false b h = absurd h
 
 below : {K : Type 0} (R : K → K → Ordering) (x : K) (xs : List K) → AllByRecursion (λ y. R x y ≡ Less) xs → T (below_all R x (map key xs))
 below R x [] h = tt

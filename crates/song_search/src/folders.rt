@@ -6,12 +6,12 @@ ghost use Rattle.std.specs.List.Sorted.{IsPartitionedBy};
 ghost use Rattle.std.specs.Option.{option_copied};
 ghost use Rattle.std.specs.Ordering.{is_lt};
 ghost use Rattle.mpd_text.specs.Songs.Song.{SongData};
-ghost use Rattle.filters.specs.Truth.{LacksPrefix};
 ghost use Rattle.song_db.specs.Library.{InByteOrder};
 ghost use Rattle.mpd_text.specs.Texts.{by_bytes, values_now};
 ghost use Rattle.song_search.specs.Truth.{front_of, is_under as is_under_lem};
 ghost use Rattle.song_search.specs.Folders.{under as under_lem, is_folder as is_folder_lem, folder_below as folder_below_lem, direct_songs, direct_folders, lies_in, has_slash, IsPathStart, IsFirstSlash, IsFirstSlashFrom};
 
+use filters::after_prefix;
 use mpd_text::sort_once;
 use song_db::{Db, SharedSong};
 use std::alloc::{AllocError, Global};
@@ -187,11 +187,4 @@ fn begins_with_slash(rest: &[u8]) -> bool
         [] => false,
         [first, ..] => *first == b'/',
     }
-}
-
-/// The bytes after a prefix, if they begin with it.
-fn after_prefix<'a>(bytes: &'a [u8], prefix: &[u8]) -> Option<&'a [u8]>
-    ensures { MatchOption result (LacksPrefix prefix.now bytes.now) (λ rest. bytes.now ≡ prefix.now ++ rest.now) }
-{
-    bytes.strip_prefix(prefix)
 }

@@ -14,3 +14,16 @@ after_three (Ok x) old a b c d one two three new ea eb ec ed =
     ed ∙ ap (λ (lines : List ℕ). lines ++ d) (ec ∙ ap (λ (lines : List ℕ). lines ++ c) (eb ∙ ap (λ (lines : List ℕ). lines ++ b) ea))
     ∙ append_assoc ((old ++ a) ++ b) c d ∙ append_assoc (old ++ a) b (c ++ d) ∙ append_assoc old a (b ++ (c ++ d))
 after_three (Err e) old a b c d one two three new ea eb ec ed = tt
+
+-- lines that are joined, and a rest behind them
+pub two : (a b r : List ℕ) → (a ++ b) ++ r ≡ a ++ (b ++ r)
+two a b r = append_assoc a b r
+
+pub three : (a b c r : List ℕ) → (a ++ (b ++ c)) ++ r ≡ a ++ (b ++ (c ++ r))
+three a b c r = append_assoc a (b ++ c) r ∙ ap (λ l. a ++ l) (two b c r)
+
+pub four : (a b c d r : List ℕ) → (a ++ (b ++ (c ++ d))) ++ r ≡ a ++ (b ++ (c ++ (d ++ r)))
+four a b c d r = append_assoc a (b ++ (c ++ d)) r ∙ ap (λ l. a ++ l) (three b c d r)
+
+pub five : (a b c d e r : List ℕ) → (a ++ (b ++ (c ++ (d ++ e)))) ++ r ≡ a ++ (b ++ (c ++ (d ++ (e ++ r))))
+five a b c d e r = append_assoc a (b ++ (c ++ (d ++ e))) r ∙ ap (λ l. a ++ l) (four b c d e r)

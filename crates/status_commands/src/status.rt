@@ -328,8 +328,8 @@ fn push_scan(lines: &mut Answer, number: Option<u64>) -> Result<(), AllocError>
     }
 }
 
-/// A mode as it is sent.
-pub(crate) fn digit(on: bool) -> u8
+/// A flag as it is sent.
+pub fn digit(on: bool) -> u8
     ensures { result ≡ digit_lem on }
 {
     if on { 1 } else { 0 }
