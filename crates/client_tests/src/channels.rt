@@ -3,7 +3,7 @@ use idle_notes::{ChannelFault, Channels, Message, is_channel_name};
 use std::alloc::{AllocError, Global};
 use std::mem;
 use std::test::Fail;
-use test_texts::{Told, wants};
+use test_texts::{Recorder, wants};
 
 /// A call.
 #[derive(Clone, Copy)]
@@ -38,59 +38,59 @@ enum Quiet {
 }
 
 /// Adds how a call ended.
-fn add_end(told: &mut Told, end: Result<(), ChannelFault>) {
+fn add_end(recorder: &mut Recorder, end: Result<(), ChannelFault>) {
     match end {
-        Ok(()) => told.add("ok"),
-        Err(fault) => told.add(format_args!("{fault:?}")),
+        Ok(()) => recorder.add("ok"),
+        Err(fault) => recorder.add(format_args!("{fault:?}")),
     }
 }
 
-fn add_messages(told: &mut Told, messages: &[Message]) {
+fn add_messages(recorder: &mut Recorder, messages: &[Message]) {
     for message in messages {
         let (channel, text) = (message.channel.as_str(), message.text.as_str());
-        told.add(format_args!("{channel}={text} "));
+        recorder.add(format_args!("{channel}={text} "));
     }
 }
 
-fn add_read(told: &mut Told, channels: &mut Channels, client: u32) {
-    add_messages(told, &channels.read(client));
+fn add_read(recorder: &mut Recorder, channels: &mut Channels, client: u32) {
+    add_messages(recorder, &channels.read(client));
 }
 
-fn add_names(told: &mut Told, alloc: Global, channels: &Channels) {
+fn add_names(recorder: &mut Recorder, alloc: Global, channels: &Channels) {
     let Ok(names) = channels.channels(alloc) else {
-        return told.fail();
+        return recorder.fail();
     };
     for name in names.as_slice() {
-        told.add(format_args!("{name} "));
+        recorder.add(format_args!("{name} "));
     }
 }
 
-fn add_asked(told: &mut Told, channels: &Channels, client: u32, name: &str) {
+fn add_asked(recorder: &mut Recorder, channels: &Channels, client: u32, name: &str) {
     let listens = channels.listens(client, name);
     let count = channels.count_of(client);
     let waits = channels.has_messages(client);
     let hears = channels.hears(name);
     let room = channels.has_room(name);
-    told.add(format_args!(
+    recorder.add(format_args!(
         "listens {listens}, names {count}, waits {waits}, heard {hears}, room {room}"
     ));
 }
 
 /// Adds how many messages wait for a client, and the last of them.
-fn add_last(told: &mut Told, channels: &Channels, client: u32) {
+fn add_last(recorder: &mut Recorder, channels: &Channels, client: u32) {
     let messages = channels.messages(client);
     let count = messages.len();
     match messages.last() {
         Some(message) => {
             let text = message.text.as_str();
-            told.add(format_args!("{count}: {text}"));
+            recorder.add(format_args!("{count}: {text}"));
         }
-        None => told.add("none"),
+        None => recorder.add("none"),
     }
 }
 
 /// Takes a step that tells nothing, of channels and the image that is kept of them.
-fn quietly(told: &mut Told, channels: &mut Channels, kept: &mut Channels, step: Quiet) {
+fn quietly(recorder: &mut Recorder, channels: &mut Channels, kept: &mut Channels, step: Quiet) {
     match step {
         Quiet::SubscribeToAll(client, names) => {
             for name in names {
@@ -105,7 +105,7 @@ fn quietly(told: &mut Told, channels: &mut Channels, kept: &mut Channels, step: 
         Quiet::Leave(client) => channels.leave(client),
         Quiet::Keep => match channels.image() {
             Ok(image) => *kept = image,
-            Err(_) => told.fail(),
+            Err(_) => recorder.fail(),
         },
         Quiet::Back => mem::swap(channels, kept),
     }
@@ -113,39 +113,39 @@ fn quietly(told: &mut Told, channels: &mut Channels, kept: &mut Channels, step: 
 
 /// Adds what a call answers, on a line.
 fn add_answer(
-    told: &mut Told,
+    recorder: &mut Recorder,
     alloc: Global,
     channels: &mut Channels,
     kept: &mut Channels,
     step: &Step,
 ) {
     match step {
-        Step::Subscribe(client, name) => add_end(told, channels.subscribe(*client, name)),
-        Step::Unsubscribe(client, name) => add_end(told, channels.unsubscribe(*client, name)),
-        Step::Send(name, text) => add_end(told, channels.send(name, text)),
-        Step::Messages(client) => add_messages(told, channels.messages(*client)),
-        Step::Read(client) => add_read(told, channels, *client),
+        Step::Subscribe(client, name) => add_end(recorder, channels.subscribe(*client, name)),
+        Step::Unsubscribe(client, name) => add_end(recorder, channels.unsubscribe(*client, name)),
+        Step::Send(name, text) => add_end(recorder, channels.send(name, text)),
+        Step::Messages(client) => add_messages(recorder, channels.messages(*client)),
+        Step::Read(client) => add_read(recorder, channels, *client),
         Step::Leave(client) => {
             channels.leave(*client);
-            told.add("gone");
+            recorder.add("gone");
         }
-        Step::Channels => add_names(told, alloc, channels),
-        Step::Ask(client, name) => add_asked(told, channels, *client, name),
-        Step::Last(client) => add_last(told, channels, *client),
-        Step::Quietly(step) => return quietly(told, channels, kept, *step),
+        Step::Channels => add_names(recorder, alloc, channels),
+        Step::Ask(client, name) => add_asked(recorder, channels, *client, name),
+        Step::Last(client) => add_last(recorder, channels, *client),
+        Step::Quietly(step) => return quietly(recorder, channels, kept, *step),
     }
-    told.add("\n");
+    recorder.add("\n");
 }
 
 /// What new channels answer to these calls, with a line for each that is not quiet.
 fn answers(alloc: Global, steps: &[Step]) -> Result<String, AllocError> {
-    let mut told = Told::new(alloc);
+    let mut recorder = Recorder::new(alloc);
     let mut channels = Channels::new(alloc);
     let mut kept = Channels::new(alloc);
     for step in steps {
-        add_answer(&mut told, alloc, &mut channels, &mut kept, step);
+        add_answer(&mut recorder, alloc, &mut channels, &mut kept, step);
     }
-    told.into_text()
+    recorder.into_text()
 }
 
 /// Who listens.
@@ -403,14 +403,14 @@ const NAMES: &[&str] = &[
 
 /// Those of these texts that are names of channels, with a bar after each text.
 fn proper(alloc: Global) -> Result<String, AllocError> {
-    let mut told = Told::new(alloc);
+    let mut recorder = Recorder::new(alloc);
     for text in NAMES.iter() {
         if is_channel_name(text) {
-            told.add(text);
+            recorder.add(text);
         }
-        told.add("|");
+        recorder.add("|");
     }
-    told.into_text()
+    recorder.into_text()
 }
 
 #[test]

@@ -2,52 +2,52 @@
 use command_lists::{CommandList, ListCollector, ListForm, ListLine, Taken};
 use std::alloc::{AllocError, Global};
 use std::test::Fail;
-use test_texts::{Told, wants};
+use test_texts::{Recorder, wants};
 
 /// Adds the form of a list, and each line after a bar.
-fn add_list(told: &mut Told, list: &CommandList) {
-    told.add(match list.form {
+fn add_list(recorder: &mut Recorder, list: &CommandList) {
+    recorder.add(match list.form {
         ListForm::Plain => "plain",
         ListForm::ListOk => "ok",
     });
     for line in list.lines.items() {
         match line {
-            ListLine::Text(text) => told.add(format_args!("|{}", text.as_str())),
-            ListLine::NotText => told.add("|(no text)"),
+            ListLine::Text(text) => recorder.add(format_args!("|{}", text.as_str())),
+            ListLine::NotText => recorder.add("|(no text)"),
         }
     }
 }
 
 /// Adds what a line was taken as.
-fn add_taken(told: &mut Told, taken: Result<Taken, AllocError>) {
+fn add_taken(recorder: &mut Recorder, taken: Result<Taken, AllocError>) {
     match taken {
-        Ok(Taken::Alone) => told.add("alone"),
-        Ok(Taken::Begun) => told.add("begun"),
-        Ok(Taken::Collected) => told.add("collected"),
-        Ok(Taken::Ended(list)) => add_list(told, &list),
-        Ok(Taken::TooLarge) => told.add("too large"),
-        Err(_) => told.fail(),
+        Ok(Taken::Alone) => recorder.add("alone"),
+        Ok(Taken::Begun) => recorder.add("begun"),
+        Ok(Taken::Collected) => recorder.add("collected"),
+        Ok(Taken::Ended(list)) => add_list(recorder, &list),
+        Ok(Taken::TooLarge) => recorder.add("too large"),
+        Err(_) => recorder.fail(),
     }
 }
 
 /// Adds what a line is taken as, and whether a list is open after it. `?` stands for a line that is no text, and
 /// at `!` the open list is dropped.
-fn add_line(told: &mut Told, alloc: Global, collector: &mut ListCollector, line: &str) {
+fn add_line(recorder: &mut Recorder, alloc: Global, collector: &mut ListCollector, line: &str) {
     if line == "!" {
         collector.drop_list();
     }
     let line = if line == "?" { None } else { Some(line) };
-    add_taken(told, collector.take(alloc, line));
-    told.add(if collector.is_open() { " open\n" } else { "\n" });
+    add_taken(recorder, collector.take(alloc, line));
+    recorder.add(if collector.is_open() { " open\n" } else { "\n" });
 }
 
 fn session(alloc: Global, lines: &str) -> Result<String, AllocError> {
     let mut collector = ListCollector::new();
-    let mut told = Told::new(alloc);
+    let mut recorder = Recorder::new(alloc);
     for line in lines.lines() {
-        add_line(&mut told, alloc, &mut collector, line);
+        add_line(&mut recorder, alloc, &mut collector, line);
     }
-    told.into_text()
+    recorder.into_text()
 }
 
 /// A list is collected to its end.
@@ -101,29 +101,29 @@ const SESSIONS: &[(&str, &str)] = &[(COLLECTED, COLLECTED_TOLD), (OTHERS, OTHERS
 
 /// Adds whether a list with so many lines is too large with one more, and with its end; and then what the one
 /// more is taken as.
-fn add_full(told: &mut Told, alloc: Global, count: u32, line: &str, more: &str) {
+fn add_full(recorder: &mut Recorder, alloc: Global, count: u32, line: &str, more: &str) {
     let mut collector = ListCollector::new();
-    add_line(told, alloc, &mut collector, "command_list_begin");
+    add_line(recorder, alloc, &mut collector, "command_list_begin");
     for _ in 0..count {
         if collector.take(alloc, Some(line)).is_err() {
-            told.fail();
+            recorder.fail();
         }
     }
     let before = collector.is_too_large_with(Some(more));
     let end = collector.is_too_large_with(Some("command_list_end"));
-    told.add(format_args!("{before} {end} "));
-    add_line(told, alloc, &mut collector, more);
+    recorder.add(format_args!("{before} {end} "));
+    add_line(recorder, alloc, &mut collector, more);
 }
 
 /// What is told of lists of 127 lines and one more, of a byte more, and of 128 and an empty line more.
 fn full_lists(alloc: Global) -> Result<String, AllocError> {
     let longer = "x".repeat(alloc, 16_384)?;
     let line = longer.as_str().get(..16_383).unwrap_or("");
-    let mut told = Told::new(alloc);
-    add_full(&mut told, alloc, 127, line, line);
-    add_full(&mut told, alloc, 127, line, longer.as_str());
-    add_full(&mut told, alloc, 128, line, "");
-    told.into_text()
+    let mut recorder = Recorder::new(alloc);
+    add_full(&mut recorder, alloc, 127, line, line);
+    add_full(&mut recorder, alloc, 127, line, longer.as_str());
+    add_full(&mut recorder, alloc, 128, line, "");
+    recorder.into_text()
 }
 
 /// 128 lines of 16,383 bytes have 2,097,152 bytes with their newlines.

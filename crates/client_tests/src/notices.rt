@@ -22,23 +22,23 @@ fn holds(pending: &mut Pending, step: &Step) -> bool {
             pending.note(*raised);
             true
         }
-        Step::Wait(named, wanted) => pending.wait(*named) == *wanted,
-        Step::Notice(wanted) => pending.notice() == *wanted,
+        Step::Wait(named, expected) => pending.wait(*named) == *expected,
+        Step::Notice(expected) => pending.notice() == *expected,
         Step::Cancel => {
             pending.cancel();
             true
         }
-        Step::IsWaiting(wanted) => pending.is_waiting() == *wanted,
+        Step::IsWaiting(expected) => pending.is_waiting() == *expected,
         Step::NothingChanged => pending.changed().is_empty(),
     }
 }
 
-/// The place of the first step that answers otherwise.
+/// The index of the first step that answers otherwise.
 fn first_wrong(steps: &[Step]) -> Option<usize> {
     let mut pending = Pending::new();
-    for (place, step) in steps.iter().enumerate() {
+    for (index, step) in steps.iter().enumerate() {
         if !holds(&mut pending, step) {
-            return Some(place);
+            return Some(index);
         }
     }
     None

@@ -10,8 +10,8 @@ use Rattle.mpd_text.specs.declared.answers.ranges.Range.{Range}
 use Rattle.mpd_text.specs.declared.answers.ranges.Range.TheVariants.{Lone, Between, From}
 use Rattle.mpd_text.specs.declared.songs.song.TagName.{TagName}
 use Rattle.command_arguments.specs.declared.forms.Uri.{Uri}
-use Rattle.command_arguments.specs.declared.forms.Place.{Place}
-use Rattle.command_arguments.specs.declared.forms.Place.TheVariants.{At, After, Before}
+use Rattle.command_arguments.specs.declared.forms.Position.{Position}
+use Rattle.command_arguments.specs.declared.forms.Position.TheVariants.{At, After, Before}
 use Rattle.command_arguments.specs.declared.forms.Seeking.{Seeking}
 use Rattle.command_arguments.specs.declared.forms.Seeking.TheVariants.{To, Forward, Back}
 use Rattle.command_arguments.specs.declared.forms.SongMode.{SongMode}
@@ -84,8 +84,8 @@ IsAfterSign result sign word =
     MatchOption result (first_is sign word ≡ false) (λ rest. (first_is sign word ≡ true) × (rest.now ≡ drop 1 word))
 
 -- POS, +N or -N
-abbrev pub place_of : List ℕ → Option Place
-place_of word =
+abbrev pub position_of : List ℕ → Option Position
+position_of word =
     if first_is 43 word then option_map After (number_of (drop 1 word))
     else (if first_is 45 word then option_map Before (number_of (drop 1 word))
     else option_map At (number_of word))
@@ -104,7 +104,7 @@ tag_of word = find (λ name. str_eq_ignore_ascii_case (tag_text name) word) base
 -- a range that has both ends
 abbrev pub with_ends : Option Range → Option Window
 with_ends (Some (Between start end)) = Some (record { start = start; end = end })
-with_ends (Some (Lone place)) = None
+with_ends (Some (Lone position)) = None
 with_ends (Some (From start)) = None
 with_ends None = None
 

@@ -1,3 +1,3 @@
 pub mod Forms
 pub mod Readers
-pub mod Wanted
+pub mod Criteria

@@ -5,7 +5,7 @@ ghost use Rattle.mpd_text.specs.Answers.Number.{number_of};
 ghost use Rattle.mpd_text.specs.Answers.Range.{range_of};
 ghost use Rattle.idle_notes.specs.Names.{subsystem_of};
 ghost use Rattle.known_tags.specs.KnownTags.{tag_of as known_tag_of};
-ghost use Rattle.command_arguments.specs.Forms.{IsAfterSign, any_text, uri_of, switch_of, song_mode_of, volume_of, fade_of, byte_of, off_of, place_of, seeking_of, tag_of, volume_change_of, window_of};
+ghost use Rattle.command_arguments.specs.Forms.{IsAfterSign, any_text, uri_of, switch_of, song_mode_of, volume_of, fade_of, byte_of, off_of, position_of, seeking_of, tag_of, volume_change_of, window_of};
 
 use crate::fade::FadeSeconds;
 use crate::volume::Volume;
@@ -22,7 +22,7 @@ pub trait Form: Sized + Drop {
         ensures { IfOk result (λ read. read ≡ read_gives word.now) };
 }
 
-/// A number, an id, a place or an output.
+/// A number, an id, a position or an output.
 impl Form for u32 {
     ghost read_gives = { number_of };
 
@@ -211,7 +211,7 @@ fn tag(word: &str) -> Option<TagName>
         .find(|name| same_word(name.text(), word))
 }
 
-/// Songs of an answer: those from a place on, up to another place without it. The start is not above the end.
+/// Songs of an answer: those from a position on, up to another position without it. The start is not above the end.
 #[derive(Clone, Copy, PartialEq, Eq)]
 pub struct Window {
     pub start: u32,
@@ -252,26 +252,26 @@ fn without_slash(word: &str) -> &str
 
 /// Where a song is put into the queue.
 #[derive(Clone, Copy, PartialEq, Eq)]
-pub enum Place {
-    /// At this place.
+pub enum Position {
+    /// At this position.
     At(u32),
-    /// So many places after the one that follows the current song.
+    /// So many positions after the one that follows the current song.
     After(u32),
-    /// So many places before the current song.
+    /// So many positions before the current song.
     Before(u32),
 }
 
-impl Form for Place {
-    ghost read_gives = { place_of };
+impl Form for Position {
+    ghost read_gives = { position_of };
 
-    fn read(_alloc: Global, word: &str) -> Result<Option<Place>, AllocError> {
+    fn read(_alloc: Global, word: &str) -> Result<Option<Position>, AllocError> {
         if let Some(steps) = after_sign(word, '+') {
-            return Ok(number(steps).map(Place::After));
+            return Ok(number(steps).map(Position::After));
         }
         if let Some(steps) = after_sign(word, '-') {
-            return Ok(number(steps).map(Place::Before));
+            return Ok(number(steps).map(Position::Before));
         }
-        Ok(number(word).map(Place::At))
+        Ok(number(word).map(Position::At))
     }
 }
 

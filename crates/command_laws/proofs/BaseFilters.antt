@@ -14,7 +14,7 @@ use Rattle.filters.specs.declared.reading.FilterFault.{FilterFault}
 use Rattle.filters.specs.declared.words.Vocabulary.TheVariants.{Base}
 use Rattle.filters.proofs.Exact.{parsed_answers}
 use Rattle.command_arguments.specs.Readers.{argument_of, both, map_ok, none_of, read_or}
-use Rattle.command_arguments.specs.Wanted.{asked, filter_of, is_alone, one_filter_of, paired, pairs_of, perhaps_filter_of}
+use Rattle.command_arguments.specs.Criteria.{asked, filter_of, is_alone, one_filter_of, paired, pairs_of, perhaps_filter_of}
 use Rattle.command_arguments.specs.declared.readers.Misread.{Misread}
 use Rattle.command_laws.specs.Base.{IsBaseExpression, IsBaseField, IsBaseFilter, MayBeFilter}
 
@@ -128,20 +128,20 @@ meaning-base test pairs =
     (together-base (filter_map (asked_by Base test) pairs) (pairs-base test pairs))
 
 -- words
-wanted-base : (r : Result Expression FilterFault) → ReadsBase r → IsBaseFilter (asked r)
-wanted-base (Ok e) h = h
-wanted-base (Err fault) h = tt
+criteria-base : (r : Result Expression FilterFault) → ReadsBase r → IsBaseFilter (asked r)
+criteria-base (Ok e) h = h
+criteria-base (Err fault) h = tt
 
 pub filter-base : (test : Test) (words : List (List ℕ)) → Reads IsBaseFilter (filter_of Base test words)
 filter-base test [] = tt
 filter-base test (word ∷ words) =
     one-way IsBaseFilter (is_alone word) (none_of (asked (parsed Base word)) words) (paired Base test (word ∷ words))
-    (alone IsBaseFilter (asked (parsed Base word)) words (wanted-base (parsed Base word) (answer-base word (parsed Base word) (parsed_answers Base word))))
-    (mapped IsBaseFilter _ (pairs_of (word ∷ words)) (λ pairs. wanted-base (pairs_meaning Base test pairs) (meaning-base test pairs)))
+    (alone IsBaseFilter (asked (parsed Base word)) words (criteria-base (parsed Base word) (answer-base word (parsed Base word) (parsed_answers Base word))))
+    (mapped IsBaseFilter _ (pairs_of (word ∷ words)) (λ pairs. criteria-base (pairs_meaning Base test pairs) (meaning-base test pairs)))
 
 perhaps-base : (test : Test) (words : List (List ℕ)) → Reads MayBeFilter (perhaps_filter_of Base test words)
 perhaps-base test [] = tt
-perhaps-base test (word ∷ words) = from-read IsBaseFilter MayBeFilter _ (filter_of Base test (word ∷ words)) (filter-base test (word ∷ words)) (λ wanted h. h)
+perhaps-base test (word ∷ words) = from-read IsBaseFilter MayBeFilter _ (filter_of Base test (word ∷ words)) (filter-base test (word ∷ words)) (λ criteria h. h)
 
 -- what a word is read as has a property, where it is read
 abbrev pub MayHave : {A : Type 0} → (A → Type 0) → Option A → Type 0

@@ -61,17 +61,17 @@ command-found set word words there =
     (lifted Any command.Partitions _ (any-found (found partitions_rows word words)) (λ a h. tt)))))))))))
 
 -- the text of the name that a word is is the word
-named-by : (f : ℕ → Name) → ((place : ℕ) → text_of (f place) ≡ slice_index_or all_names place (codes "")) → (word : List ℕ) (name : Name) (o : Option ℕ)
+named-by : (f : ℕ → Name) → ((index : ℕ) → text_of (f index) ≡ slice_index_or all_names index (codes "")) → (word : List ℕ) (name : Name) (o : Option ℕ)
     → position (λ other. bytes_eq other word) all_names ≡ o → option_map f o ≡ Some name → text_of name ≡ word
 named-by f says word name None at e = absurd (cc)
-named-by f says word name (Some place) at e =
-    let is : f place ≡ name = cc in
-    sym (ap text_of is) ∙ says place
-    ∙ (bytes_eq-Decides (slice_index_or all_names place (codes "")) word).0 ((position-Some (λ other. bytes_eq other word) all_names place (codes "") at).1)
+named-by f says word name (Some index) at e =
+    let is : f index ≡ name = cc in
+    sym (ap text_of is) ∙ says index
+    ∙ (bytes_eq-Decides (slice_index_or all_names index (codes "")) word).0 ((position-Some (λ other. bytes_eq other word) all_names index (codes "") at).1)
 
 named : (word : List ℕ) (name : Name) → name_of word ≡ Some name → text_of name ≡ word
 unfolding name_of
-named word name e = named-by _ (λ place. refl) word name (position (λ other. bytes_eq other word) all_names) refl e
+named word name e = named-by _ (λ index. refl) word name (position (λ other. bytes_eq other word) all_names) refl e
 
 -- the command that words name
 abbrev Names : CommandSet → Result (Name × Command) Ack → Type 0

@@ -15,8 +15,8 @@ use Rattle.filters.specs.declared.expression.Test.TheVariants.{Equals, Contains}
 use Rattle.filters.specs.declared.words.Vocabulary.TheVariants.{Base}
 use Rattle.command_arguments.specs.Forms as forms
 use Rattle.command_arguments.specs.Readers.{map_ok, one_of, one_perhaps_of}
-use Rattle.command_arguments.specs.Wanted.{filter_length, filter_of, filter_window_of, one_filter_of, perhaps_window_of}
-use Rattle.command_arguments.specs.declared.forms.Place.{Place}
+use Rattle.command_arguments.specs.Criteria.{filter_length, filter_of, filter_window_of, one_filter_of, perhaps_window_of}
+use Rattle.command_arguments.specs.declared.forms.Position.{Position}
 use Rattle.command_arguments.specs.declared.forms.Uri.{Uri}
 use Rattle.command_arguments.specs.declared.readers.Misread.{Misread}
 use Rattle.selections.specs.Groupings.{counting_of, grouping_of, known_as}
@@ -33,7 +33,7 @@ use Rattle.mpd_command.specs.Queue.{rows as queue_rows, rows_from_playlist, rows
 use Rattle.mpd_command.specs.Status.{rows as status_rows}
 use Rattle.mpd_command.specs.declared.command_set.CommandSet.{CommandSet}
 use Rattle.command_arguments.specs.declared.forms.Window.{Window}
-use Rattle.command_arguments.specs.declared.wanted.Wanted.{Wanted}
+use Rattle.command_arguments.specs.declared.criteria.Criteria.{Criteria}
 use Rattle.command_laws.proofs.BaseFilters.{MayHave, Reads, alone, both-first, filter-base, from-read, mapped, one-filter-base}
 use Rattle.command_laws.specs.Base.{IsBaseFilter, IsBaseTag, MayBeFilter, IsBaseAddition, IsBaseConnection, IsBaseCounting, IsBaseDatabase, IsBaseGrouping, IsBaseOption, IsBasePlaylist, IsBaseQueue, IsBaseSelection, IsBaseStatus, base_set}
 
@@ -74,7 +74,7 @@ none-there e = absurd (cc)
 -- the readers of the base profile
 counts : (words : List (List ℕ)) → Reads IsBaseCounting (counting_of false words)
 unfolding counting_of
-counts words = from-read IsBaseFilter IsBaseCounting _ (filter_of Base Equals words) (filter-base Equals words) (λ wanted h. (wanted, refl, h, refl))
+counts words = from-read IsBaseFilter IsBaseCounting _ (filter_of Base Equals words) (filter-base Equals words) (λ criteria h. (criteria, refl, h, refl))
 
 is-known : (name : TagName) → base_of (known_as name) ≡ Some name
 is-known songs.Title = refl
@@ -88,7 +88,7 @@ is-known songs.Track = refl
 is-known songs.Disc = refl
 is-known songs.Composer = refl
 
-abbrev HasFilter : TagName × Option Wanted → Type 0
+abbrev HasFilter : TagName × Option Criteria → Type 0
 HasFilter p = IsBaseTag p.0 × MayBeFilter p.1
 
 -- what a word names is one of the names that it is looked for in
@@ -114,7 +114,7 @@ groups words =
     from-read HasFilter IsBaseGrouping _ (one_filter_of forms.tag_of Base Equals words) (one-filter-base IsBaseTag forms.tag_of Equals words named-base)
     (λ p h. (known_as p.0, p.0, refl, is-known p.0, h.0, h.1))
 
-abbrev IsFiltered : Wanted × Option Window → Type 0
+abbrev IsFiltered : Criteria × Option Window → Type 0
 IsFiltered p = IsBaseFilter p.0
 
 selects : (test : Test) (words : List (List ℕ)) → Reads IsBaseSelection (selection_of false test words)
@@ -124,12 +124,12 @@ selects test words =
     from-read IsFiltered IsBaseSelection _ (filter_window_of Base test words)
     (both-first IsBaseFilter (filter_of Base test own) (perhaps_window_of (drop (filter_length words) words)) (filter-base test own)) (λ p h. (h, refl))
 
-abbrev IsAddition : Selection × Option Place → Type 0
+abbrev IsAddition : Selection × Option Position → Type 0
 IsAddition p = IsBaseAddition p.0 p.1
 
 adds : (test : Test) (words : List (List ℕ)) → Reads IsAddition (placed_selection_of false test words)
 unfolding placed_selection_of
-adds test words = from-read IsBaseFilter IsAddition _ (filter_of Base test words) (filter-base test words) (λ wanted h. ((h, refl), refl, refl))
+adds test words = from-read IsBaseFilter IsAddition _ (filter_of Base test words) (filter-base test words) (λ criteria h. ((h, refl), refl, refl))
 
 -- the tables
 connection : (set : CommandSet) → Rows IsBaseConnection set (connection_rows (base_set set))
@@ -157,7 +157,7 @@ status set =
     ⊙ (λ words there. alone IsBaseStatus _ words refl)  -- status
     ⊙ tt
 
-abbrev AtEnd : Uri × Option Place → Type 0
+abbrev AtEnd : Uri × Option Position → Type 0
 AtEnd p = p.1 ≡ None
 
 queue : (set : CommandSet) → Rows IsBaseQueue set (queue_rows (base_set set))
@@ -219,8 +219,8 @@ database set =
     ⊙ (λ words there. search mapped)  -- update
     ⊙ tt
 
-abbrev WithoutPlace : {A B : Type 0} → A × B × Option Place → Type 0
-WithoutPlace p = p.2 ≡ None
+abbrev WithoutPosition : {A B : Type 0} → A × B × Option Position → Type 0
+WithoutPosition p = p.2 ≡ None
 
 playlists : (set : CommandSet) → Rows IsBasePlaylist set (playlists_rows (base_set set))
 unfolding playlists_rows rows_from_playlistadd
@@ -228,7 +228,7 @@ playlists set =
     (λ words there. search mapped)  -- listplaylist
     ⊙ (λ words there. search mapped)  -- listplaylistinfo
     ⊙ (λ words there. alone IsBasePlaylist _ words tt)  -- listplaylists
-    ⊙ (λ words there. from-read WithoutPlace IsBasePlaylist _ _ (mapped WithoutPlace _ (one_perhaps_of forms.any_text range_of words) (λ p. refl)) (λ p none. none))  -- load
+    ⊙ (λ words there. from-read WithoutPosition IsBasePlaylist _ _ (mapped WithoutPosition _ (one_perhaps_of forms.any_text range_of words) (λ p. refl)) (λ p none. none))  -- load
     ⊙ (λ words there. search mapped)  -- playlistadd
     ⊙ (λ words there. search mapped)  -- playlistclear
     ⊙ (λ words there. search mapped)  -- playlistdelete

@@ -63,4 +63,4 @@ hidden_tags_are_left_out all asked part library read (command.Stickers it) is = 
 hidden_tags_are_left_out all asked part library read (command.Connection it) is = connection-same asked it
 hidden_tags_are_left_out all asked part library read (command.Outputs it) is = ap transition_by (outputs-same asked part it)
 hidden_tags_are_left_out all asked part library read (command.Messages it) is = ap transition_by (messages-same asked part it)
-hidden_tags_are_left_out all asked part library read (command.Partitions it) is = partitions-same all asked part.place it
+hidden_tags_are_left_out all asked part library read (command.Partitions it) is = partitions-same all asked part.index it

@@ -11,8 +11,8 @@ use Rattle.known_tags.specs.Lines.{song_lines_with}
 use Rattle.song_db.specs.Library.{song_of}
 use Rattle.song_search.specs.Folders.{direct_folders, direct_songs, is_folder, under}
 use Rattle.song_queue.specs.declared.entry.Entry.{Entry}
-use Rattle.command_arguments.specs.declared.wanted.Wanted.{Wanted}
-use Rattle.command_arguments.specs.declared.wanted.Wanted.TheVariants.{Meeting, Refused}
+use Rattle.command_arguments.specs.declared.criteria.Criteria.{Criteria}
+use Rattle.command_arguments.specs.declared.criteria.Criteria.TheVariants.{Meeting, Refused}
 use Rattle.selections.specs.declared.asked.Selection.{Selection}
 use Rattle.shelf.specs.declared.faults.ShelfFault.{ShelfFault}
 use Rattle.shelf.specs.declared.faults.ShelfFault.TheVariants.{NoSuchList, Exists, BadName, NoSticker, StoreFault, NoMemory}
@@ -32,8 +32,8 @@ use Rattle.mpd_command.specs.declared.playlists.PlaylistCommand.TheVariants as p
 use Rattle.mpd_command.specs.declared.status.StatusCommand.{StatusCommand}
 use Rattle.mpd_command.specs.declared.status.StatusCommand.TheVariants as status
 use Rattle.queue_commands.specs.Playback.{lines_at, lines_of_entry as entry_lines_at}
-use Rattle.queue_commands.specs.Queue.{current_place}
-use Rattle.library_commands.specs.Database.{find_met, lines_in, lines_of_folders, lines_of_songs as song_lines, lines_with, list_info, list_place, list_root, list_song_or_folder_info, list_texts, no_such_directory, show_song_or_folder, shows_playlists, uri_or_all, result_of as database_result}
+use Rattle.queue_commands.specs.Queue.{current_position}
+use Rattle.library_commands.specs.Database.{find_met, lines_in, lines_of_folders, lines_of_songs as song_lines, lines_with, list_info, list_path, list_root, list_song_or_folder_info, list_texts, no_such_directory, show_song_or_folder, shows_playlists, uri_or_all, result_of as database_result}
 use Rattle.library_commands.specs.Playlists.{on_list, refused, result_of as playlists_result}
 use Rattle.status_commands.specs.Status.{result_of as status_result}
 use Rattle.command_laws.specs.HiddenLines.{unchosen}
@@ -90,20 +90,20 @@ module _ (set : List TagName) (is : IsTagSet set) where
       less-each set (λ uri. lines_of_uri library uri (song_of library.songs uri)) (λ uri. info set library.rate uri (song_of library.songs uri))
       (λ uri. info tag_names library.rate uri (song_of library.songs uri)) (λ uri. info-less library uri (song_of library.songs uri)) uris
 
-  entry-at : (rate place : ℕ) (o : Option Entry) → LessTags set (lines_of_entry rate place o) (entry_lines_at set rate place o) (entry_lines_at tag_names rate place o)
-  entry-at rate place None = less-nil set
-  entry-at rate place (Some entry) = row-less set is rate (place, entry)
+  entry-at : (rate position : ℕ) (o : Option Entry) → LessTags set (lines_of_entry rate position o) (entry_lines_at set rate position o) (entry_lines_at tag_names rate position o)
+  entry-at rate position None = less-nil set
+  entry-at rate position (Some entry) = row-less set is rate (position, entry)
 
   lines-at : (part : Part) (library : Library) (o : Option ℕ) → LessTags set (current_lines part library o) (lines_at set library.rate part.queue o) (lines_at tag_names library.rate part.queue o)
   lines-at part library None = less-nil set
-  lines-at part library (Some place) = entry-at library.rate place _
+  lines-at part library (Some position) = entry-at library.rate position _
 
 module _ (asked : Asked) (library : Library) (is : IsTagSet asked.tags) where
   abbrev set : List TagName
   set = asked.tags
 
-  selection-less : (case : Case) (selection : Selection) (wanted : Wanted)
-      → AreShownLess asked set (selection_shown library case selection wanted) (find_met asked library case selection wanted) (find_met (unchosen asked) library case selection wanted)
+  selection-less : (case : Case) (selection : Selection) (criteria : Criteria)
+      → AreShownLess asked set (selection_shown library case selection criteria) (find_met asked library case selection criteria) (find_met (unchosen asked) library case selection criteria)
   selection-less case selection (Meeting e) = answers asked set _ _ _ (songs-less set is library _)
   selection-less case selection (Refused text) = (refl, refl)
 
@@ -111,9 +111,9 @@ module _ (asked : Asked) (library : Library) (is : IsTagSet asked.tags) where
   song-shown song =
       answers asked set (lines_of_song library.rate song) (song_lines_with set library.rate song) (song_lines_with tag_names library.rate song) (song-less set is library.rate song)
 
-  place-less : (uri : List ℕ) (o : Option SongData) → AreShownLess asked set (folder_shown library uri o) (show_song_or_folder asked library o uri) (show_song_or_folder (unchosen asked) library o uri)
-  place-less uri (Some song) = song-shown song
-  place-less uri None =
+  song_or_folder-less : (uri : List ℕ) (o : Option SongData) → AreShownLess asked set (folder_shown library uri o) (show_song_or_folder asked library o uri) (show_song_or_folder (unchosen asked) library o uri)
+  song_or_folder-less uri (Some song) = song-shown song
+  song_or_folder-less uri None =
       where-test asked set (is_folder uri library.songs) (Lines (lines_in_folder library uri)) Refusal
       (shows asked (lines_in set library uri)) (no_such_directory asked) (shows asked (lines_in tag_names library uri)) (no_such_directory asked)
       (answers asked set _ _ _ (folder-less set is library uri)) (refl, refl)
@@ -130,8 +130,8 @@ module _ (asked : Asked) (library : Library) (is : IsTagSet asked.tags) where
       (list_info asked library read uri everyday) (list_info (unchosen asked) library read uri everyday)
   info-shown read uri everyday =
       where-test asked set (shows_playlists uri everyday) (root_shown library read) (folder_shown library uri (song_of library.songs uri))
-      (list_root asked library read) (list_place asked library uri) (list_root (unchosen asked) library read) (list_place (unchosen asked) library uri)
-      (root-less read) (place-less uri (song_of library.songs uri))
+      (list_root asked library read) (list_path asked library uri) (list_root (unchosen asked) library read) (list_path (unchosen asked) library uri)
+      (root-less read) (song_or_folder-less uri (song_of library.songs uri))
 
   under-less : (uri : List ℕ) (o : Option SongData)
       → AreShownLess asked set (under_shown library uri o) (list_song_or_folder_info asked library o uri) (list_song_or_folder_info (unchosen asked) library o uri)
@@ -150,10 +150,10 @@ module _ (asked : Asked) (library : Library) (is : IsTagSet asked.tags) where
 pub database_less : (asked : Asked) (part : Part) (library : Library) (read : Read) (it : DatabaseCommand) → IsTagSet asked.tags
     → AreShownLess asked asked.tags (database_shown library read it) (database_result asked part library read it) (database_result (unchosen asked) part library read it)
 unfolding database_result list_texts
-database_less asked part library read (database.Find selection) is = selection-less asked library is Heeded selection selection.wanted
+database_less asked part library read (database.Find selection) is = selection-less asked library is Heeded selection selection.criteria
 database_less asked part library read (database.ListAllInfo uri) is = under-less asked library is (uri_or_all uri) (song_of library.songs (uri_or_all uri))
 database_less asked part library read (database.LsInfo uri everyday) is = info-shown asked library is read (uri_or_all uri) everyday
-database_less asked part library read (database.Search selection) is = selection-less asked library is Ignored selection selection.wanted
+database_less asked part library read (database.Search selection) is = selection-less asked library is Ignored selection selection.criteria
 database_less asked part library read _ is = refl
 
 pub playlists_less : (asked : Asked) (part : Part) (library : Library) (read : Read) (it : PlaylistCommand) → IsTagSet asked.tags
@@ -171,5 +171,5 @@ pub status_less : (asked : Asked) (part : Part) (library : Library) (it : Status
     → AreShownLess asked asked.tags (status_shown part library it) (status_result asked part library it) (status_result (unchosen asked) part library it)
 unfolding status_result
 status_less asked part library status.CurrentSong is =
-    answers asked asked.tags _ _ _ (lines-at asked.tags is part library (current_place part))
+    answers asked asked.tags _ _ _ (lines-at asked.tags is part library (current_position part))
 status_less asked part library _ is = refl

@@ -23,10 +23,10 @@ use Rattle.player_state.specs.declared.state.Library.{Library}
 use Rattle.transitions.specs.CommandResults.{shows}
 use Rattle.status_commands.specs.Status as status
 use Rattle.status_commands.proofs.Lines.{two, three, four, five}
-use Rattle.command_laws.specs.Shown.{IsPlaceOf, Shown, ShowsConsume, ShowsFade, ShowsFlag, ShowsLength, ShowsProgress, ShowsScan, ShowsSingle, ShowsSong, ShowsState, ShowsTime, ShowsWhole, ShowsWorld, StatusShowsWorld, line_if, seconds, text_of, whole_seconds}
+use Rattle.command_laws.specs.Shown.{IsPositionOf, Shown, ShowsConsume, ShowsFade, ShowsFlag, ShowsLength, ShowsProgress, ShowsScan, ShowsSingle, ShowsSong, ShowsState, ShowsTime, ShowsWhole, ShowsWorld, StatusShowsWorld, line_if, seconds, text_of, whole_seconds}
 
--- the place of the first entry with an id
-behind : (id : ℕ) (e : Entry) (es : List Entry) (c : Bool) (n : ℕ) → (e.id == id) ≡ false → IsPlaceOf es id (cond c (Some n) None) → IsPlaceOf (e ∷ es) id (cond c (Some (1 + n)) None)
+-- the position of the first entry with an id
+behind : (id : ℕ) (e : Entry) (es : List Entry) (c : Bool) (n : ℕ) → (e.id == id) ≡ false → IsPositionOf es id (cond c (Some n) None) → IsPositionOf (e ∷ es) id (cond c (Some (1 + n)) None)
 behind id e es true n other h = let one : suc n ≡ 1 + n = omega arith in (h.0, rw (sym one) h.1, h.2)
 behind id e es false n other h =
     λ entry there. elim (contains-cases es e entry there) [
@@ -34,14 +34,14 @@ behind id e es false n other h =
       | inr below ↦ h entry below
     ]
 
-first-of : (id : ℕ) (e : Entry) (es : List Entry) (b : Bool) (n len : ℕ) → (e.id == id) ≡ b → IsPlaceOf es id (cond (nat_lt n len) (Some n) None)
-    → IsPlaceOf (e ∷ es) id (cond (nat_lt (cond (not b) (1 + n) 0) (suc len)) (Some (cond (not b) (1 + n) 0)) None)
+first-of : (id : ℕ) (e : Entry) (es : List Entry) (b : Bool) (n len : ℕ) → (e.id == id) ≡ b → IsPositionOf es id (cond (nat_lt n len) (Some n) None)
+    → IsPositionOf (e ∷ es) id (cond (nat_lt (cond (not b) (1 + n) 0) (suc len)) (Some (cond (not b) (1 + n) 0)) None)
 first-of id e es true n len same h = let t : nat_lt 0 (suc len) ≡ true = grind arith in let is : e.id ≡ id = grind (arith, same) in rw t (e, refl, is)
 first-of id e es false n len other h = let t : nat_lt (1 + n) (suc len) ≡ nat_lt n len = grind arith in rw t (behind id e es (nat_lt n len) n other h)
 
-place-of : (id : ℕ) (slots : List Slot) → IsPlaceOf (entries_of slots) id (position (λ s. s.entry.id == id) slots)
-place-of id [] = λ entry there. absurd (contains-none entry there)
-place-of id (s ∷ ss) = first-of id s.entry (entries_of ss) (s.entry.id == id) (position_or_len (λ t. t.entry.id == id) ss) (length ss) refl (place-of id ss)
+position-of : (id : ℕ) (slots : List Slot) → IsPositionOf (entries_of slots) id (position (λ s. s.entry.id == id) slots)
+position-of id [] = λ entry there. absurd (contains-none entry there)
+position-of id (s ∷ ss) = first-of id s.entry (entries_of ss) (s.entry.id == id) (position_or_len (λ t. t.entry.id == id) ss) (length ss) refl (position-of id ss)
 
 -- the entry that is found by its id
 lost : (id : ℕ) (e : Entry) (es : List Entry) (b : Bool) → has_id id e ≡ b → cond b (Some e) (entry_of es id) ≡ None → (e.id ≢ id) × (entry_of es id ≡ None)
@@ -68,23 +68,23 @@ length-of : (rate : ℕ) (es : List Entry) (current : Option ℕ) → ShowsLengt
 length-of rate es None = refl
 length-of rate es (Some id) = length-by rate es id (entry_of es id) refl
 
-whole-by : (rate place : ℕ) (es : List Entry) (id : ℕ) (o : Option Entry) → entry_of es id ≡ o
-    → ShowsWhole rate es place (Some id) (option_map (λ (e : Entry). whole_seconds rate place ++ codes ":" ++ whole_seconds rate e.song.frames) o)
-whole-by rate place es id None found = none-of id es found
-whole-by rate place es id (Some e) found =
+whole-by : (rate offset : ℕ) (es : List Entry) (id : ℕ) (o : Option Entry) → entry_of es id ≡ o
+    → ShowsWhole rate es offset (Some id) (option_map (λ (e : Entry). whole_seconds rate offset ++ codes ":" ++ whole_seconds rate e.song.frames) o)
+whole-by rate offset es id None found = none-of id es found
+whole-by rate offset es id (Some e) found =
     let there = find-there (has_id id) es e found in
     let is : e.id ≡ id = grind (arith, there.1) in
     (e, there.0, is, refl)
 
-whole-of : (rate place : ℕ) (es : List Entry) (current : Option ℕ)
-    → ShowsWhole rate es place current (option_map (λ (e : Entry). whole_seconds rate place ++ codes ":" ++ whole_seconds rate e.song.frames) (entry_by es current))
-whole-of rate place es None = refl
-whole-of rate place es (Some id) = whole-by rate place es id (entry_of es id) refl
+whole-of : (rate offset : ℕ) (es : List Entry) (current : Option ℕ)
+    → ShowsWhole rate es offset current (option_map (λ (e : Entry). whole_seconds rate offset ++ codes ":" ++ whole_seconds rate e.song.frames) (entry_by es current))
+whole-of rate offset es None = refl
+whole-of rate offset es (Some id) = whole-by rate offset es id (entry_of es id) refl
 
 -- the values that are shown
-abbrev place-text : QueueState → Option ℕ → Option (List ℕ)
-place-text q None = None
-place-text q (Some id) = option_map decimal (position_of q id)
+abbrev position-text : QueueState → Option ℕ → Option (List ℕ)
+position-text q None = None
+position-text q (Some id) = option_map decimal (position_of q id)
 
 abbrev id-text : QueueState → Option ℕ → Option (List ℕ)
 id-text q None = None
@@ -98,8 +98,8 @@ abbrev length-text : ℕ → Option Entry → Option (List ℕ)
 length-text rate entry = option_map (λ (e : Entry). seconds rate e.song.frames) entry
 
 abbrev time-text : Bool → ℕ → ℕ → Option Entry → Option (List ℕ)
-time-text false rate place entry = None
-time-text true rate place entry = option_map (λ (e : Entry). whole_seconds rate place ++ codes ":" ++ whole_seconds rate e.song.frames) entry
+time-text false rate offset entry = None
+time-text true rate offset entry = option_map (λ (e : Entry). whole_seconds rate offset ++ codes ":" ++ whole_seconds rate e.song.frames) entry
 
 abbrev next-id : Option Entry → Option ℕ
 next-id entry = option_map (λ (e : Entry). e.id) entry
@@ -115,12 +115,12 @@ shown-of everyday part library = record {
   playlist = decimal part.queue.version;
   playlistlength = decimal (length (queue_of part.queue));
   state = status.state_text part.player.playback;
-  song = place-text part.queue part.player.current;
+  song = position-text part.queue part.player.current;
   songid = id-text part.queue part.player.current;
-  nextsong = place-text part.queue (next-id (peek part.player (queue_of part.queue)));
+  nextsong = position-text part.queue (next-id (peek part.player (queue_of part.queue)));
   nextsongid = id-text part.queue (next-id (peek part.player (queue_of part.queue)));
-  time = unless-stopped part.player.playback (time-text everyday library.rate part.player.place (current_entry part.player (queue_of part.queue)));
-  elapsed = unless-stopped part.player.playback (Some (seconds library.rate part.player.place));
+  time = unless-stopped part.player.playback (time-text everyday library.rate part.player.offset (current_entry part.player (queue_of part.queue)));
+  elapsed = unless-stopped part.player.playback (Some (seconds library.rate part.player.offset));
   duration = unless-stopped part.player.playback (length-text library.rate (current_entry part.player (queue_of part.queue)));
   audio = unless-stopped part.player.playback (Some (decimal library.rate ++ codes ":16:2"));
   xfade = if part.player.crossfade == 0 then None else Some (decimal part.player.crossfade);
@@ -148,20 +148,20 @@ state Stop = refl
 state Play = refl
 state Pause = refl
 
-song : (q : QueueState) (id : Option ℕ) → ShowsSong (queue_of q) id (place-text q id) (id-text q id)
+song : (q : QueueState) (id : Option ℕ) → ShowsSong (queue_of q) id (position-text q id) (id-text q id)
 song q None = (refl, refl)
-song q (Some id) = (position_of q id, place-of id q.slots, refl, refl)
+song q (Some id) = (position_of q id, position-of id q.slots, refl, refl)
 
 time : (everyday : Bool) (p : Playback) (rate : ℕ) (part : Part)
-    → ShowsTime everyday p rate part (unless-stopped p (time-text everyday rate part.player.place (current_entry part.player (queue_of part.queue))))
+    → ShowsTime everyday p rate part (unless-stopped p (time-text everyday rate part.player.offset (current_entry part.player (queue_of part.queue))))
 time false Stop rate part = refl
 time false Play rate part = refl
 time false Pause rate part = refl
 time true Stop rate part = refl
-time true Play rate part = whole-of rate part.player.place (queue_of part.queue) part.player.current
-time true Pause rate part = whole-of rate part.player.place (queue_of part.queue) part.player.current
+time true Play rate part = whole-of rate part.player.offset (queue_of part.queue) part.player.current
+time true Pause rate part = whole-of rate part.player.offset (queue_of part.queue) part.player.current
 
-progress : (p : Playback) (rate : ℕ) (part : Part) → ShowsProgress p rate part (unless-stopped p (Some (seconds rate part.player.place)))
+progress : (p : Playback) (rate : ℕ) (part : Part) → ShowsProgress p rate part (unless-stopped p (Some (seconds rate part.player.offset)))
     (unless-stopped p (length-text rate (current_entry part.player (queue_of part.queue)))) (unless-stopped p (Some (decimal rate ++ codes ":16:2")))
 progress Stop rate part = (refl, refl, refl)
 progress Play rate part = (refl, length-of rate (queue_of part.queue) part.player.current, refl)
@@ -212,62 +212,62 @@ queue-lines name version len p r =
     four (pair_line (codes "partition") name) (pair_line (codes "playlist") (decimal version)) (pair_line (codes "playlistlength") (decimal len))
     (pair_line (codes "state") (status.state_text p)) r
 
-song-at : (place : Option ℕ) (id : ℕ) (r : List ℕ) → status.song_lines_at place id ++ r
-    ≡ line_if (codes "song") (option_map decimal place) ++ (line_if (codes "songid") (option_map (λ _. decimal id) place) ++ r)
-unfolding status.song_place_lines
+song-at : (position : Option ℕ) (id : ℕ) (r : List ℕ) → status.song_lines_at position id ++ r
+    ≡ line_if (codes "song") (option_map decimal position) ++ (line_if (codes "songid") (option_map (λ _. decimal id) position) ++ r)
+unfolding status.song_position_lines
 song-at None id r = refl
-song-at (Some place) id r = two (pair_line (codes "song") (decimal place)) (pair_line (codes "songid") (decimal id)) r
+song-at (Some position) id r = two (pair_line (codes "song") (decimal position)) (pair_line (codes "songid") (decimal id)) r
 
-song-lines : (q : QueueState) (id : Option ℕ) (r : List ℕ) → status.current_lines q id ++ r ≡ line_if (codes "song") (place-text q id) ++ (line_if (codes "songid") (id-text q id) ++ r)
+song-lines : (q : QueueState) (id : Option ℕ) (r : List ℕ) → status.current_lines q id ++ r ≡ line_if (codes "song") (position-text q id) ++ (line_if (codes "songid") (id-text q id) ++ r)
 song-lines q None r = refl
 song-lines q (Some id) r = song-at (position_of q id) id r
 
-next-at : (place : Option ℕ) (id : ℕ) (r : List ℕ) → status.next_lines_at place id ++ r
-    ≡ line_if (codes "nextsong") (option_map decimal place) ++ (line_if (codes "nextsongid") (option_map (λ _. decimal id) place) ++ r)
-unfolding status.next_place_lines
+next-at : (position : Option ℕ) (id : ℕ) (r : List ℕ) → status.next_lines_at position id ++ r
+    ≡ line_if (codes "nextsong") (option_map decimal position) ++ (line_if (codes "nextsongid") (option_map (λ _. decimal id) position) ++ r)
+unfolding status.next_position_lines
 next-at None id r = refl
-next-at (Some place) id r = two (pair_line (codes "nextsong") (decimal place)) (pair_line (codes "nextsongid") (decimal id)) r
+next-at (Some position) id r = two (pair_line (codes "nextsong") (decimal position)) (pair_line (codes "nextsongid") (decimal id)) r
 
 next-lines : (q : QueueState) (o : Option Entry) (r : List ℕ) → status.next_lines q o ++ r
-    ≡ line_if (codes "nextsong") (place-text q (next-id o)) ++ (line_if (codes "nextsongid") (id-text q (next-id o)) ++ r)
+    ≡ line_if (codes "nextsong") (position-text q (next-id o)) ++ (line_if (codes "nextsongid") (id-text q (next-id o)) ++ r)
 next-lines q None r = refl
 next-lines q (Some e) r = next-at (position_of q e.id) e.id r
 
-played-lines : (rate place : ℕ) (o : Option Entry) (r : List ℕ) → (status.elapsed_line rate place ++ (status.duration_of rate o ++ status.audio_line rate)) ++ r
-    ≡ pair_line (codes "elapsed") (seconds rate place) ++ (line_if (codes "duration") (length-text rate o) ++ (pair_line (codes "audio") (decimal rate ++ codes ":16:2") ++ r))
+played-lines : (rate offset : ℕ) (o : Option Entry) (r : List ℕ) → (status.elapsed_line rate offset ++ (status.duration_of rate o ++ status.audio_line rate)) ++ r
+    ≡ pair_line (codes "elapsed") (seconds rate offset) ++ (line_if (codes "duration") (length-text rate o) ++ (pair_line (codes "audio") (decimal rate ++ codes ":16:2") ++ r))
 unfolding status.elapsed_line status.duration_line status.audio_line
-played-lines rate place None r = two (pair_line (codes "elapsed") (seconds rate place)) (pair_line (codes "audio") (decimal rate ++ codes ":16:2")) r
-played-lines rate place (Some e) r =
-    three (pair_line (codes "elapsed") (seconds rate place)) (pair_line (codes "duration") (seconds rate e.song.frames)) (pair_line (codes "audio") (decimal rate ++ codes ":16:2")) r
+played-lines rate offset None r = two (pair_line (codes "elapsed") (seconds rate offset)) (pair_line (codes "audio") (decimal rate ++ codes ":16:2")) r
+played-lines rate offset (Some e) r =
+    three (pair_line (codes "elapsed") (seconds rate offset)) (pair_line (codes "duration") (seconds rate e.song.frames)) (pair_line (codes "audio") (decimal rate ++ codes ":16:2")) r
 
-time-of : (rate place : ℕ) (o : Option Entry) → status.time_of rate place o ≡ line_if (codes "time") (time-text true rate place o)
+time-of : (rate offset : ℕ) (o : Option Entry) → status.time_of rate offset o ≡ line_if (codes "time") (time-text true rate offset o)
 unfolding status.time_line
-time-of rate place None = refl
-time-of rate place (Some e) = refl
+time-of rate offset None = refl
+time-of rate offset (Some e) = refl
 
 -- the line of the time, before those that follow it
 timed-lines : (everyday : Bool) (rate : ℕ) (part : Part) (rest r : List ℕ) → (status.current_time rate part everyday ++ rest) ++ r
-    ≡ line_if (codes "time") (time-text everyday rate part.player.place (current_entry part.player (queue_of part.queue))) ++ (rest ++ r)
+    ≡ line_if (codes "time") (time-text everyday rate part.player.offset (current_entry part.player (queue_of part.queue))) ++ (rest ++ r)
 timed-lines false rate part rest r = refl
 timed-lines true rate part rest r =
     append_assoc (status.current_time rate part true) rest r
-    ∙ ap (λ l. l ++ (rest ++ r)) (time-of rate part.player.place (current_entry part.player (queue_of part.queue)))
+    ∙ ap (λ l. l ++ (rest ++ r)) (time-of rate part.player.offset (current_entry part.player (queue_of part.queue)))
 
 going-lines : (everyday : Bool) (rate : ℕ) (part : Part) (r : List ℕ)
-    → (status.current_time rate part everyday ++ (status.elapsed_line rate part.player.place ++ (status.current_duration rate part ++ status.audio_line rate))) ++ r
-    ≡ line_if (codes "time") (time-text everyday rate part.player.place (current_entry part.player (queue_of part.queue)))
-    ++ (pair_line (codes "elapsed") (seconds rate part.player.place) ++ (line_if (codes "duration") (length-text rate (current_entry part.player (queue_of part.queue)))
+    → (status.current_time rate part everyday ++ (status.elapsed_line rate part.player.offset ++ (status.current_duration rate part ++ status.audio_line rate))) ++ r
+    ≡ line_if (codes "time") (time-text everyday rate part.player.offset (current_entry part.player (queue_of part.queue)))
+    ++ (pair_line (codes "elapsed") (seconds rate part.player.offset) ++ (line_if (codes "duration") (length-text rate (current_entry part.player (queue_of part.queue)))
     ++ (pair_line (codes "audio") (decimal rate ++ codes ":16:2") ++ r)))
 going-lines everyday rate part r =
-    timed-lines everyday rate part (status.elapsed_line rate part.player.place ++ (status.current_duration rate part ++ status.audio_line rate)) r
-    ∙ ap (λ l. line_if (codes "time") (time-text everyday rate part.player.place (current_entry part.player (queue_of part.queue))) ++ l)
-    (played-lines rate part.player.place (current_entry part.player (queue_of part.queue)) r)
+    timed-lines everyday rate part (status.elapsed_line rate part.player.offset ++ (status.current_duration rate part ++ status.audio_line rate)) r
+    ∙ ap (λ l. line_if (codes "time") (time-text everyday rate part.player.offset (current_entry part.player (queue_of part.queue))) ++ l)
+    (played-lines rate part.player.offset (current_entry part.player (queue_of part.queue)) r)
 
 progress-lines : (p : Playback) (everyday : Bool) (rate : ℕ) (part : Part) (r : List ℕ)
     → (if is_stopped p then []
-    else status.current_time rate part everyday ++ (status.elapsed_line rate part.player.place ++ (status.current_duration rate part ++ status.audio_line rate))) ++ r
-    ≡ line_if (codes "time") (unless-stopped p (time-text everyday rate part.player.place (current_entry part.player (queue_of part.queue))))
-    ++ (line_if (codes "elapsed") (unless-stopped p (Some (seconds rate part.player.place)))
+    else status.current_time rate part everyday ++ (status.elapsed_line rate part.player.offset ++ (status.current_duration rate part ++ status.audio_line rate))) ++ r
+    ≡ line_if (codes "time") (unless-stopped p (time-text everyday rate part.player.offset (current_entry part.player (queue_of part.queue))))
+    ++ (line_if (codes "elapsed") (unless-stopped p (Some (seconds rate part.player.offset)))
     ++ (line_if (codes "duration") (unless-stopped p (length-text rate (current_entry part.player (queue_of part.queue))))
     ++ (line_if (codes "audio") (unless-stopped p (Some (decimal rate ++ codes ":16:2"))) ++ r)))
 progress-lines Stop everyday rate part r = refl

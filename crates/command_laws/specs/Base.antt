@@ -9,9 +9,9 @@ use Rattle.known_tags.specs.declared.known_tag.KnownTag.{KnownTag}
 use Rattle.filters.specs.Expressions.{Expression, Compare, Under, Negation, Both}
 use Rattle.filters.specs.declared.expression.Field.{Field}
 use Rattle.filters.specs.declared.expression.Field.TheVariants as field
-use Rattle.command_arguments.specs.declared.forms.Place.{Place}
-use Rattle.command_arguments.specs.declared.wanted.Wanted.{Wanted}
-use Rattle.command_arguments.specs.declared.wanted.Wanted.TheVariants.{Meeting, Refused as Unreadable}
+use Rattle.command_arguments.specs.declared.forms.Position.{Position}
+use Rattle.command_arguments.specs.declared.criteria.Criteria.{Criteria}
+use Rattle.command_arguments.specs.declared.criteria.Criteria.TheVariants.{Meeting, Refused as Unreadable}
 use Rattle.selections.specs.declared.asked.Counting.{Counting}
 use Rattle.selections.specs.declared.asked.Grouping.{Grouping}
 use Rattle.selections.specs.declared.asked.Selection.{Selection}
@@ -59,33 +59,33 @@ IsBaseExpression (Negation e) = IsBaseExpression e
 IsBaseExpression (Both e f) = IsBaseExpression e × IsBaseExpression f
 
 -- a filter of the base profile, or one that cannot be read
-abbrev pub IsBaseFilter : Wanted → Type 0
+abbrev pub IsBaseFilter : Criteria → Type 0
 IsBaseFilter (Meeting e) = IsBaseExpression e
 IsBaseFilter (Unreadable text) = Unit {0}
 
 -- songs are selected in the order of the library
 abbrev pub IsBaseSelection : Selection → Type 0
-IsBaseSelection selection = IsBaseFilter selection.wanted × (selection.sort ≡ None)
+IsBaseSelection selection = IsBaseFilter selection.criteria × (selection.sort ≡ None)
 
 -- and all of them are added at the end
-abbrev pub IsBaseAddition : Selection → Option Place → Type 0
-IsBaseAddition selection place = IsBaseSelection selection × (selection.window ≡ None) × (place ≡ None)
+abbrev pub IsBaseAddition : Selection → Option Position → Type 0
+IsBaseAddition selection position = IsBaseSelection selection × (selection.window ≡ None) × (position ≡ None)
 
 -- songs are counted all together, and a filter says which
 abbrev pub IsBaseCounting : Counting → Type 0
 IsBaseCounting counting =
-    (wanted : Wanted) × (counting.wanted ≡ Some wanted) × IsBaseFilter wanted × (counting.group ≡ None)
+    (criteria : Criteria) × (counting.criteria ≡ Some criteria) × IsBaseFilter criteria × (counting.group ≡ None)
 
 -- a filter, or none
-abbrev pub MayBeFilter : Option Wanted → Type 0
+abbrev pub MayBeFilter : Option Criteria → Type 0
 MayBeFilter None = Unit {0}
-MayBeFilter (Some wanted) = IsBaseFilter wanted
+MayBeFilter (Some criteria) = IsBaseFilter criteria
 
 -- one tag is listed, and it is one of the six
 abbrev pub IsBaseGrouping : Grouping → Type 0
 IsBaseGrouping grouping =
     (tag : KnownTag) × (name : TagName) × (grouping.tags ≡ tag ∷ []) × (base_of tag ≡ Some name) × IsBaseTag name
-    × MayBeFilter grouping.wanted
+    × MayBeFilter grouping.criteria
 
 -- a client is shown the six tags and cannot change them; `commands` and `notcommands` show those of the base
 -- profile
@@ -113,20 +113,20 @@ IsBaseStatus status.NoIdle = Unit {0}
 IsBaseStatus (status.Stats uptime) = ⊥
 IsBaseStatus (status.Status everyday) = everyday ≡ false
 
--- `add` is given no place, and the songs of the queue are not listed by URI, found or searched
+-- `add` is given no position, and the songs of the queue are not listed by URI, found or searched
 abbrev pub IsBaseQueue : QueueCommand → Type 0
-IsBaseQueue (queue.Add uri place) = place ≡ None
-IsBaseQueue (queue.AddId uri place) = Unit {0}
+IsBaseQueue (queue.Add uri position) = position ≡ None
+IsBaseQueue (queue.AddId uri position) = Unit {0}
 IsBaseQueue queue.Clear = Unit {0}
 IsBaseQueue (queue.Delete range) = Unit {0}
 IsBaseQueue (queue.DeleteId id) = Unit {0}
 IsBaseQueue (queue.Move range to) = Unit {0}
 IsBaseQueue (queue.MoveId id to) = Unit {0}
 IsBaseQueue queue.Playlist = ⊥
-IsBaseQueue (queue.PlaylistFind wanted) = ⊥
+IsBaseQueue (queue.PlaylistFind criteria) = ⊥
 IsBaseQueue (queue.PlaylistId id) = Unit {0}
 IsBaseQueue (queue.PlaylistInfo range) = Unit {0}
-IsBaseQueue (queue.PlaylistSearch wanted) = ⊥
+IsBaseQueue (queue.PlaylistSearch criteria) = ⊥
 IsBaseQueue (queue.PlChanges version range) = Unit {0}
 IsBaseQueue (queue.PlChangesPosId version range) = Unit {0}
 IsBaseQueue (queue.Prio priority ranges) = Unit {0}
@@ -153,7 +153,7 @@ abbrev pub IsBaseDatabase : DatabaseCommand → Type 0
 IsBaseDatabase (database.AlbumArt uri offset) = ⊥
 IsBaseDatabase (database.Count counting) = IsBaseCounting counting
 IsBaseDatabase (database.Find selection) = IsBaseSelection selection
-IsBaseDatabase (database.FindAdd selection place) = IsBaseAddition selection place
+IsBaseDatabase (database.FindAdd selection position) = IsBaseAddition selection position
 IsBaseDatabase (database.List grouping) = IsBaseGrouping grouping
 IsBaseDatabase (database.ListAll uri everyday) = everyday ≡ false
 IsBaseDatabase (database.ListAllInfo uri) = ⊥
@@ -162,19 +162,19 @@ IsBaseDatabase (database.ReadComments uri) = ⊥
 IsBaseDatabase (database.ReadPicture uri offset) = ⊥
 IsBaseDatabase (database.Rescan uri) = Unit {0}
 IsBaseDatabase (database.Search selection) = IsBaseSelection selection
-IsBaseDatabase (database.SearchAdd selection place) = IsBaseAddition selection place
+IsBaseDatabase (database.SearchAdd selection position) = IsBaseAddition selection position
 IsBaseDatabase (database.SearchAddPl name selection) = ⊥
 IsBaseDatabase (database.Update uri) = Unit {0}
 
--- `load` is given no place
+-- `load` is given no position
 abbrev pub IsBasePlaylist : PlaylistCommand → Type 0
 IsBasePlaylist (playlists.ListPlaylist name) = Unit {0}
 IsBasePlaylist (playlists.ListPlaylistInfo name) = Unit {0}
 IsBasePlaylist playlists.ListPlaylists = Unit {0}
-IsBasePlaylist (playlists.Load name range place) = place ≡ None
+IsBasePlaylist (playlists.Load name range position) = position ≡ None
 IsBasePlaylist (playlists.PlaylistAdd name uri) = Unit {0}
 IsBasePlaylist (playlists.PlaylistClear name) = Unit {0}
-IsBasePlaylist (playlists.PlaylistDelete name place) = Unit {0}
+IsBasePlaylist (playlists.PlaylistDelete name position) = Unit {0}
 IsBasePlaylist (playlists.PlaylistMove name from to) = Unit {0}
 IsBasePlaylist (playlists.Rename name new) = Unit {0}
 IsBasePlaylist (playlists.Rm name) = Unit {0}

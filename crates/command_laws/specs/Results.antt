@@ -42,4 +42,4 @@ result_of all asked part library read (command.Connection it) = transition_by (c
 result_of all asked part library read (command.Outputs it) = transition_by (outputs_result asked part it)
 result_of all asked part library read (command.Messages it) = transition_by (messages_result asked part it)
 result_of all asked part library read (command.Partitions it) =
-    planned all.parts all.clients all.openings asked part.place it
+    planned all.parts all.clients all.openings asked part.index it

@@ -1,5 +1,5 @@
 -- What `status` shows, said once more: field by field, in the words of the rules (MPD protocol reference,
--- Querying MPD's status; that a song is named by its place and its id is this profile's too).
+-- Querying MPD's status; that a song is named by its position and its id is this profile's too).
 use Rattle.std.specs.Prelude.{ℕ, ◌≡◌, ◌≢◌, ◌+◌, ◌*◌, ◌/◌, ◌%◌, Bool, true, false, List, [], ◌∷◌, ◌++◌, length, slice_get, Option, Some, None, option_map, codes, decimal}
 use Rattle.std.specs.List.{Contains, flat_map}
 use Rattle.mpd_text.specs.Answers.Answer.{pair_line}
@@ -94,19 +94,19 @@ ShowsState Stop text = text ≡ codes "stop"
 ShowsState Play text = text ≡ codes "play"
 ShowsState Pause text = text ≡ codes "pause"
 
--- the place in the queue of the entry that has this id, or that none has it
-abbrev pub IsPlaceOf : List Entry → ℕ → Option ℕ → Type 0
-IsPlaceOf entries id None = (entry : Entry) → Contains entries entry → entry.id ≢ id
-IsPlaceOf entries id (Some place) = (entry : Entry) × (slice_get entries place ≡ Some entry) × (entry.id ≡ id)
+-- the position in the queue of the entry that has this id, or that none has it
+abbrev pub IsPositionOf : List Entry → ℕ → Option ℕ → Type 0
+IsPositionOf entries id None = (entry : Entry) → Contains entries entry → entry.id ≢ id
+IsPositionOf entries id (Some position) = (entry : Entry) × (slice_get entries position ≡ Some entry) × (entry.id ≡ id)
 
--- a song is shown by its place in the queue and its id; no song, and one that is not in the queue, by nothing
+-- a song is shown by its position in the queue and its id; no song, and one that is not in the queue, by nothing
 abbrev pub ShowsSong : List Entry → Option ℕ → Option (List ℕ) → Option (List ℕ) → Type 0
-ShowsSong entries None place_text id_text = (place_text ≡ None) × (id_text ≡ None)
-ShowsSong entries (Some id) place_text id_text =
-    (place : Option ℕ)
-    × IsPlaceOf entries id place
-    × (place_text ≡ option_map decimal place)
-    × (id_text ≡ option_map (λ _. decimal id) place)
+ShowsSong entries None position_text id_text = (position_text ≡ None) × (id_text ≡ None)
+ShowsSong entries (Some id) position_text id_text =
+    (position : Option ℕ)
+    × IsPositionOf entries id position
+    × (position_text ≡ option_map decimal position)
+    × (id_text ≡ option_map (λ _. decimal id) position)
 
 -- so many frames in seconds, with three decimals, cut
 abbrev pub seconds : ℕ → ℕ → List ℕ
@@ -128,23 +128,23 @@ whole_seconds rate frames = decimal ((frames * 1000 / rate + 500) / 1000)
 
 -- how far the song is that has this id, and how long it is, both in whole seconds
 abbrev pub ShowsWhole : ℕ → List Entry → ℕ → Option ℕ → Option (List ℕ) → Type 0
-ShowsWhole rate entries place None text = text ≡ None
-ShowsWhole rate entries place (Some id) None = (entry : Entry) → Contains entries entry → entry.id ≢ id
-ShowsWhole rate entries place (Some id) (Some text) =
+ShowsWhole rate entries offset None text = text ≡ None
+ShowsWhole rate entries offset (Some id) None = (entry : Entry) → Contains entries entry → entry.id ≢ id
+ShowsWhole rate entries offset (Some id) (Some text) =
     (entry : Entry) × Contains entries entry × (entry.id ≡ id)
-    × (text ≡ whole_seconds rate place ++ codes ":" ++ whole_seconds rate entry.song.frames)
+    × (text ≡ whole_seconds rate offset ++ codes ":" ++ whole_seconds rate entry.song.frames)
 
 -- this is shown of the current song in the everyday profile, and of a player that stands still nothing
 abbrev pub ShowsTime : Bool → Playback → ℕ → Part → Option (List ℕ) → Type 0
 ShowsTime false playback rate part time = time ≡ None
 ShowsTime true Stop rate part time = time ≡ None
-ShowsTime true _ rate part time = ShowsWhole rate (queue_of part.queue) part.player.place part.player.current time
+ShowsTime true _ rate part time = ShowsWhole rate (queue_of part.queue) part.player.offset part.player.current time
 
 -- how far the current song is, how long it is, and what its frames are; of a player that stands still nothing
 abbrev pub ShowsProgress : Playback → ℕ → Part → Option (List ℕ) → Option (List ℕ) → Option (List ℕ) → Type 0
 ShowsProgress Stop rate part elapsed duration audio = (elapsed ≡ None) × (duration ≡ None) × (audio ≡ None)
 ShowsProgress _ rate part elapsed duration audio =
-    (elapsed ≡ Some (seconds rate part.player.place))
+    (elapsed ≡ Some (seconds rate part.player.offset))
     × ShowsLength rate (queue_of part.queue) part.player.current duration
     × (audio ≡ Some (decimal rate ++ codes ":16:2"))
 

@@ -2,8 +2,8 @@
 -- queue; The music database; Stored playlists; Querying MPD's status: `currentsong`).
 use Rattle.std.specs.Prelude.{ℕ, true, ◌+◌, ◌-◌, ◌==◌, List, [], ◌∷◌, ◌++◌, Option, Some, None, slice_get, if◌then◌else◌, codes, decimal}
 use Rattle.std.specs.List.{flat_map, range_with_len}
-use Rattle.std.specs.declared.ops.Range.{Range as Places}
-use Rattle.mpd_text.specs.Answers.Range.{places}
+use Rattle.std.specs.declared.ops.Range.{Range as Positions}
+use Rattle.mpd_text.specs.Answers.Range.{positions}
 use Rattle.mpd_text.specs.Songs.Song.{SongData}
 use Rattle.filters.specs.declared.matching.Case.{Case}
 use Rattle.filters.specs.declared.matching.Case.TheVariants.{Heeded, Ignored}
@@ -12,8 +12,8 @@ use Rattle.song_search.specs.Folders.{direct_folders, direct_songs, is_folder, u
 use Rattle.song_queue.specs.Entries.{rows_at}
 use Rattle.song_queue.specs.State.{position_of, queue_of}
 use Rattle.song_queue.specs.declared.entry.Entry.{Entry}
-use Rattle.command_arguments.specs.declared.wanted.Wanted.{Wanted}
-use Rattle.command_arguments.specs.declared.wanted.Wanted.TheVariants.{Meeting, Refused}
+use Rattle.command_arguments.specs.declared.criteria.Criteria.{Criteria}
+use Rattle.command_arguments.specs.declared.criteria.Criteria.TheVariants.{Meeting, Refused}
 use Rattle.selections.specs.declared.asked.Selection.{Selection}
 use Rattle.shelf.specs.Maps.{is_list_name}
 use Rattle.player_state.specs.declared.state.Library.{Library}
@@ -32,7 +32,7 @@ use Rattle.mpd_command.specs.declared.queue.QueueCommand.{QueueCommand}
 use Rattle.mpd_command.specs.declared.queue.QueueCommand.TheVariants as queue
 use Rattle.mpd_command.specs.declared.status.StatusCommand.{StatusCommand}
 use Rattle.mpd_command.specs.declared.status.StatusCommand.TheVariants as status
-use Rattle.queue_commands.specs.Queue.{changed_between, count, current_place, meeting, range_or_all}
+use Rattle.queue_commands.specs.Queue.{changed_between, count, current_position, meeting, range_or_all}
 use Rattle.library_commands.specs.Database.{selected, shows_playlists, uri_or_all}
 use Rattle.command_laws.specs.HiddenTags.{Line, line, lines_of_song}
 
@@ -52,50 +52,50 @@ lines_of_songs library songs = flat_map (lines_of_song library.rate) songs
 abbrev pub lines_of_priority : ℕ → List Line
 lines_of_priority priority = if priority == 0 then [] else line (codes "Prio") (decimal priority) ∷ []
 
--- the lines of an entry of the queue at a place
+-- the lines of an entry of the queue at a position
 abbrev pub lines_of_row : ℕ → ℕ × Entry → List Line
 lines_of_row rate row =
     lines_of_song rate row.1.song
     ++ (line (codes "Pos") (decimal row.0) ∷ line (codes "Id") (decimal row.1.id) ∷ lines_of_priority row.1.priority)
 
--- entries of the queue, each with its place
+-- entries of the queue, each with its position
 abbrev pub rows_shown : Library → List (ℕ × Entry) → Showing
 rows_shown library rows = Lines (flat_map (lines_of_row library.rate) rows)
 
--- the songs at some places of the queue
-abbrev pub places_shown : Part → Library → Option (Places ℕ) → Showing
-places_shown part library None = Refusal
-places_shown part library (Some r) =
+-- the songs at some positions of the queue
+abbrev pub positions_shown : Part → Library → Option (Positions ℕ) → Showing
+positions_shown part library None = Refusal
+positions_shown part library (Some r) =
     rows_shown library (rows_at (queue_of part.queue) (range_with_len r.start (r.end - r.start)))
 
--- the song at one place of it
-abbrev pub place_shown : Part → Library → Option ℕ → Showing
-place_shown part library None = Refusal
-place_shown part library (Some place) = places_shown part library (Some (places place (place + 1)))
+-- the song at one position of it
+abbrev pub position_shown : Part → Library → Option ℕ → Showing
+position_shown part library None = Refusal
+position_shown part library (Some position) = positions_shown part library (Some (positions position (position + 1)))
 
 -- the songs of the queue that meet a filter
-abbrev pub met_shown : Part → Library → Case → Wanted → Showing
+abbrev pub met_shown : Part → Library → Case → Criteria → Showing
 met_shown part library case (Meeting e) = rows_shown library (meeting part.queue case e)
 met_shown part library case (Refused text) = Refusal
 
--- those at the places that changed since a version
-abbrev pub changed_shown : Part → Library → ℕ → Option (Places ℕ) → Showing
+-- those at the positions that changed since a version
+abbrev pub changed_shown : Part → Library → ℕ → Option (Positions ℕ) → Showing
 changed_shown part library version None = Refusal
 changed_shown part library version (Some r) = rows_shown library (changed_between part.queue version r)
 
 -- what the commands of the queue show
 abbrev pub queue_shown : Part → Library → QueueCommand → Showing
-queue_shown part library (queue.PlaylistFind wanted) = met_shown part library Heeded wanted
-queue_shown part library (queue.PlaylistId None) = places_shown part library (range_or_all None (count part))
-queue_shown part library (queue.PlaylistId (Some id)) = place_shown part library (position_of part.queue id)
-queue_shown part library (queue.PlaylistInfo range) = places_shown part library (range_or_all range (count part))
-queue_shown part library (queue.PlaylistSearch wanted) = met_shown part library Ignored wanted
+queue_shown part library (queue.PlaylistFind criteria) = met_shown part library Heeded criteria
+queue_shown part library (queue.PlaylistId None) = positions_shown part library (range_or_all None (count part))
+queue_shown part library (queue.PlaylistId (Some id)) = position_shown part library (position_of part.queue id)
+queue_shown part library (queue.PlaylistInfo range) = positions_shown part library (range_or_all range (count part))
+queue_shown part library (queue.PlaylistSearch criteria) = met_shown part library Ignored criteria
 queue_shown part library (queue.PlChanges version range) =
     changed_shown part library version (range_or_all range (count part))
 queue_shown part library _ = NoSongs
 
 -- the songs of the library that a selection asks for
-abbrev pub selection_shown : Library → Case → Selection → Wanted → Showing
+abbrev pub selection_shown : Library → Case → Selection → Criteria → Showing
 selection_shown library case selection (Meeting e) = Lines (lines_of_songs library (selected library case e selection))
 selection_shown library case selection (Refused text) = Refusal
 
@@ -124,13 +124,13 @@ root_shown library _ = Refusal
 
 -- what the commands of the library show
 abbrev pub database_shown : Library → Read → DatabaseCommand → Showing
-database_shown library read (database.Find selection) = selection_shown library Heeded selection selection.wanted
+database_shown library read (database.Find selection) = selection_shown library Heeded selection selection.criteria
 database_shown library read (database.ListAllInfo uri) =
     under_shown library (uri_or_all uri) (song_of library.songs (uri_or_all uri))
 database_shown library read (database.LsInfo uri everyday) =
     if shows_playlists (uri_or_all uri) everyday then root_shown library read
     else folder_shown library (uri_or_all uri) (song_of library.songs (uri_or_all uri))
-database_shown library read (database.Search selection) = selection_shown library Ignored selection selection.wanted
+database_shown library read (database.Search selection) = selection_shown library Ignored selection selection.criteria
 database_shown library read _ = NoSongs
 
 -- the song that the library has at a URI, or the URI alone
@@ -149,19 +149,19 @@ playlists_shown library read (playlists.ListPlaylistInfo name) =
     if is_list_name name then list_shown library read else Refusal
 playlists_shown library read _ = NoSongs
 
--- the lines of the entry at a place, if there is one
+-- the lines of the entry at a position, if there is one
 abbrev pub lines_of_entry : ℕ → ℕ → Option Entry → List Line
-lines_of_entry rate place None = []
-lines_of_entry rate place (Some entry) = lines_of_row rate (place, entry)
+lines_of_entry rate position None = []
+lines_of_entry rate position (Some entry) = lines_of_row rate (position, entry)
 
--- the lines of the current song, whose place this is, if there is one
+-- the lines of the current song, whose position this is, if there is one
 abbrev pub current_lines : Part → Library → Option ℕ → List Line
 current_lines part library None = []
-current_lines part library (Some place) = lines_of_entry library.rate place (slice_get (queue_of part.queue) place)
+current_lines part library (Some position) = lines_of_entry library.rate position (slice_get (queue_of part.queue) position)
 
 -- what the commands that ask for the state show
 abbrev pub status_shown : Part → Library → StatusCommand → Showing
-status_shown part library status.CurrentSong = Lines (current_lines part library (current_place part))
+status_shown part library status.CurrentSong = Lines (current_lines part library (current_position part))
 status_shown part library _ = NoSongs
 
 -- what the commands of the connection show

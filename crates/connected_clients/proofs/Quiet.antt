@@ -11,7 +11,7 @@ use Rattle.player_state.specs.declared.state.Client.{Client}
 use Rattle.player_state.specs.declared.state.Part.{Part}
 use Rattle.connected_clients.specs.declared.fingerprint.OutputsAt.{OutputsAt}
 use Rattle.connected_clients.specs.Clients.{has_messages, is_this, newcomer}
-use Rattle.connected_clients.specs.Settled.{nothing}
+use Rattle.connected_clients.specs.UpToDate.{nothing}
 use Rattle.connected_clients.specs.Fingerprint.{PartReadings, RaisedData, begins_beyond, begins_between, begins_in, outputs_at, has_beyond, has_messages_in, is_among, is_quiet, messages_begin, outputs_differ, outputs_differ_elsewhere, outputs_differ_from, raised_in}
 use Rattle.connected_clients.proofs.Listeners.{among_waiting}
 use Rattle.connected_clients.proofs.Empty.{is_none}
@@ -65,25 +65,25 @@ unheard number None part e = refl
 unheard number (Some before) part e = unheard_in number before.having part e
 
 -- where no output went or came in a partition of a number other than this, none did in the first one of another
-module _ (place own : ℕ) (apart : (place == own) ≡ false) (before : List OutputsAt) (parts : List Part) where
-  stands : (es : List OutputsAt) → list_any (λ (e : OutputsAt). not (e.place == own) && outputs_differ e.place before parts) es ≡ false
-      → (outputs_at place es ≡ None) ⊎ (outputs_differ place before parts ≡ false)
+module _ (index own : ℕ) (apart : (index == own) ≡ false) (before : List OutputsAt) (parts : List Part) where
+  stands : (es : List OutputsAt) → list_any (λ (e : OutputsAt). not (e.index == own) && outputs_differ e.index before parts) es ≡ false
+      → (outputs_at index es ≡ None) ⊎ (outputs_differ index before parts ≡ false)
   stands [] h = inl refl
   stands (e ∷ es) h =
-      let first = first_false (not (e.place == own) && outputs_differ e.place before parts) (list_any (λ (x : OutputsAt). not (x.place == own) && outputs_differ x.place before parts) es) h in
-      let rest = second_false (not (e.place == own) && outputs_differ e.place before parts) (list_any (λ (x : OutputsAt). not (x.place == own) && outputs_differ x.place before parts) es) h in
-      let cases : (b : Bool) → (e.place == place) ≡ b → ((if b then Some e.flags else outputs_at place es) ≡ None) ⊎ (outputs_differ place before parts ≡ false) =
-      λ b. elim b as (λ b. (e.place == place) ≡ b → ((if b then Some e.flags else outputs_at place es) ≡ None) ⊎ (outputs_differ place before parts ≡ false)) [
+      let first = first_false (not (e.index == own) && outputs_differ e.index before parts) (list_any (λ (x : OutputsAt). not (x.index == own) && outputs_differ x.index before parts) es) h in
+      let rest = second_false (not (e.index == own) && outputs_differ e.index before parts) (list_any (λ (x : OutputsAt). not (x.index == own) && outputs_differ x.index before parts) es) h in
+      let cases : (b : Bool) → (e.index == index) ≡ b → ((if b then Some e.flags else outputs_at index es) ≡ None) ⊎ (outputs_differ index before parts ≡ false) =
+      λ b. elim b as (λ b. (e.index == index) ≡ b → ((if b then Some e.flags else outputs_at index es) ≡ None) ⊎ (outputs_differ index before parts ≡ false)) [
         | true ↦ λ t.
-            let is : e.place ≡ place = eqb-true e.place place t in
-            let same : (not (place == own) && outputs_differ place before parts) ≡ false = ap (λ n. not (n == own) && outputs_differ n before parts) (sym is) ∙ first in
-            inr (sym (ap (λ c. not c && outputs_differ place before parts) apart) ∙ same)
+            let is : e.index ≡ index = eqb-true e.index index t in
+            let same : (not (index == own) && outputs_differ index before parts) ≡ false = ap (λ n. not (n == own) && outputs_differ n before parts) (sym is) ∙ first in
+            inr (sym (ap (λ c. not c && outputs_differ index before parts) apart) ∙ same)
         | false ↦ λ t. stands es rest
       ] in
-      cases (e.place == place) refl
+      cases (e.index == index) refl
 
-  none_differ : list_any (λ (e : OutputsAt). not (e.place == own) && outputs_differ e.place before parts) before ≡ false → outputs_differ place before parts ≡ false
-  none_differ h = elim (stands before h) [ inl e ↦ ap (λ o. outputs_differ_from o (part_at place parts)) e | inr e ↦ e ]
+  none_differ : list_any (λ (e : OutputsAt). not (e.index == own) && outputs_differ e.index before parts) before ≡ false → outputs_differ index before parts ≡ false
+  none_differ h = elim (stands before h) [ inl e ↦ ap (λ o. outputs_differ_from o (part_at index parts)) e | inr e ↦ e ]
 
 no_one : (moved_client : Option ℕ) (number : ℕ) → is_some moved_client ≡ false → is_this moved_client number ≡ false
 no_one None number e = refl
@@ -104,21 +104,21 @@ module _ (r : RaisedData) (quiet : is_quiet r ≡ true) where
 
   here : (number : ℕ) → record r.own { message = begins_in r number } ≡ none
   here number =
-      ap (λ (b : Bool). record r.own { message = b }) (unheard number r.before.own (part_at r.before.place r.parts) (is_not _ own_is.1))
+      ap (λ (b : Bool). record r.own { message = b }) (unheard number r.before.own (part_at r.before.index r.parts) (is_not _ own_is.1))
       ∙ is_none (record r.own { message = false }) (is_not _ own_is.0)
 
-  elsewhere : (place : ℕ) → (place == r.before.place) ≡ false → record r.common { output = outputs_differ place r.before.outputs r.parts } ≡ none
-  elsewhere place apart =
-      ap (λ (b : Bool). record r.common { output = b }) (none_differ place r.before.place apart r.before.outputs r.parts (is_not _ still.1))
+  elsewhere : (index : ℕ) → (index == r.before.index) ≡ false → record r.common { output = outputs_differ index r.before.outputs r.parts } ≡ none
+  elsewhere index apart =
+      ap (λ (b : Bool). record r.common { output = b }) (none_differ index r.before.index apart r.before.outputs r.parts (is_not _ still.1))
       ∙ is_none (record r.common { output = false }) (is_not _ inner.1)
 
   one : (client : Client) → raised_in r client ≡ none
   one client =
       let there : Bool → Subsystems = λ b.
-      if b then record r.own { message = begins_in r client.number } else record r.common { output = outputs_differ client.place r.before.outputs r.parts } in
-      let cases : (b : Bool) → (client.place == r.before.place) ≡ b → there b ≡ none =
-      λ b. elim b as (λ b. (client.place == r.before.place) ≡ b → there b ≡ none) [ true ↦ λ e. here client.number | false ↦ λ e. elsewhere client.place e ] in
-      ap (λ b. if b then all else there (client.place == r.before.place)) (no_one r.moved_client client.number (is_not _ goes.0)) ∙ cases (client.place == r.before.place) refl
+      if b then record r.own { message = begins_in r client.number } else record r.common { output = outputs_differ client.index r.before.outputs r.parts } in
+      let cases : (b : Bool) → (client.index == r.before.index) ≡ b → there b ≡ none =
+      λ b. elim b as (λ b. (client.index == r.before.index) ≡ b → there b ≡ none) [ true ↦ λ e. here client.number | false ↦ λ e. elsewhere client.index e ] in
+      ap (λ b. if b then all else there (client.index == r.before.index)) (no_one r.moved_client client.number (is_not _ goes.0)) ∙ cases (client.index == r.before.index) refl
 
 true_is : (b : Bool) → IsTrue b → b ≡ true
 true_is true t = refl
@@ -167,19 +167,19 @@ goes_nowhere : (moved_client : Option ℕ) → ((number : ℕ) → is_this moved
 goes_nowhere None h = refl
 goes_nowhere (Some this) h = let clash : true ≡ false = sym (eq-eqb this this refl) ∙ h this in cc
 
-next_apart : (place : ℕ) → (suc place == place) ≡ false
-next_apart place =
-    let cases : (b : Bool) → (suc place == place) ≡ b → b ≡ false =
-    λ b. elim b as (λ b. (suc place == place) ≡ b → b ≡ false)
-    [ true ↦ λ e. (let same = eqb-true (suc place) place e in absurd (omega (arith, same))) | false ↦ λ e. refl ] in
-    cases (suc place == place) refl
+next_apart : (index : ℕ) → (suc index == index) ≡ false
+next_apart index =
+    let cases : (b : Bool) → (suc index == index) ≡ b → b ≡ false =
+    λ b. elim b as (λ b. (suc index == index) ≡ b → b ≡ false)
+    [ true ↦ λ e. (let same = eqb-true (suc index) index e in absurd (omega (arith, same))) | false ↦ λ e. refl ] in
+    cases (suc index == index) refl
 
 -- where nothing is raised for any client, the test is true: each of its parts is seen by some client
 module _ (r : RaisedData) (none_raised : raised_in r ≡ nothing) where
   abbrev there : Client → Subsystems
   there client =
-      if client.place == r.before.place then record r.own { message = begins_in r client.number }
-      else record r.common { output = outputs_differ client.place r.before.outputs r.parts }
+      if client.index == r.before.index then record r.own { message = begins_in r client.number }
+      else record r.common { output = outputs_differ client.index r.before.outputs r.parts }
 
   told : (client : Client) → raised_in r client ≡ none
   told client = ap (λ (f : Client → Subsystems). f client) none_raised
@@ -198,29 +198,29 @@ module _ (r : RaisedData) (none_raised : raised_in r ≡ nothing) where
 
   own_at : (number : ℕ) → record r.own { message = begins_in r number } ≡ none
   own_at number =
-      sym (ap (λ b. if b then record r.own { message = begins_in r number } else record r.common { output = outputs_differ r.before.place r.before.outputs r.parts }) (eq-eqb r.before.place r.before.place refl))
-      ∙ within (record (newcomer number) { place = r.before.place })
+      sym (ap (λ b. if b then record r.own { message = begins_in r number } else record r.common { output = outputs_differ r.before.index r.before.outputs r.parts }) (eq-eqb r.before.index r.before.index refl))
+      ∙ within (record (newcomer number) { index = r.before.index })
 
-  common_at : (place : ℕ) → (place == r.before.place) ≡ false → record r.common { output = outputs_differ place r.before.outputs r.parts } ≡ none
-  common_at place apart =
-      sym (ap (λ b. if b then record r.own { message = begins_in r 0 } else record r.common { output = outputs_differ place r.before.outputs r.parts }) apart)
-      ∙ within (record (newcomer 0) { place = place })
+  common_at : (index : ℕ) → (index == r.before.index) ≡ false → record r.common { output = outputs_differ index r.before.outputs r.parts } ≡ none
+  common_at index apart =
+      sym (ap (λ b. if b then record r.own { message = begins_in r 0 } else record r.common { output = outputs_differ index r.before.outputs r.parts }) apart)
+      ∙ within (record (newcomer 0) { index = index })
 
   none_own : is_nonempty (record r.own { message = false }) ≡ false
   none_own = ap (λ (s : Subsystems). is_nonempty (record s { message = false })) (own_at 0)
 
   none_messages : messages_begin r ≡ false
-  none_messages = none_begin r.before.own (part_at r.before.place r.parts) (λ number. ap (λ (s : Subsystems). s.message) (own_at number))
+  none_messages = none_begin r.before.own (part_at r.before.index r.parts) (λ number. ap (λ (s : Subsystems). s.message) (own_at number))
 
   none_common : is_nonempty (record r.common { output = false }) ≡ false
-  none_common = ap (λ (s : Subsystems). is_nonempty (record s { output = false })) (common_at (suc r.before.place) (next_apart r.before.place))
+  none_common = ap (λ (s : Subsystems). is_nonempty (record s { output = false })) (common_at (suc r.before.index) (next_apart r.before.index))
 
-  one_alike : (e : OutputsAt) → (not (e.place == r.before.place) && outputs_differ e.place r.before.outputs r.parts) ≡ false
+  one_alike : (e : OutputsAt) → (not (e.index == r.before.index) && outputs_differ e.index r.before.outputs r.parts) ≡ false
   one_alike e =
-      let cases : (b : Bool) → (e.place == r.before.place) ≡ b → (not b && outputs_differ e.place r.before.outputs r.parts) ≡ false =
-      λ b. elim b as (λ b. (e.place == r.before.place) ≡ b → (not b && outputs_differ e.place r.before.outputs r.parts) ≡ false)
-      [ true ↦ λ t. refl | false ↦ λ t. ap (λ (s : Subsystems). s.output) (common_at e.place t) ] in
-      cases (e.place == r.before.place) refl
+      let cases : (b : Bool) → (e.index == r.before.index) ≡ b → (not b && outputs_differ e.index r.before.outputs r.parts) ≡ false =
+      λ b. elim b as (λ b. (e.index == r.before.index) ≡ b → (not b && outputs_differ e.index r.before.outputs r.parts) ≡ false)
+      [ true ↦ λ t. refl | false ↦ λ t. ap (λ (s : Subsystems). s.output) (common_at e.index t) ] in
+      cases (e.index == r.before.index) refl
 
   is_still : is_quiet r ≡ true
   is_still =
@@ -229,7 +229,7 @@ module _ (r : RaisedData) (none_raised : raised_in r ≡ nothing) where
         none_own,
         none_messages,
         none_common,
-        none_of (λ (e : OutputsAt). not (e.place == r.before.place) && outputs_differ e.place r.before.outputs r.parts) r.before.outputs one_alike,
+        none_of (λ (e : OutputsAt). not (e.index == r.before.index) && outputs_differ e.index r.before.outputs r.parts) r.before.outputs one_alike,
       )
       refl
 

@@ -34,8 +34,8 @@ rising_filter p (k ∷ ks) r =
     elim (p k) as (λ b. Rising (if b then k ∷ filter p ks else filter p ks))
     [ true ↦ (above_filter p k.number ks r.0, rising_filter p ks r.1) | false ↦ rising_filter p ks r.1 ]
 
-abbrev place : ℕ → List Client → ℕ
-place n ks = position_or_len (λ k. nat_lt n k.number) ks
+abbrev index : ℕ → List Client → ℕ
+index n ks = position_or_len (λ k. nat_lt n k.number) ks
 
 first_more : (n : ℕ) → 1 + n ≡ suc n
 first_more n = omega arith
@@ -43,13 +43,13 @@ first_more n = omega arith
 further : (k : Client) (ks : List Client) (i : ℕ) (x : Client) → insert (k ∷ ks) (1 + i) x ≡ k ∷ insert ks i x
 further k ks i x = ap (λ n. insert (k ∷ ks) n x) (first_more i)
 
-above_insert : (a n : ℕ) → a < n → (ks : List Client) → AllAbove a ks → AllAbove a (insert ks (place n ks) (newcomer n))
+above_insert : (a n : ℕ) → a < n → (ks : List Client) → AllAbove a ks → AllAbove a (insert ks (index n ks) (newcomer n))
 above_insert a n less [] above = (less, tt)
 above_insert a n less (k ∷ ks) above =
-    let cases : (b : Bool) → nat_lt n k.number ≡ b → AllAbove a (insert (k ∷ ks) (place n (k ∷ ks)) (newcomer n)) =
-    λ b. elim b as (λ b. nat_lt n k.number ≡ b → AllAbove a (insert (k ∷ ks) (place n (k ∷ ks)) (newcomer n))) [
+    let cases : (b : Bool) → nat_lt n k.number ≡ b → AllAbove a (insert (k ∷ ks) (index n (k ∷ ks)) (newcomer n)) =
+    λ b. elim b as (λ b. nat_lt n k.number ≡ b → AllAbove a (insert (k ∷ ks) (index n (k ∷ ks)) (newcomer n))) [
       | true ↦ λ e. rw e (less, above)
-      | false ↦ λ e. rw e (subst (AllAbove a) (sym (further k ks (place n ks) (newcomer n))) (above.0, above_insert a n less ks above.1))
+      | false ↦ λ e. rw e (subst (AllAbove a) (sym (further k ks (index n ks) (newcomer n))) (above.0, above_insert a n less ks above.1))
     ] in
     cases (nat_lt n k.number) refl
 
@@ -66,26 +66,26 @@ other_first n k o h =
     ] in
     cases (k.number == n) refl
 
-rising_insert : (n : ℕ) (ks : List Client) → client_of n ks ≡ None → Rising ks → Rising (insert ks (place n ks) (newcomer n))
+rising_insert : (n : ℕ) (ks : List Client) → client_of n ks ≡ None → Rising ks → Rising (insert ks (index n ks) (newcomer n))
 rising_insert n [] none r = (tt, tt)
 rising_insert n (k ∷ ks) none r =
     let other = other_first n k (client_of n ks) none in
-    let cases : (b : Bool) → nat_lt n k.number ≡ b → Rising (insert (k ∷ ks) (place n (k ∷ ks)) (newcomer n)) =
-    λ b. elim b as (λ b. nat_lt n k.number ≡ b → Rising (insert (k ∷ ks) (place n (k ∷ ks)) (newcomer n))) [
+    let cases : (b : Bool) → nat_lt n k.number ≡ b → Rising (insert (k ∷ ks) (index n (k ∷ ks)) (newcomer n)) =
+    λ b. elim b as (λ b. nat_lt n k.number ≡ b → Rising (insert (k ∷ ks) (index n (k ∷ ks)) (newcomer n))) [
       | true ↦ λ e.
           let less : n < k.number = grind (arith, nat_tests) in
           rw e ((less, all_greater k.number n less ks r.0), r)
       | false ↦ λ e.
           let apart : (k.number == n) ≡ false = other.0 in
           let less : k.number < n = grind (arith, nat_tests) in
-          rw e (subst Rising (sym (further k ks (place n ks) (newcomer n))) (above_insert k.number n less ks r.0, rising_insert n ks other.1 r.1))
+          rw e (subst Rising (sym (further k ks (index n ks) (newcomer n))) (above_insert k.number n less ks r.0, rising_insert n ks other.1 r.1))
     ] in
     cases (nat_lt n k.number) refl
 
 rising_joined : (n : ℕ) (ks : List Client) → Rising ks → Rising (joined n ks)
 rising_joined n ks r =
-    let cases : (o : Option Client) → client_of n ks ≡ o → Rising (if is_some o then ks else insert ks (place n ks) (newcomer n)) =
-    λ o. elim o as (λ o. client_of n ks ≡ o → Rising (if is_some o then ks else insert ks (place n ks) (newcomer n)))
+    let cases : (o : Option Client) → client_of n ks ≡ o → Rising (if is_some o then ks else insert ks (index n ks) (newcomer n)) =
+    λ o. elim o as (λ o. client_of n ks ≡ o → Rising (if is_some o then ks else insert ks (index n ks) (newcomer n)))
     [ None ↦ λ e. rising_insert n ks e r | Some k ↦ λ e. r ] in
     cases (client_of n ks) refl
 
@@ -95,9 +95,9 @@ at_keeps n f k = elim (k.number == n) as (λ b. (if b then record k { pending = 
 pub shown_keeps : (n : ℕ) (tags : List TagName) (k : Client) → (shown n tags k).number ≡ k.number
 shown_keeps n tags k = elim (k.number == n) as (λ b. (if b then record k { tags = tags } else k).number ≡ k.number) [ true ↦ refl | false ↦ refl ]
 
-pub entered_keeps : (n place : ℕ) (k : Client) → (entered n place k).number ≡ k.number
-entered_keeps n place k =
-    elim (k.number == n) as (λ b. (if b then record k { place = place; pending = everything } else k).number ≡ k.number) [ true ↦ refl | false ↦ refl ]
+pub entered_keeps : (n index : ℕ) (k : Client) → (entered n index k).number ≡ k.number
+entered_keeps n index k =
+    elim (k.number == n) as (λ b. (if b then record k { index = index; pending = everything } else k).number ≡ k.number) [ true ↦ refl | false ↦ refl ]
 
 rising_moved : (n : ℕ) (move : Move) (ks : List Client) → Rising ks → Rising (moved n move ks)
 rising_moved n Stay ks r = r
@@ -106,7 +106,7 @@ rising_moved n Learn ks r = rising_map (at n (λ p. fresh)) (at_keeps n (λ p. f
 rising_moved n Resume ks r = rising_map (at n cancelled) (at_keeps n cancelled) ks r
 rising_moved n Join ks r = rising_joined n ks r
 rising_moved n (Show tags) ks r = rising_map (shown n tags) (shown_keeps n tags) ks r
-rising_moved n (Enter place) ks r = rising_map (entered n place) (entered_keeps n place) ks r
+rising_moved n (Enter index) ks r = rising_map (entered n index) (entered_keeps n index) ks r
 
 pub rising_staying : (n : ℕ) (response : ResponseData) (ks : List Client) → Rising ks → Rising (staying n response ks)
 rising_staying n response ks r =

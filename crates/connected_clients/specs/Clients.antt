@@ -10,7 +10,7 @@ use Rattle.idle_notes.specs.declared.pending.Pending.{Pending}
 use Rattle.idle_notes.specs.declared.sets.Subsystems.{Subsystems}
 use Rattle.idle_notes.specs.Sets.{all, none}
 use Rattle.idle_notes.specs.Channels.{MemberData, messages_of, pairs}
-use Rattle.idle_notes.specs.Notes.{everything, fresh, noted, waits, cancelled, notice_of, settled}
+use Rattle.idle_notes.specs.Notes.{everything, fresh, noted, waits, cancelled, notice_of, up_to_date}
 use Rattle.mpd_text.specs.Songs.Tags.{tag_names}
 use Rattle.mpd_text.specs.declared.songs.song.TagName.{TagName}
 use Rattle.song_queue.specs.declared.entry.Entry.{Entry}
@@ -44,7 +44,7 @@ client_of number (client ∷ clients) = if client.number == number then Some cli
 
 -- what subsystems speak of in one partition
 pub record Watched : Type 0 where
-  pub place : ℕ
+  pub index : ℕ
   pub name : List ℕ
   pub queue : List Entry
   pub player : PlayerState
@@ -54,7 +54,7 @@ pub record Watched : Type 0 where
 
 abbrev pub watched_of : Part → Watched
 watched_of part = record {
-  place = part.place;
+  index = part.index;
   name = part.name;
   queue = queue_of part.queue;
   player = part.player;
@@ -73,8 +73,8 @@ watched_all library parts = record { library = library; parts = map watched_of p
 
 -- the first partition of a number
 abbrev pub watched_at : ℕ → List Watched → Option Watched
-watched_at place [] = None
-watched_at place (w ∷ ws) = if w.place == place then Some w else watched_at place ws
+watched_at index [] = None
+watched_at index (w ∷ ws) = if w.index == index then Some w else watched_at index ws
 
 -- numbers by which states and modes are compared
 abbrev pub playback_number : Playback → ℕ
@@ -204,11 +204,11 @@ raised_between number None after common = common
 -- what an event raises for a client that stays where it is
 abbrev pub raised_there : ShelfWrite → WatchedAll → WatchedAll → Client → Subsystems
 raised_there written before after client =
-    raised_between client.number (watched_at client.place before.parts) (watched_at client.place after.parts) (raised_for_all written before after)
+    raised_between client.number (watched_at client.index before.parts) (watched_at client.index after.parts) (raised_for_all written before after)
 
 -- the client that goes to another partition by this move of its own, if it goes
 abbrev pub entering : ℕ → Move → Option ℕ
-entering number (Enter place) = Some number
+entering number (Enter index) = Some number
 entering number _ = None
 
 abbrev pub is_this : Option ℕ → ℕ → Bool
@@ -226,7 +226,7 @@ is_other number client = not (client.number == number)
 -- what is pending for a client grows by what was raised; it is told what it waits for, and has then nothing
 -- pending
 abbrev pub notified : (Client → Subsystems) → Client → Client
-notified raised client = record client { pending = settled (noted (raised client) client.pending) }
+notified raised client = record client { pending = up_to_date (noted (raised client) client.pending) }
 
 abbrev pub notice_to : ℕ → Option Subsystems → List Notice
 notice_to number None = []
@@ -246,11 +246,11 @@ shown number tags client = if client.number == number then record client { tags 
 -- the client of a number is in this partition from now on: everything is pending for it, whatever was, and it does
 -- not wait
 abbrev pub entered : ℕ → ℕ → Client → Client
-entered number place client = if client.number == number then record client { place = place; pending = everything } else client
+entered number index client = if client.number == number then record client { index = index; pending = everything } else client
 
 -- a client that comes: it is in the first partition and is shown all tags, and nothing is pending for it
 abbrev pub newcomer : ℕ → Client
-newcomer number = record { number = number; place = 0; tags = tag_names; pending = fresh }
+newcomer number = record { number = number; index = 0; tags = tag_names; pending = fresh }
 
 -- a client that is not there comes before the first with a greater number
 abbrev pub joined : ℕ → List Client → List Client
@@ -265,7 +265,7 @@ moved number Learn clients = map (at number (λ p. fresh)) clients
 moved number Resume clients = map (at number cancelled) clients
 moved number Join clients = joined number clients
 moved number (Show tags) clients = map (shown number tags) clients
-moved number (Enter place) clients = map (entered number place) clients
+moved number (Enter index) clients = map (entered number index) clients
 
 -- a client whose answer closes it is gone, and makes no move
 abbrev pub staying : ℕ → ResponseData → List Client → List Client

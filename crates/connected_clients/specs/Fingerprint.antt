@@ -58,15 +58,15 @@ readings part = record {
 pub record FingerprintData : Type 0 where
   pub scans : Bool
   pub count : ℕ
-  pub place : ℕ
+  pub index : ℕ
   pub own : Option PartReadings
   pub outputs : List OutputsAt
 
 abbrev pub fingerprint_from : Bool → ℕ → ℕ → Option PartReadings → List OutputsAt → FingerprintData
-fingerprint_from scans count place own outputs = record { scans = scans; count = count; place = place; own = own; outputs = outputs }
+fingerprint_from scans count index own outputs = record { scans = scans; count = count; index = index; own = own; outputs = outputs }
 
 abbrev pub outputs_in : Part → OutputsAt
-outputs_in part = record { place = part.place; flags = output_flags part.outputs }
+outputs_in part = record { index = part.index; flags = output_flags part.outputs }
 
 -- whether an output goes from one partition to another
 abbrev pub is_bringing : Crossing → Bool
@@ -77,11 +77,11 @@ abbrev pub outputs_before : Crossing → List Part → List OutputsAt
 outputs_before crossing parts = if is_bringing crossing then map outputs_in parts else []
 
 abbrev pub fingerprint : Crossing → ℕ → List Part → Library → FingerprintData
-fingerprint crossing place parts library = record {
+fingerprint crossing index parts library = record {
   scans = library.scan.runs;
   count = length parts;
-  place = place;
-  own = option_map readings (part_at place parts);
+  index = index;
+  own = option_map readings (part_at index parts);
   outputs = outputs_before crossing parts;
 }
 
@@ -126,8 +126,8 @@ has_beyond having (Some part) = has_messages_beyond having part.channels
 
 -- which outputs were there and enabled in the first partition of a number
 abbrev pub outputs_at : ℕ → List OutputsAt → Option OutputFlags
-outputs_at place [] = None
-outputs_at place (o ∷ os) = if o.place == place then Some o.flags else outputs_at place os
+outputs_at index [] = None
+outputs_at index (o ∷ os) = if o.index == index then Some o.flags else outputs_at index os
 
 abbrev pub outputs_differ_from : Option OutputFlags → Option Part → Bool
 outputs_differ_from None part = false
@@ -136,7 +136,7 @@ outputs_differ_from (Some before) (Some part) = not (same_outputs before (output
 
 -- whether other outputs are in a partition now, or others are enabled in it
 abbrev pub outputs_differ : ℕ → List OutputsAt → List Part → Bool
-outputs_differ place before parts = outputs_differ_from (outputs_at place before) (part_at place parts)
+outputs_differ index before parts = outputs_differ_from (outputs_at index before) (part_at index parts)
 
 -- whether the first message waits for a client in the event's partition
 abbrev pub begins_between : ℕ → Option PartReadings → Option Part → Bool
@@ -144,14 +144,14 @@ begins_between number None part = false
 begins_between number (Some before) part = not (is_among number before.having) && has_messages_in number part
 
 abbrev pub begins_in : RaisedData → ℕ → Bool
-begins_in r number = begins_between number r.before.own (part_at r.before.place r.parts)
+begins_in r number = begins_between number r.before.own (part_at r.before.index r.parts)
 
 -- what it raised for a client
 abbrev pub raised_in : RaisedData → Client → Subsystems
 raised_in r client =
     if is_this r.moved_client client.number then all
-    else (if client.place == r.before.place then record r.own { message = begins_in r client.number }
-    else record r.common { output = outputs_differ client.place r.before.outputs r.parts })
+    else (if client.index == r.before.index then record r.own { message = begins_in r client.number }
+    else record r.common { output = outputs_differ client.index r.before.outputs r.parts })
 
 -- whether messages wait in the event's partition for clients for which none waited
 abbrev pub begins_beyond : Option PartReadings → Option Part → Bool
@@ -159,12 +159,12 @@ begins_beyond None part = false
 begins_beyond (Some before) part = has_beyond before.having part
 
 abbrev pub messages_begin : RaisedData → Bool
-messages_begin r = begins_beyond r.before.own (part_at r.before.place r.parts)
+messages_begin r = begins_beyond r.before.own (part_at r.before.index r.parts)
 
 -- in a partition other than the event's, outputs went or came
 abbrev pub outputs_differ_elsewhere : RaisedData → Bool
 outputs_differ_elsewhere r =
-    list_any (λ (o : OutputsAt). not (o.place == r.before.place) && outputs_differ o.place r.before.outputs r.parts) r.before.outputs
+    list_any (λ (o : OutputsAt). not (o.index == r.before.index) && outputs_differ o.index r.before.outputs r.parts) r.before.outputs
 
 -- nothing was raised for any client, by what is known of all of them together
 abbrev pub is_quiet : RaisedData → Bool
@@ -201,4 +201,4 @@ own_by_readings subscription None part common = common
 abbrev pub raised_by_fingerprint : Option ℕ → Bool → Bool → ShelfWrite → FingerprintData → List Part → Library → RaisedData
 raised_by_fingerprint moved_client database subscription written before parts library =
     let common : Subsystems = common_by_fingerprint database written before parts library in
-    raised_from moved_client common (own_by_readings subscription before.own (part_at before.place parts) common) before parts
+    raised_from moved_client common (own_by_readings subscription before.own (part_at before.index parts) common) before parts

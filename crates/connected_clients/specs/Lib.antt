@@ -1,4 +1,4 @@
 pub mod Clients
 pub mod Rooms
-pub mod Settled
+pub mod UpToDate
 pub mod Fingerprint

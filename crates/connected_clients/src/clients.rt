@@ -90,18 +90,18 @@ fn list_notice(client: Client, raised: &Raised, notices: &mut Notices)
 }
 
 /// Lets a client do what its event asks for.
-pub fn make_move(clients: &mut Vec<Client>, number: u32, moves: Move)
+pub fn make_move(clients: &mut Vec<Client>, number: u32, client_move: Move)
     requires { vec_len clients.old < vec_capacity clients.old }
-    ensures { clients.new.items ≡ moved number moves clients.old.items }
+    ensures { clients.new.items ≡ moved number client_move clients.old.items }
 {
-    match moves {
+    match client_move {
         Move::Stay => {}
         Move::Wait(names) => begin_waiting(clients, number, names),
         Move::Learn => refresh(clients, number),
         Move::Resume => resume(clients, number),
         Move::Join => join(clients, number),
         Move::Show(tags) => show(clients, number, tags),
-        Move::Enter(place) => enter(clients, number, place),
+        Move::Enter(index) => enter(clients, number, index),
     }
 }
 
@@ -168,7 +168,7 @@ fn with_pending(client: Client, pending: Pending) -> Client
 {
     Client {
         number: client.number,
-        place: client.place,
+        index: client.index,
         tags: client.tags,
         pending,
     }
@@ -189,7 +189,7 @@ fn shown(client: Client, number: u32, tags: TagSet) -> Client
     if client.number == number {
         Client {
             number,
-            place: client.place,
+            index: client.index,
             tags,
             pending: client.pending,
         }
@@ -198,22 +198,22 @@ fn shown(client: Client, number: u32, tags: TagSet) -> Client
     }
 }
 
-fn enter(clients: &mut [Client], number: u32, place: u8)
-    ensures { clients.new ≡ map (entered_lem number place) clients.old }
+fn enter(clients: &mut [Client], number: u32, index: u8)
+    ensures { clients.new ≡ map (entered_lem number index) clients.old }
 {
     for client in clients.iter_mut() {
-        *client = entered(*client, number, place);
+        *client = entered(*client, number, index);
     }
 }
 
 /// The client, in this partition, and with everything pending, where it is the one of the number.
-fn entered(client: Client, number: u32, place: u8) -> Client
-    ensures { result ≡ entered_lem number place client }
+fn entered(client: Client, number: u32, index: u8) -> Client
+    ensures { result ≡ entered_lem number index client }
 {
     if client.number == number {
         Client {
             number,
-            place,
+            index,
             tags: client.tags,
             pending: Pending::everything(),
         }
@@ -230,8 +230,8 @@ fn join(clients: &mut Vec<Client>, number: u32)
     if find_client(clients, number).is_some() {
         return;
     }
-    let place = place_for(clients, number);
-    let _ = clients.insert(place, newcomer(number));
+    let index = index_for(clients, number);
+    let _ = clients.insert(index, newcomer(number));
 }
 
 /// A client that comes: it is in the first partition and is shown all tags, and nothing is pending for it.
@@ -240,23 +240,23 @@ fn newcomer(number: u32) -> Client
 {
     Client {
         number,
-        place: 0,
+        index: 0,
         tags: TagSet::all(),
         pending: Pending::new(),
     }
 }
 
-/// The place of the first client with a greater number; the number of clients where none has one.
-fn place_for(clients: &[Client], number: u32) -> usize
-    ensures place { result ≡ position_or_len (λ client. nat_lt number client.number) clients.now }
+/// The index of the first client with a greater number; the number of clients where none has one.
+fn index_for(clients: &[Client], number: u32) -> usize
+    ensures index { result ≡ position_or_len (λ client. nat_lt number client.number) clients.now }
     ensures within { result ≤ length clients.now }
 {
-    let mut place = 0;
+    let mut index = 0;
     for client in clients {
         if client.number > number {
-            return place;
+            return index;
         }
-        place += 1;
+        index += 1;
     }
-    place
+    index
 }

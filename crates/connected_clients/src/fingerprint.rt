@@ -2,7 +2,7 @@
 ghost use Rattle.std.specs.Prelude.{◌≡◌, ◌↔◌, ◌&&◌, not, map, IfOk, IsTrue};
 ghost use Rattle.std.specs.Option.{option_copied};
 ghost use Rattle.connected_clients.specs.Clients.{bytes_of, consume_number as consume_number_lem, id_number as id_number_lem, is_this as is_this_lem, options as options_lem, output_flags as output_flags_lem, playback_number as playback_number_lem, playing as playing_lem, same_flags as same_flags_lem, same_error as same_error_lem, same_playing as same_playing_lem, same_options as same_options_lem, same_outputs as same_outputs_lem, single_number as single_number_lem};
-ghost use Rattle.connected_clients.specs.Settled.{nothing};
+ghost use Rattle.connected_clients.specs.UpToDate.{nothing};
 ghost use Rattle.connected_clients.specs.Fingerprint.{changes_subscriptions as changes_subscriptions_lem, common_by_fingerprint, begins_in, fingerprint, has_beyond as has_beyond_lem, has_messages_in, is_among as is_among_lem, is_bringing as is_bringing_lem, is_quiet as is_quiet_lem, messages_begin as messages_begin_lem, outputs_at as outputs_at_lem, outputs_before as outputs_before_lem, outputs_differ as outputs_differ_lem, outputs_differ_elsewhere as outputs_differ_elsewhere_lem, outputs_in as outputs_in_lem, own_by_readings, raised_by_fingerprint, raised_in, readings};
 ghost use Rattle.partition_table.specs.Parts.{part_at};
 
@@ -21,7 +21,7 @@ use transitions::ShelfWrite;
 pub struct Fingerprint {
     scans: bool,
     count: usize,
-    place: u8,
+    index: u8,
     own: Option<Readings>,
     outputs: Vec<OutputsAt>,
 }
@@ -32,7 +32,7 @@ impl Drop for Fingerprint {
         let Fingerprint {
             scans: _,
             count: _,
-            place: _,
+            index: _,
             own: _,
             outputs: _,
         } = self;
@@ -44,7 +44,7 @@ impl Model for Fingerprint {
 
     ghost Value = { FingerprintData };
 
-    ghost view = { λ s. fingerprint_from s.scans s.count s.place s.own s.outputs.items };
+    ghost view = { λ s. fingerprint_from s.scans s.count s.index s.own s.outputs.items };
 }
 
 /// Readings of one partition.
@@ -90,7 +90,7 @@ pub struct OutputFlags {
 /// Which outputs are there and enabled in the partition of a number.
 #[derive(Clone, Copy, PartialEq, Eq)]
 pub struct OutputsAt {
-    pub place: u8,
+    pub index: u8,
     pub flags: OutputFlags,
 }
 
@@ -124,20 +124,20 @@ impl Fingerprint {
     pub fn of(
         alloc: Global,
         crossing: &Crossing,
-        place: u8,
+        index: u8,
         parts: &Parts,
         library: &Library,
     ) -> Result<Fingerprint, AllocError>
-        ensures { IfOk result (λ read. read ≡ fingerprint crossing.now place parts.now library.now) }
+        ensures { IfOk result (λ read. read ≡ fingerprint crossing.now index parts.now library.now) }
     {
-        let own = match parts.at(place) {
+        let own = match parts.at(index) {
             Some(part) => Some(Readings::of(alloc, part)?),
             None => None,
         };
         Ok(Fingerprint {
             scans: library.scan.running().is_some(),
             count: parts.len(),
-            place,
+            index,
             own,
             outputs: outputs_before(alloc, crossing, parts)?,
         })
@@ -163,7 +163,7 @@ impl Fingerprint {
             own: own_changes(
                 subscription,
                 self.own.as_ref(),
-                parts.at(self.place),
+                parts.at(self.index),
                 common,
             ),
             before: self,
@@ -263,7 +263,7 @@ fn outputs_in(part: &Part) -> OutputsAt
     ensures { result ≡ outputs_in_lem part.now }
 {
     OutputsAt {
-        place: part.place,
+        index: part.index,
         flags: output_flags(&part.outputs),
     }
 }
@@ -307,14 +307,14 @@ impl<'a> Raised<'a> {
             return Subsystems::all();
         }
         let before = self.before;
-        if client.place == before.place {
+        if client.index == before.index {
             return Subsystems {
                 message: self.begins_to_have(client.number),
                 ..self.own
             };
         }
         Subsystems {
-            output: outputs_differ(client.place, &before.outputs, self.parts),
+            output: outputs_differ(client.index, &before.outputs, self.parts),
             ..self.common
         }
     }
@@ -324,7 +324,7 @@ impl<'a> Raised<'a> {
         ensures { result ≡ begins_in self.now number }
     {
         let before = self.before;
-        let part = self.parts.at(before.place);
+        let part = self.parts.at(before.index);
         match &before.own {
             Some(own) => !is_among(number, &own.having) && has_messages(part, number),
             None => false,
@@ -365,7 +365,7 @@ impl<'a> Raised<'a> {
         ensures { result ≡ messages_begin_lem self.now }
     {
         let before = self.before;
-        let part = self.parts.at(before.place);
+        let part = self.parts.at(before.index);
         match &before.own {
             Some(own) => has_beyond(part, &own.having),
             None => false,
@@ -378,7 +378,7 @@ impl<'a> Raised<'a> {
     {
         let before = self.before;
         before.outputs.iter().any(|at| {
-            at.place != before.place && outputs_differ(at.place, &before.outputs, self.parts)
+            at.index != before.index && outputs_differ(at.index, &before.outputs, self.parts)
         })
     }
 }
@@ -412,21 +412,21 @@ fn has_beyond(part: Option<&Part>, having: &[u32]) -> bool
 }
 
 /// Whether other outputs are in a partition now, or others are enabled in it.
-fn outputs_differ(place: u8, before: &[OutputsAt], parts: &Parts) -> bool
-    ensures { result ≡ outputs_differ_lem place before.now parts.now }
+fn outputs_differ(index: u8, before: &[OutputsAt], parts: &Parts) -> bool
+    ensures { result ≡ outputs_differ_lem index before.now parts.now }
 {
-    match (outputs_at(place, before), parts.at(place)) {
+    match (outputs_at(index, before), parts.at(index)) {
         (Some(flags), Some(part)) => !same_outputs(flags, output_flags(&part.outputs)),
         _ => false,
     }
 }
 
 /// Which outputs were there and enabled in the first partition of a number.
-fn outputs_at(place: u8, before: &[OutputsAt]) -> Option<OutputFlags>
-    ensures { result ≡ outputs_at_lem place before.now }
+fn outputs_at(index: u8, before: &[OutputsAt]) -> Option<OutputFlags>
+    ensures { result ≡ outputs_at_lem index before.now }
 {
     for at in before {
-        if at.place == place {
+        if at.index == index {
             return Some(at.flags);
         }
     }

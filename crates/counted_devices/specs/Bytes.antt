@@ -4,10 +4,10 @@ use Rattle.counted_devices.specs.CallCounts.{count_up}
 use Rattle.counted_devices.specs.declared.fail_at.FailurePoint.{FailurePoint}
 use Rattle.counted_devices.specs.declared.fail_at.FailurePoint.TheVariants.{Never, Call, Byte}
 
--- A seek to a place, where all bytes are known: at Ok those from the place on remain, and at Err what
+-- A seek to an offset, where all bytes are known: at Ok those from the offset on remain, and at Err what
 -- remained before.
 abbrev pub Seeks : {X E : Type 0} → Option (List ℕ) → ℕ → Option (List ℕ) → Option (List ℕ) → Result X E → Type 0
-Seeks bytes place old new r = IfSome bytes (λ all. MatchResult r (λ _. new ≡ Some (drop place all)) (λ _. new ≡ old))
+Seeks bytes offset old new r = IfSome bytes (λ all. MatchResult r (λ _. new ≡ Some (drop offset all)) (λ _. new ≡ old))
 
 -- a seek after the last byte, where all bytes are known
 abbrev pub SeeksToEnd : {X E : Type 0} → Option (List ℕ) → Option (List ℕ) → Option (List ℕ) → Result X E → Type 0

@@ -16,7 +16,7 @@ abbrev pub fresh_device : Vec ℕ → FailurePoint → ErrorKind → FailAt
 fresh_device bytes point kind =
     record { bytes = bytes; position = 0; call_counts = no_calls; point = point; kind = kind }
 
--- what is left to read: the bytes from the place on
+-- what is left to read: the bytes from the offset on
 abbrev pub left_to_read : FailAt → List ℕ
 left_to_read d = drop d.position d.bytes.items
 
@@ -43,6 +43,6 @@ AnyErrorIs kind r = IfErr r (λ e. error_kind e ≡ kind)
 abbrev pub FailsWith : {X : Type 0} → ErrorKind → Result X Error → Type 0
 FailsWith kind r = IsErr r × AnyErrorIs kind r
 
--- the device's place moved as this seek among its bytes moves it
-abbrev pub PlaceMoves : FailAt → FailAt → SeekFrom → Result ℕ Error → Type 0
-PlaceMoves old new to r = SeekMoves (Some old.position) (Some new.position) (Some old.bytes.items) to r
+-- the device's offset moved as this seek among its bytes moves it
+abbrev pub PositionMoves : FailAt → FailAt → SeekFrom → Result ℕ Error → Type 0
+PositionMoves old new to r = SeekMoves (Some old.position) (Some new.position) (Some old.bytes.items) to r

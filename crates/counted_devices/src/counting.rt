@@ -9,7 +9,7 @@ use std::io;
 use std::io::{Read, Write};
 
 /// Counts how the calls of a device end. Each call hands on one call of the device, with the same bytes or
-/// place.
+/// offset.
 #[derive(Drop)]
 pub struct Counting<T> {
     inner: T,
@@ -123,8 +123,8 @@ impl<T: Write> Sink for Counting<T> {
 impl<T: ReadSeek> Media for Counting<T> {
     ghost all_bytes = { λ c. T.known_bytes c.inner };
 
-    fn seek_to(&mut self, place: u64) -> io::Result<()> {
-        let returned = self.inner.move_to(place);
+    fn seek_to(&mut self, offset: u64) -> io::Result<()> {
+        let returned = self.inner.move_to(offset);
         self.call_counts.count_result(&returned);
         returned
     }

@@ -56,15 +56,15 @@ pub trait Sink: Write + Failing {
         ensures calm { NoFewer (Self.call_counts self.old) (Self.call_counts self.new) };
 }
 
-/// A reader that can be set to any place of its bytes, and counts its calls. Each call is one read
+/// A reader that can be set to any offset of its bytes, and counts its calls. Each call is one read
 /// or one seek of the device.
 pub trait Media: Source {
     // All its bytes from the first on, where they are known.
     ghost all_bytes: { Self → Option (List ℕ) };
 
-    /// Sets the reader to a place, counted in bytes from the first. After the last byte nothing remains.
-    fn seek_to(&mut self, place: u64) -> io::Result<()>
-        ensures moves { Seeks (all_bytes self.old) place (Self.remaining self.old) (Self.remaining self.new) result }
+    /// Sets the reader to an offset, counted in bytes from the first. After the last byte nothing remains.
+    fn seek_to(&mut self, offset: u64) -> io::Result<()>
+        ensures moves { Seeks (all_bytes self.old) offset (Self.remaining self.old) (Self.remaining self.new) result }
         ensures stays { all_bytes self.new ≡ all_bytes self.old }
         ensures counts { CountsCall (Self.call_counts self.old) (Self.call_counts self.new) result }
         ensures calls { (Self.call_counts self.new).calls ≡ (one_call (Self.call_counts self.old)).calls }

@@ -4,7 +4,7 @@ ghost use Rattle.std.specs.Io.{ReadsAtMost, WritesAtMost};
 ghost use Rattle.std.specs.Io.KnownBytes.{ReadConsumes, WriteAppends, Keeps};
 ghost use Rattle.std.specs.IoError.{error_kind};
 ghost use Rattle.counted_devices.specs.CallCounts.{CountsCall, CountsError, CountsWrite, HasFailed, NoFewer, one_call};
-ghost use Rattle.counted_devices.specs.Failures.{fresh_device, left_to_read, room_for_call, room_to_read, room_to_write, read_count, AnyErrorIs, FailsWith, PlaceMoves};
+ghost use Rattle.counted_devices.specs.Failures.{fresh_device, left_to_read, room_for_call, room_to_read, room_to_write, read_count, AnyErrorIs, FailsWith, PositionMoves};
 
 use crate::{CallCounts, Failing, Media, ReadSeek, Sink, Source};
 use std::io;
@@ -22,7 +22,7 @@ pub enum FailurePoint {
     Byte(u64),
 }
 
-/// Bytes in memory that are read from any place and written at the end, with a failure where one is wanted.
+/// Bytes in memory that are read from any offset and written at the end, with a failure where one is asked for.
 #[derive(Drop)]
 pub struct FailAt {
     bytes: Vec<u8>,
@@ -234,8 +234,8 @@ impl Seek for FailAt {
     ghost stream_bytes = { λ d. Some d.bytes.items };
 
     fn seek(&mut self, to: SeekFrom) -> io::Result<u64>
-        ensures moves { PlaceMoves self.old self.new to result }
-        ensures place { IfOk result (λ place. self.new.position ≡ place) }
+        ensures moves { PositionMoves self.old self.new to result }
+        ensures new_position { IfOk result (λ new_position. self.new.position ≡ new_position) }
         ensures stays_there { OnErr result (self.new.position ≡ self.old.position) }
         ensures bytes { Keeps (Some self.old.bytes.items) (Some self.new.bytes.items) }
         ensures stays { self.new.bytes ≡ self.old.bytes }
@@ -244,8 +244,8 @@ impl Seek for FailAt {
         ensures failed { OnErr result (HasFailed self.old.call_counts self.new.call_counts) }
         ensures calm { NoFewer self.old.call_counts self.new.call_counts }
         ensures fails { room_for_call self.old 0 ≡ 0 → FailsWith self.old.kind result }
-        // An error elsewhere is a place before the first byte or past 2^64-1.
-        ensures place_wrong { room_for_call self.old 0 ≢ 0 → AnyErrorIs ErrorKind.InvalidInput result }
+        // An error elsewhere is a new position before the first byte or past 2^64-1.
+        ensures out_of_range { room_for_call self.old 0 ≢ 0 → AnyErrorIs ErrorKind.InvalidInput result }
         ensures start { room_for_call self.old 0 ≢ 0 → (n : ℕ) → to ≡ SeekFrom.Start n → IsOk result }
     {
         // Read once, so that the proof has the range of each count.
@@ -258,7 +258,7 @@ impl Seek for FailAt {
             return Err(self.fail());
         }
         let (base, offset) = match to {
-            SeekFrom::Start(place) => (place, 0),
+            SeekFrom::Start(new_position) => (new_position, 0),
             SeekFrom::End(offset) => (self.bytes.len() as u64, offset),
             SeekFrom::Current(offset) => (self.position, offset),
         };
@@ -269,10 +269,10 @@ impl Seek for FailAt {
             base.checked_add(distance)
         };
         match target {
-            Some(place) => {
-                self.position = place;
+            Some(new_position) => {
+                self.position = new_position;
                 self.call_counts.count_call();
-                Ok(place)
+                Ok(new_position)
             }
             None => {
                 self.call_counts.count_error(ErrorKind::InvalidInput);
@@ -285,8 +285,8 @@ impl Seek for FailAt {
 impl Media for FailAt {
     ghost all_bytes = { λ d. Some d.bytes.items };
 
-    fn seek_to(&mut self, place: u64) -> io::Result<()> {
-        self.seek(SeekFrom::Start(place))?;
+    fn seek_to(&mut self, offset: u64) -> io::Result<()> {
+        self.seek(SeekFrom::Start(offset))?;
         Ok(())
     }
 
@@ -302,8 +302,8 @@ impl Media for FailAt {
 impl ReadSeek for FailAt {
     ghost known_bytes = { λ d. Some d.bytes.items };
 
-    fn move_to(&mut self, place: u64) -> io::Result<()> {
-        self.seek_to(place)
+    fn move_to(&mut self, offset: u64) -> io::Result<()> {
+        self.seek_to(offset)
     }
 
     fn move_to_end(&mut self) -> io::Result<u64> {

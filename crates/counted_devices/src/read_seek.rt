@@ -1,4 +1,4 @@
-//! Readers that can be set to any place of their bytes.
+//! Readers that can be set to any offset of their bytes.
 ghost use Rattle.std.specs.Prelude.{◌≡◌, ℕ, List, Option, None, length, IfSome, IfOk};
 ghost use Rattle.std.specs.Io.{ReadsAtMost};
 ghost use Rattle.std.specs.Io.KnownBytes.{ReadConsumes};
@@ -9,15 +9,15 @@ use std::fs::File;
 use std::io;
 use std::io::{AsBytes, Cursor, Read, Seek, SeekFrom};
 
-/// A reader that can be set to any place of its bytes, so that what remains to be read is known after a
+/// A reader that can be set to any offset of its bytes, so that what remains to be read is known after a
 /// seek wherever its bytes are. Each call is one read or one seek.
 pub trait ReadSeek: Read + Seek {
     // All its bytes from the first on, where they are known.
     ghost known_bytes: { Self → Option (List ℕ) };
 
-    /// Sets the reader to a place, counted in bytes from the first. After the last byte nothing remains.
-    fn move_to(&mut self, place: u64) -> io::Result<()>
-        ensures moves { Seeks (known_bytes self.old) place (Self.remaining self.old) (Self.remaining self.new) result }
+    /// Sets the reader to an offset, counted in bytes from the first. After the last byte nothing remains.
+    fn move_to(&mut self, offset: u64) -> io::Result<()>
+        ensures moves { Seeks (known_bytes self.old) offset (Self.remaining self.old) (Self.remaining self.new) result }
         ensures stays { known_bytes self.new ≡ known_bytes self.old };
 
     /// Sets the reader after its last byte, and gives how many bytes there are.
@@ -37,8 +37,8 @@ pub trait ReadSeek: Read + Seek {
 impl ReadSeek for File {
     ghost known_bytes = { λ _. None };
 
-    fn move_to(&mut self, place: u64) -> io::Result<()> {
-        self.seek(SeekFrom::Start(place))?;
+    fn move_to(&mut self, offset: u64) -> io::Result<()> {
+        self.seek(SeekFrom::Start(offset))?;
         Ok(())
     }
 
@@ -54,8 +54,8 @@ impl ReadSeek for File {
 impl<T: AsBytes> ReadSeek for Cursor<T> {
     ghost known_bytes = { λ c. T.bytes (cursor_inner c) };
 
-    fn move_to(&mut self, place: u64) -> io::Result<()> {
-        self.seek(SeekFrom::Start(place))?;
+    fn move_to(&mut self, offset: u64) -> io::Result<()> {
+        self.seek(SeekFrom::Start(offset))?;
         Ok(())
     }
 

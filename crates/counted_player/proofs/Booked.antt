@@ -13,7 +13,7 @@ use Rattle.partition.specs.History.{Chronicle}
 use Rattle.partition.specs.Image.{Image}
 use Rattle.partition.specs.Legal.{IsPast}
 use Rattle.player_state.specs.Outputs.{FrameBooks, books_after, can_count, can_count_all, decoded_by, discarded_by, is_output, total, written_by}
-use Rattle.partition.specs.Step.{absent, counts_frames, have, keeps_limits, limit_of, next_image, output_turn, place_at, report_at, transition}
+use Rattle.partition.specs.Step.{absent, counts_frames, have, keeps_limits, limit_of, next_image, output_turn, index_at, report_at, transition}
 use Rattle.partition_table.specs.Parts.{part_at}
 use Rattle.player_state.specs.declared.state.Part.{Part}
 use Rattle.transitions.specs.Transitions.{acts}
@@ -152,11 +152,11 @@ no_fates ended None number frames output = (refl, refl)
 no_fates true (Some part) number frames output = (refl, refl)
 no_fates false (Some part) number frames output = (refl, refl)
 
-pub have_fates : (seat : ℕ) (i after : Image) (place number frames : ℕ) → HasEight i.shared.books → after ≡ next_image seat i (Have place number frames)
+pub have_fates : (seat : ℕ) (i after : Image) (index number frames : ℕ) → HasEight i.shared.books → after ≡ next_image seat i (Have index number frames)
     → (after.shared.books.written ≡ i.shared.books.written) × (after.shared.books.discarded ≡ i.shared.books.discarded)
-have_fates seat i after place number frames eight is =
-    let part : Option Part = part_at place i.parts in
-    (written_stay seat i after (Have place number frames) eight is (λ n. (no_fates i.shared.ended part number frames n).0), discarded_stay seat i after (Have place number frames) eight is (λ n. (no_fates i.shared.ended part number frames n).1))
+have_fates seat i after index number frames eight is =
+    let part : Option Part = part_at index i.parts in
+    (written_stay seat i after (Have index number frames) eight is (λ n. (no_fates i.shared.ended part number frames n).0), discarded_stay seat i after (Have index number frames) eight is (λ n. (no_fates i.shared.ended part number frames n).1))
 
 turn_feeds : (part : Option Part) (output written discarded : ℕ) (failed : Bool) (report : Report) (number : ℕ)
     → decoded_by (output_turn part output (Settles output written discarded failed)).effect report number ≡ 0
@@ -169,4 +169,4 @@ pub turn_decoded : (seat : ℕ) (i after : Image) (output written discarded : �
     → after ≡ next_image seat i (OutputTurn output written discarded failed) → after.shared.books.decoded ≡ i.shared.books.decoded
 turn_decoded seat i after output written discarded failed eight is =
     decoded_stay seat i after (OutputTurn output written discarded failed) eight is
-    (turn_feeds (part_at (place_at i (OutputTurn output written discarded failed)) i.parts) output written discarded failed (report_at i (OutputTurn output written discarded failed) (transition i (OutputTurn output written discarded failed))))
+    (turn_feeds (part_at (index_at i (OutputTurn output written discarded failed)) i.parts) output written discarded failed (report_at i (OutputTurn output written discarded failed) (transition i (OutputTurn output written discarded failed))))

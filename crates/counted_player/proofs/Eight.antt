@@ -3,7 +3,7 @@ use Rattle.std.proofs.Common.{◌≡◌, ℕ, ◌+◌, ◌≤◌, List, [], ◌�
 use Rattle.std.specs.Prelude.{slice_index_or, sum}
 use Rattle.player_state.specs.Outputs.{grown, total}
 
--- eight numbers are those at their places
+-- eight numbers are those at their indices
 pub eight : (numbers : List ℕ) → length numbers ≡ 8
     → slice_index_or numbers 0 0 ∷ slice_index_or numbers 1 0 ∷ slice_index_or numbers 2 0 ∷ slice_index_or numbers 3 0
     ∷ slice_index_or numbers 4 0 ∷ slice_index_or numbers 5 0 ∷ slice_index_or numbers 6 0 ∷ slice_index_or numbers 7 0 ∷ []

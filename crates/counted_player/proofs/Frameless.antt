@@ -45,7 +45,7 @@ run o asked part library read (asked_for.Stickers command) = refl
 run o asked part library read (asked_for.Connection command) = refl
 run o asked part library read (asked_for.Outputs command) = refl
 run o asked part library read (asked_for.Messages command) = refl
-run o asked part library read (asked_for.Partitions command) = planned_is IsFrameless (λ r. refl) (λ asked crossing. refl) (λ asked place. refl) o.parts o.clients o.openings asked part.place command
+run o asked part library read (asked_for.Partitions command) = planned_is IsFrameless (λ r. refl) (λ asked crossing. refl) (λ asked index. refl) o.parts o.clients o.openings asked part.index command
 
 there : (o : Overview) (asked : Asked) (part : Option Part) (library : Library) (read : Read) (command : Command) → IsFrameless (transition_there o asked part library read command)
 there o asked None library read command = refl

@@ -18,7 +18,7 @@ use Rattle.partition.specs.Image.{Image, overview}
 use Rattle.partition.specs.Lent.{Refuses}
 use Rattle.partition.specs.Lists.{AllWithin, Answered, RunsList, Stop, StopsList, entries_of}
 use Rattle.player_events.specs.Events.{ends_list}
-use Rattle.partition.specs.Step.{next_image, place_at, sender_in, told}
+use Rattle.partition.specs.Step.{next_image, index_at, sender_in, told}
 use Rattle.counted_player.specs.Counts.{done_in}
 use Rattle.counted_player.proofs.Booked.{HasEight, all_stay, own_below}
 use Rattle.counted_player.proofs.Frameless.{line_frameless}
@@ -84,7 +84,7 @@ module _ (seat client : ℕ) (form : ListForm) where
       let line : Event = Line client (InList form all.0.place) all.0.request all.0.heard in
       let next : Image = next_image h.seat i h.event in
       let same : next.shared.books ≡ i.shared.books =
-      all_stay h.seat i next line eight (ap (next_image h.seat i) all.0.event) (line_frameless (overview i) (part_at (place_at i line) i.parts) i.shared.library (sender_in i.clients line) client (InList form all.0.place) all.0.request all.0.heard) in
+      all_stay h.seat i next line eight (ap (next_image h.seat i) all.0.event) (line_frameless (overview i) (part_at (index_at i line) i.parts) i.shared.library (sender_in i.clients line) client (InList form all.0.place) all.0.request all.0.heard) in
       replay_books next hs (subst HasEight (sym same) eight) all.1 ∙ same
 
 get_some : (hs : List LogEntry) (n : ℕ) → n < length hs → (h : LogEntry) × (slice_get hs n ≡ Some h)

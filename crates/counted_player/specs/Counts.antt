@@ -56,11 +56,11 @@ song_within id (Some part) = song_of id (queue_of part.queue)
 
 -- the song of the entry that has this id in the queue of the partition of a number, if there is one
 abbrev pub song_at : ℕ → ℕ → Image → Option SongData
-song_at place id i = song_within id (part_at place i.parts)
+song_at index id i = song_within id (part_at index i.parts)
 
 -- the same, after some past
 abbrev pub IsSongSomewhere : ℕ → ℕ → Option SongData → Type 0
-IsSongSomewhere place id song = (past : Chronicle) × IsPast past × (song ≡ song_at place id past.present)
+IsSongSomewhere index id song = (past : Chronicle) × IsPast past × (song ≡ song_at index id past.present)
 
 -- whether a song is being played
 abbrev pub is_playing : Playback → Bool
@@ -85,12 +85,12 @@ abbrev pub HasScanSomewhere : Bool → Type 0
 HasScanSomewhere has = (past : Chronicle) × IsPast past × (has ≡ has_scan past.present)
 
 -- of sixteen numbers those of a partition
-abbrev pub ArePlaces : List Bool → Image → Type 0
-ArePlaces places i = (place : ℕ) → place < 16 → slice_index_or places place false ≡ is_some (part_at place i.parts)
+abbrev pub ArePresentPartitions : List Bool → Image → Type 0
+ArePresentPartitions present_partitions i = (index : ℕ) → index < 16 → slice_index_or present_partitions index false ≡ is_some (part_at index i.parts)
 
 -- the same, after some past
-abbrev pub ArePlacesSomewhere : List Bool → Type 0
-ArePlacesSomewhere places = (past : Chronicle) × IsPast past × ArePlaces places past.present
+abbrev pub ArePresentPartitionsSomewhere : List Bool → Type 0
+ArePresentPartitionsSomewhere present_partitions = (past : Chronicle) × IsPast past × ArePresentPartitions present_partitions past.present
 
 -- a player of which no seat made an event, and whose outputs have no frames
 abbrev pub IsFresh : Image → Type 0

@@ -5,7 +5,7 @@ ghost use Rattle.counted_player.specs.Counts.{done_in, is_playing as is_playing_
 
 use crate::frames::{decoded_in, discarded_in, written_in};
 use crate::ledgers::Ledgers;
-use crate::places::places_in;
+use crate::present_partitions::present_in;
 use crate::seat::{Seat, SeatBooks};
 use crate::wake_fingerprint::WakeFingerprint;
 use command_lists::ListForm;
@@ -54,7 +54,7 @@ impl<L: Ledgers> Counted<L> {
     ghost use Rattle.partition.specs.Steps.{RefusesStep};
     ghost use Rattle.player_events.specs.Events.{is_line};
     ghost use Rattle.counted_player.specs.Counts.{any_plays, done_in, has_scan, song_at};
-    ghost use Rattle.counted_player.specs.Counts.{AnswersEvent, ArePlaces, Fails, Halts, IsCounted, IsFresh};
+    ghost use Rattle.counted_player.specs.Counts.{AnswersEvent, ArePresentPartitions, Fails, Halts, IsCounted, IsFresh};
     ghost use Rattle.counted_player.specs.Counts.{JoinsEvent, JoinsStep, Runs};
     ghost use Rattle.counted_player.specs.Seats.{after_events};
 
@@ -194,21 +194,21 @@ impl<L: Ledgers> Counted<L> {
     }
 
     /// Of sixteen numbers those of a partition.
-    pub fn places(&self) -> [bool; 16]
-        ensures places { ArePlaces result self.now.present }
+    pub fn present_partitions(&self) -> [bool; 16]
+        ensures present_partitions { ArePresentPartitions result self.now.present }
         ensures legal { IsPast self.now }
     {
         let _past = self.partition.history();
-        places_in(&self.partition)
+        present_in(&self.partition)
     }
 
     /// The song of an entry of the present queue of the partition of a number.
-    pub fn song(&self, place: u8, id: u32) -> Result<Option<SharedSong>, AllocError>
-        ensures song { IfOk result (λ song. song ≡ song_at place id self.now.present) }
+    pub fn song(&self, index: u8, id: u32) -> Result<Option<SharedSong>, AllocError>
+        ensures song { IfOk result (λ song. song ≡ song_at index id self.now.present) }
         ensures legal { IsPast self.now }
     {
         let _past = self.partition.history();
-        song_within(&self.partition, place, id)
+        song_within(&self.partition, index, id)
     }
 
     /// The clients that are connected.
@@ -261,24 +261,24 @@ fn is_playing(part: &Part) -> bool
 }
 
 /// The song of the entry that has this id in the queue of the partition of a number, if there is one.
-fn song_within(partition: &Partition, place: u8, id: u32) -> Result<Option<SharedSong>, AllocError>
-    ensures { IfOk result (λ song. song ≡ song_at place id partition.now.present) }
+fn song_within(partition: &Partition, index: u8, id: u32) -> Result<Option<SharedSong>, AllocError>
+    ensures { IfOk result (λ song. song ≡ song_at index id partition.now.present) }
 {
-    match partition.part(place) {
+    match partition.part(index) {
         Some(part) => song_in(&part.queue, id),
         None => Ok(None),
     }
 }
 
 /// The song of the entry of a queue that has this id.
-#[tactic(auto, using(crate::proofs::Songs::no_place, crate::proofs::Songs::no_entry, crate::proofs::Songs::entry_song))]
+#[tactic(auto, using(crate::proofs::Songs::no_position, crate::proofs::Songs::no_entry, crate::proofs::Songs::entry_song))]
 fn song_in(queue: &Queue, id: u32) -> Result<Option<SharedSong>, AllocError>
     ensures { IfOk result (λ song. song ≡ song_of id (queue_of queue.now)) }
 {
-    let Some(place) = queue.position_of(id) else {
+    let Some(position) = queue.position_of(id) else {
         return Ok(None);
     };
-    match queue.get(place) {
+    match queue.get(position) {
         Some(entry) => Ok(Some(entry.song.clone()?)),
         None => Ok(None),
     }

@@ -4,7 +4,7 @@ ghost use Rattle.std.specs.Prelude.{ℕ};
 use std::marker::{Brand, PhantomData};
 use std::sync::ledger::Ledger;
 
-/// Which ledgers they are: the name of that at each place.
+/// Which ledgers they are: the name of that at each index.
 pub trait Ledgers {
     ghost names: { ℕ → ℕ };
 }
@@ -13,17 +13,17 @@ impl Ledgers for Brand {
     ghost names = { λ _. 0 };
 }
 
-/// The ledger at a place.
-pub struct At<L, const PLACE: u8> {
+/// The ledger at an index.
+pub struct At<L, const INDEX: u8> {
     of: PhantomData<L>,
 }
 
-impl<L: Ledgers, const PLACE: u8> Ledger for At<L, PLACE> {
+impl<L: Ledgers, const INDEX: u8> Ledger for At<L, INDEX> {
     ghost use Rattle.counted_player.specs.Ledgers.{parts_at};
 
-    ghost name = { L.names PLACE };
+    ghost name = { L.names INDEX };
 
-    ghost parts = { parts_at PLACE };
+    ghost parts = { parts_at INDEX };
 }
 
 // The events of the four seats of callers.

@@ -4,9 +4,9 @@
 mod counted;
 mod frames;
 mod ledgers;
-mod mark;
-mod places;
+mod present_partitions;
 mod seat;
+mod token;
 mod wake_fingerprint;
 
 pub use counted::Counted;

@@ -2,10 +2,10 @@
 ghost use Rattle.std.specs.Prelude.{◌≡◌, ◌+◌, ◌<◌, ◌≤◌, ◌^◌, [], ◌∷◌};
 ghost use Rattle.std.specs.Prelude.{slice_index, slice_set, vec_len, vec_capacity};
 ghost use Rattle.counted_player.specs.Ledgers.{IsAt};
-ghost use Rattle.counted_player.specs.Seats.{after_events, place, with_four_seats};
+ghost use Rattle.counted_player.specs.Seats.{after_events, seat_count, with_four_seats};
 
 use crate::ledgers::{First, Fourth, Ledgers, Second, Third};
-use crate::mark::Mark;
+use crate::token::Token;
 use std::marker::Model;
 use std::sync::ledger::{Blank, Book};
 
@@ -16,35 +16,35 @@ pub struct NoSeat;
 /// A seat. Contracts see its number and how many events it made.
 pub struct Seat<L: Ledgers> {
     made: u64,
-    mark: Mark<L>,
+    token: Token<L>,
 }
 
 impl<L: Ledgers> Drop for Seat<L> {
     fn drop(self) {
-        let Seat { made: _, mark: _ } = self;
+        let Seat { made: _, token: _ } = self;
     }
 }
 
 impl<L: Ledgers> Model for Seat<L> {
     ghost use Rattle.std.specs.Prelude.{◌<◌, ◌^◌};
-    ghost use Rattle.counted_player.specs.Seats.{SeatCount, place, number_of, IsWhole};
+    ghost use Rattle.counted_player.specs.Seats.{SeatCount, seat_count, number_of, IsWhole};
 
     ghost Value = { SeatCount };
 
-    ghost view = { λ s. place (number_of s.mark) s.made };
+    ghost view = { λ s. seat_count (number_of s.token) s.made };
 
-    ghost invariant = { λ s. IsWhole s.made s.mark × (s.made < 2 ^ 63) };
+    ghost invariant = { λ s. IsWhole s.made s.token × (s.made < 2 ^ 63) };
 }
 
 impl<L: Ledgers> Seat<L> {
     /// The seat of a thread of the house's own.
     pub fn of_crew(n: u8) -> Self
         requires { n < 12 }
-        ensures { result ≡ place (4 + n) 0 }
+        ensures { result ≡ seat_count (4 + n) 0 }
     {
         Seat {
             made: 0,
-            mark: Mark::Crew(n),
+            token: Token::Crew(n),
         }
     }
 
@@ -60,12 +60,12 @@ impl<L: Ledgers> Seat<L> {
         ensures number { result ≡ self.now.number }
         ensures seat { result < 16 }
     {
-        match &self.mark {
-            Mark::First(_) => 0,
-            Mark::Second(_) => 1,
-            Mark::Third(_) => 2,
-            Mark::Fourth(_) => 3,
-            Mark::Crew(n) => 4 + *n,
+        match &self.token {
+            Token::First(_) => 0,
+            Token::Second(_) => 1,
+            Token::Third(_) => 2,
+            Token::Fourth(_) => 3,
+            Token::Crew(n) => 4 + *n,
         }
     }
 }
@@ -117,22 +117,22 @@ impl<L: Ledgers> SeatBooks<L> {
         let (first, share) = first.open::<First<L>>();
         free.push_reserved(Seat {
             made: 0,
-            mark: Mark::First(share),
+            token: Token::First(share),
         });
         let (second, share) = second.open::<Second<L>>();
         free.push_reserved(Seat {
             made: 0,
-            mark: Mark::Second(share),
+            token: Token::Second(share),
         });
         let (third, share) = third.open::<Third<L>>();
         free.push_reserved(Seat {
             made: 0,
-            mark: Mark::Third(share),
+            token: Token::Third(share),
         });
         let (fourth, share) = fourth.open::<Fourth<L>>();
         free.push_reserved(Seat {
             made: 0,
-            mark: Mark::Fourth(share),
+            token: Token::Fourth(share),
         });
         SeatBooks {
             first,
@@ -155,13 +155,13 @@ impl<L: Ledgers> SeatBooks<L> {
             third,
             fourth,
         } = self;
-        let Seat { made: _, mark } = seat;
-        match mark {
-            Mark::First(share) => first.audit(share),
-            Mark::Second(share) => second.audit(share),
-            Mark::Third(share) => third.audit(share),
-            Mark::Fourth(share) => fourth.audit(share),
-            Mark::Crew(_) => {}
+        let Seat { made: _, token } = seat;
+        match token {
+            Token::First(share) => first.audit(share),
+            Token::Second(share) => second.audit(share),
+            Token::Third(share) => third.audit(share),
+            Token::Fourth(share) => fourth.audit(share),
+            Token::Crew(_) => {}
         }
     }
 
@@ -179,29 +179,29 @@ impl<L: Ledgers> SeatBooks<L> {
             third,
             fourth,
         } = self;
-        let Seat { made, mark } = seat;
-        match mark {
-            Mark::First(share) => {
+        let Seat { made, token } = seat;
+        match token {
+            Token::First(share) => {
                 first.audit(share);
                 first.add(share, events);
                 *made += events;
             }
-            Mark::Second(share) => {
+            Token::Second(share) => {
                 second.audit(share);
                 second.add(share, events);
                 *made += events;
             }
-            Mark::Third(share) => {
+            Token::Third(share) => {
                 third.audit(share);
                 third.add(share, events);
                 *made += events;
             }
-            Mark::Fourth(share) => {
+            Token::Fourth(share) => {
                 fourth.audit(share);
                 fourth.add(share, events);
                 *made += events;
             }
-            Mark::Crew(_) => {}
+            Token::Crew(_) => {}
         }
     }
 }

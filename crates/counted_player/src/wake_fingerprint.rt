@@ -20,7 +20,7 @@ pub struct WakeFingerprint {
 /// What changes in one partition.
 #[derive(Clone, Copy, PartialEq, Eq)]
 struct PartFingerprint {
-    place: u8,
+    index: u8,
     playback: Playback,
     cuts: u64,
     starts: u64,
@@ -73,7 +73,7 @@ impl PartFingerprint {
         ensures { result ≡ part_fingerprint part.now }
     {
         PartFingerprint {
-            place: part.place,
+            index: part.index,
             playback: part.player.playback(),
             cuts: part.player.cuts(),
             starts: part.player.starts(),

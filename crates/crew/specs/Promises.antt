@@ -12,7 +12,7 @@ use Rattle.crew_steps.specs.Turns.{HasRun}
 abbrev pub HandsBack : ℕ → Drainer → Drainer → Type 0
 HandsBack output given back = SameDrainer given back × HasRun output given back
 
--- each end is of the ring of the feeder at its place, and the rings took what a decoder of songs of this rate handed out
+-- each end is of the ring of the feeder at its index, and the rings took what a decoder of songs of this rate handed out
 -- until it was told of the end
 abbrev pub HandsBackAll : ℕ → List Feeder → List FeederEnd → Type 0
 HandsBackAll rate feeders ends = Each EndsFeeder feeders ends × RunsDecoder rate feeders ends

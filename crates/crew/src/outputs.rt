@@ -17,7 +17,7 @@ use std::sync::{Arc, Wait};
 use std::thread::Threads;
 use std::time::Clock;
 
-/// Starts the thread of each output: the one at each place speaks for the output of that number.
+/// Starts the thread of each output: the one at each index speaks for the output of that number.
 #[tactic(auto, using(crate::proofs::Numbers::one_more))]
 pub fn start_outputs<
     L: Ledgers + Send + Sync + 'static,

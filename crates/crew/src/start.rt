@@ -25,7 +25,7 @@ use std::thread;
 use std::thread::{JoinHandle, Promise, PromisedHandle, Threads};
 use std::time::Clock;
 
-/// Each end is of the ring of the feeder at its place, and the rings took what a decoder of songs of this
+/// Each end is of the ring of the feeder at its index, and the rings took what a decoder of songs of this
 /// rate handed out until it was told of the end.
 #[derive(Drop)]
 pub struct OfFeeders {
@@ -37,7 +37,7 @@ impl<L: Ledgers> Promise<DecoderEnd<L>> for OfFeeders {
     ghost kept_by = { λ p r. HandsBackAll p.rate p.feeders.value.items r.ends.items };
 }
 
-/// The decoder and the outputs that run. The feeder at each place is of the ring of the output there. The
+/// The decoder and the outputs that run. The feeder at each index is of the ring of the output there. The
 /// crew has all shares: those that its threads will hand back, and the rest.
 #[derive(Drop)]
 pub struct Crew<L: Ledgers> {
@@ -53,7 +53,7 @@ pub struct Crew<L: Ledgers> {
     ghost rings: { map first_of_run outputs.items ≡ decoder.promise.feeders.value.items },
     ghost few: { vec_len outputs ≤ 8 },
     ghost parts: { HasPartsBut (vec_len outputs) shares },
-    ghost places: { (ended.items ≡ []) × (vec_len outputs ≤ vec_capacity ended) },
+    ghost ended_room: { (ended.items ≡ []) × (vec_len outputs ≤ vec_capacity ended) },
     ghost room: { (results.items ≡ []) × (vec_len outputs ≤ vec_capacity results) },
 }
 

@@ -88,21 +88,21 @@ module _ {M : Type 0} {media : Media.Ghosts M} {read : Read.Ghosts M} {failing :
 
 module _ {S M : Type 0} (answers : S → List ℕ → Result M SongFault → Type 0) (bytes : M → Option (List ℕ)) (counts : M → CallCounts) where
   -- a song that cannot be opened, at the same rate
-  pub not_opened : (rate rate' place id : ℕ) → rate' ≡ rate → IsNotOpened answers bytes counts rate' place id → IsNotOpened answers bytes counts rate place id
-  not_opened rate rate' place id same opens = subst (λ r. IsNotOpened answers bytes counts r place id) same opens
+  pub not_opened : (rate rate' index id : ℕ) → rate' ≡ rate → IsNotOpened answers bytes counts rate' index id → IsNotOpened answers bytes counts rate index id
+  not_opened rate rate' index id same opens = subst (λ r. IsNotOpened answers bytes counts r index id) same opens
 
   -- the same of the one that is faded into
-  pub part_not_opened : (rate rate' place : ℕ) (fade : Option FadePart) → rate' ≡ rate → PartnerIsNotOpened answers bytes counts rate' place fade → PartnerIsNotOpened answers bytes counts rate place fade
-  part_not_opened rate rate' place fade same opens = subst (λ r. PartnerIsNotOpened answers bytes counts r place fade) same opens
+  pub part_not_opened : (rate rate' index : ℕ) (fade : Option FadePart) → rate' ≡ rate → PartnerIsNotOpened answers bytes counts rate' index fade → PartnerIsNotOpened answers bytes counts rate index fade
+  part_not_opened rate rate' index fade same opens = subst (λ r. PartnerIsNotOpened answers bytes counts r index fade) same opens
 
   -- the one that a job fades into is that of its part
-  pub of_part : (rate rate' place : ℕ) (fade : Option FadePart) (part : FadePart) → fade ≡ Some part → rate' ≡ rate → IsNotOpened answers bytes counts rate' place part.partner → PartnerIsNotOpened answers bytes counts rate place fade
-  of_part rate rate' place fade part is same opens =
-      subst (λ (f : Option FadePart). PartnerIsNotOpened answers bytes counts rate place f) (sym is) (not_opened rate rate' place part.partner same opens)
+  pub of_part : (rate rate' index : ℕ) (fade : Option FadePart) (part : FadePart) → fade ≡ Some part → rate' ≡ rate → IsNotOpened answers bytes counts rate' index part.partner → PartnerIsNotOpened answers bytes counts rate index fade
+  of_part rate rate' index fade part is same opens =
+      subst (λ (f : Option FadePart). PartnerIsNotOpened answers bytes counts rate index f) (sym is) (not_opened rate rate' index part.partner same opens)
 
   -- of songs that were open one failed as it was read
-  pub ends_read : {X : Type 0} (rate place : ℕ) (job : Job) (songs : OpenSongs) (r : Result X NoFrames) → songs.rate ≡ rate → AreOpenFor songs place job → IsOfFile bytes counts songs.current → IsOfFile bytes counts songs.partner
-      → IfErr r (EndsReading bytes counts songs job) → IfErr r (EndsFor (HasCause answers bytes counts rate) place job)
-  ends_read rate place job songs (Ok x) same opens current partner ends = tt
-  ends_read rate place job songs (Err NoMemory) same opens current partner ends = tt
-  ends_read rate place job songs (Err (Failed other)) same opens current partner ends = inr (songs, same, opens, current, partner, ends)
+  pub ends_read : {X : Type 0} (rate index : ℕ) (job : Job) (songs : OpenSongs) (r : Result X NoFrames) → songs.rate ≡ rate → AreOpenFor songs index job → IsOfFile bytes counts songs.current → IsOfFile bytes counts songs.partner
+      → IfErr r (EndsReading bytes counts songs job) → IfErr r (EndsFor (HasCause answers bytes counts rate) index job)
+  ends_read rate index job songs (Ok x) same opens current partner ends = tt
+  ends_read rate index job songs (Err NoMemory) same opens current partner ends = tt
+  ends_read rate index job songs (Err (Failed other)) same opens current partner ends = inr (songs, same, opens, current, partner, ends)

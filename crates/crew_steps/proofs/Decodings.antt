@@ -23,44 +23,44 @@ use Rattle.crew_steps.proofs.Eaches.{each_unchanged}
 use Rattle.crew_steps.proofs.Pushes.{each_fed}
 
 -- what was fed is of its rings
-pub each_decoded : (seat : SeatCount) (before after place : ℕ) (job : Job) (frames others : List (List ℤ)) (told : OutcomeData) (old new : List Feeder) → Feeds seat before after place job frames others told old new → Each SameFeeder old new
-each_decoded seat before after place job frames others told old new feeds =
+pub each_decoded : (seat : SeatCount) (before after index : ℕ) (job : Job) (frames others : List (List ℤ)) (told : OutcomeData) (old new : List Feeder) → Feeds seat before after index job frames others told old new → Each SameFeeder old new
+each_decoded seat before after index job frames others told old new feeds =
     each_fed (handed (feed_told told.report) job.fade others frames) old new feeds.1
 
-pub feeds : (seat : SeatCount) (before after place : ℕ) (job : Job) (frames others : List (List ℤ)) (old new : List Feeder) (told : OutcomeData) → FeedsShare seat place job.number (length frames) before after told → HandsOut job.fade frames others told old new
-    → Feeds seat before after place job frames others told old new
-feeds seat before after place job frames others old new told tells hands = (tells, hands)
+pub feeds : (seat : SeatCount) (before after index : ℕ) (job : Job) (frames others : List (List ℤ)) (old new : List Feeder) (told : OutcomeData) → FeedsShare seat index job.number (length frames) before after told → HandsOut job.fade frames others told old new
+    → Feeds seat before after index job frames others told old new
+feeds seat before after index job frames others old new told tells hands = (tells, hands)
 
 -- what came of a job is of its rings
-pub each_finished : (seat : SeatCount) (before after place : ℕ) (job : Job) (read : Result JobFrames NoFrames) (told : Option OutcomeData) (old new : List Feeder) → FinishesJob seat before after place job read told old new → Each SameFeeder old new
-each_finished seat before after place job (Ok read) None old new done = absurd done
-each_finished seat before after place job (Ok read) (Some told) old new done = each_decoded seat before after place job read.frames.items read.others.items told old new done
-each_finished seat before after place job (Err (Failed partner)) None old new done = absurd done
-each_finished seat before after place job (Err (Failed partner)) (Some told) old new done = subst (λ fs. Each SameFeeder old fs) (sym done.1) (each_unchanged old)
-each_finished seat before after place job (Err NoMemory) None old new done = subst (λ fs. Each SameFeeder old fs) (sym done.1) (each_unchanged old)
-each_finished seat before after place job (Err NoMemory) (Some told) old new done = absurd done
+pub each_finished : (seat : SeatCount) (before after index : ℕ) (job : Job) (read : Result JobFrames NoFrames) (told : Option OutcomeData) (old new : List Feeder) → FinishesJob seat before after index job read told old new → Each SameFeeder old new
+each_finished seat before after index job (Ok read) None old new done = absurd done
+each_finished seat before after index job (Ok read) (Some told) old new done = each_decoded seat before after index job read.frames.items read.others.items told old new done
+each_finished seat before after index job (Err (Failed partner)) None old new done = absurd done
+each_finished seat before after index job (Err (Failed partner)) (Some told) old new done = subst (λ fs. Each SameFeeder old fs) (sym done.1) (each_unchanged old)
+each_finished seat before after index job (Err NoMemory) None old new done = subst (λ fs. Each SameFeeder old fs) (sym done.1) (each_unchanged old)
+each_finished seat before after index job (Err NoMemory) (Some told) old new done = absurd done
 
 -- a job was done by what was read for it, of the same songs
-does : (cause : ℕ → Job → Bool → Type 0) (songs : OpenSongs) (seat : SeatCount) (before after place : ℕ) (job : Job) (read : Result JobFrames NoFrames) (told : Option OutcomeData) (old new : List Feeder)
-    → OnOk read (AreOpenFor songs place job) → IfOk read (λ (r : JobFrames). ReadsJob songs job r.frames.items r.others.items) → IfErr read (Fails songs place job) → IfErr read (EndsFor cause place job)
-    → FinishesJob seat before after place job read told old new → DoesJob cause songs seat before after place job told old new
-does cause songs seat before after place job (Ok read) None old new opens reads fails ends done = absurd done
-does cause songs seat before after place job (Ok read) (Some told) old new opens reads fails ends done = inr (opens, (read.frames.items, read.others.items, reads, done))
-does cause songs seat before after place job (Err (Failed partner)) None old new opens reads fails ends done = absurd done
-does cause songs seat before after place job (Err (Failed partner)) (Some told) old new opens reads fails ends done = inl (done.0, (done.1, (partner, fails, ends, done.2)))
-does cause songs seat before after place job (Err NoMemory) None old new opens reads fails ends done = done
-does cause songs seat before after place job (Err NoMemory) (Some told) old new opens reads fails ends done = absurd done
+does : (cause : ℕ → Job → Bool → Type 0) (songs : OpenSongs) (seat : SeatCount) (before after index : ℕ) (job : Job) (read : Result JobFrames NoFrames) (told : Option OutcomeData) (old new : List Feeder)
+    → OnOk read (AreOpenFor songs index job) → IfOk read (λ (r : JobFrames). ReadsJob songs job r.frames.items r.others.items) → IfErr read (Fails songs index job) → IfErr read (EndsFor cause index job)
+    → FinishesJob seat before after index job read told old new → DoesJob cause songs seat before after index job told old new
+does cause songs seat before after index job (Ok read) None old new opens reads fails ends done = absurd done
+does cause songs seat before after index job (Ok read) (Some told) old new opens reads fails ends done = inr (opens, (read.frames.items, read.others.items, reads, done))
+does cause songs seat before after index job (Err (Failed partner)) None old new opens reads fails ends done = absurd done
+does cause songs seat before after index job (Err (Failed partner)) (Some told) old new opens reads fails ends done = inl (done.0, (done.1, (partner, fails, ends, done.2)))
+does cause songs seat before after index job (Err NoMemory) None old new opens reads fails ends done = done
+does cause songs seat before after index job (Err NoMemory) (Some told) old new opens reads fails ends done = absurd done
 
 -- the same, of the seat and the share that were there before the reading
-pub does_later : {A B : Type 0} (cause : ℕ → Job → Bool → Type 0) (songs' songs : B) (view : B → OpenSongs) (seat' seat : SeatCount) (share' share : A) (amount : A → ℕ) (after place : ℕ) (job : Job) (read : Result JobFrames NoFrames) (told : Option OutcomeData) (old new : List Feeder)
+pub does_later : {A B : Type 0} (cause : ℕ → Job → Bool → Type 0) (songs' songs : B) (view : B → OpenSongs) (seat' seat : SeatCount) (share' share : A) (amount : A → ℕ) (after index : ℕ) (job : Job) (read : Result JobFrames NoFrames) (told : Option OutcomeData) (old new : List Feeder)
     → songs' ≡ songs → seat' ≡ seat → share' ≡ share
-    → OnOk read (AreOpenFor (view songs) place job) → IfOk read (λ (r : JobFrames). ReadsJob (view songs) job r.frames.items r.others.items) → IfErr read (Fails (view songs) place job) → IfErr read (EndsFor cause place job)
-    → FinishesJob seat' (amount share') after place job read told old new → DoesJob cause (view songs') seat (amount share) after place job told old new
-does_later cause songs' songs view seat' seat share' share amount after place job read told old new same seats shares opens reads fails ends done =
-    subst (λ s. DoesJob cause (view s) seat (amount share) after place job told old new) (sym same)
-    (subst (λ s. DoesJob cause (view songs) s (amount share) after place job told old new) seats
-    (subst (λ a. DoesJob cause (view songs) seat' (amount a) after place job told old new) shares
-    (does cause (view songs) seat' (amount share') after place job read told old new opens reads fails ends done)))
+    → OnOk read (AreOpenFor (view songs) index job) → IfOk read (λ (r : JobFrames). ReadsJob (view songs) job r.frames.items r.others.items) → IfErr read (Fails (view songs) index job) → IfErr read (EndsFor cause index job)
+    → FinishesJob seat' (amount share') after index job read told old new → DoesJob cause (view songs') seat (amount share) after index job told old new
+does_later cause songs' songs view seat' seat share' share amount after index job read told old new same seats shares opens reads fails ends done =
+    subst (λ s. DoesJob cause (view s) seat (amount share) after index job told old new) (sym same)
+    (subst (λ s. DoesJob cause (view songs) s (amount share) after index job told old new) seats
+    (subst (λ a. DoesJob cause (view songs) seat' (amount a) after index job told old new) shares
+    (does cause (view songs) seat' (amount share') after index job read told old new opens reads fails ends done)))
 
 -- rounds that were done so far, in none of which the end was told
 abbrev pub DidSoFar : (ℕ → Job → Bool → Type 0) → ℕ → List Feeder → List Feeder → Type 0
@@ -81,23 +81,23 @@ ends cause cause' rate rate' old now new told did last = (last.1.3.0, (did.0, di
 
 -- the causes are forgotten
 abbrev whatever : ℕ → Job → Bool → Type 0
-whatever place job partner = Unit {0}
+whatever index job partner = Unit {0}
 
-job_anyhow : (cause : ℕ → Job → Bool → Type 0) (songs : OpenSongs) (seat : SeatCount) (before after place : ℕ) (job : Job) (told : Option OutcomeData) (old new : List Feeder)
-    → DoesJob cause songs seat before after place job told old new → DoesJob whatever songs seat before after place job told old new
-job_anyhow cause songs seat before after place job None old new does = does
-job_anyhow cause songs seat before after place job (Some told) old new (inl fails) = inl (fails.0, (fails.1.0, (fails.1.1.0, fails.1.1.1, tt, fails.1.1.3)))
-job_anyhow cause songs seat before after place job (Some told) old new (inr feeds) = inr feeds
+job_anyhow : (cause : ℕ → Job → Bool → Type 0) (songs : OpenSongs) (seat : SeatCount) (before after index : ℕ) (job : Job) (told : Option OutcomeData) (old new : List Feeder)
+    → DoesJob cause songs seat before after index job told old new → DoesJob whatever songs seat before after index job told old new
+job_anyhow cause songs seat before after index job None old new does = does
+job_anyhow cause songs seat before after index job (Some told) old new (inl fails) = inl (fails.0, (fails.1.0, (fails.1.1.0, fails.1.1.1, tt, fails.1.1.3)))
+job_anyhow cause songs seat before after index job (Some told) old new (inr feeds) = inr feeds
 
 task_anyhow : (cause : ℕ → Job → Bool → Type 0) (rate : ℕ) (task : Task) (told : Option OutcomeData) (old new : List Feeder) → DoesTask cause rate task told old new → DoesTask whatever rate task told old new
 task_anyhow cause rate task told old new does =
-    (does.0, does.1, does.2, does.3, does.4, does.5, does.6, (does.7.0, does.7.1, does.7.2, does.7.3, job_anyhow cause does.7.0 does.2 does.7.2 does.7.3 task.place task.job told does.0 new does.7.4))
+    (does.0, does.1, does.2, does.3, does.4, does.5, does.6, (does.7.0, does.7.1, does.7.2, does.7.3, job_anyhow cause does.7.0 does.2 does.7.2 does.7.3 task.index task.job told does.0 new does.7.4))
 
 once_anyhow : (cause : ℕ → Job → Bool → Type 0) (rate : ℕ) (round : DecoderRound) (old new : List Feeder) → DecodesOnce cause rate round old new → DecodesOnce whatever rate round old new
 once_anyhow cause rate (Ends told) old new does = does
 once_anyhow cause rate (Refused fault) old new does = does
 once_anyhow cause rate (Passes told) old new does = does
-once_anyhow cause rate (Did job told) old new does = (does.0, task_anyhow cause rate (record { place = does.0; job = job }) told old new does.1)
+once_anyhow cause rate (Did job told) old new does = (does.0, task_anyhow cause rate (record { index = does.0; job = job }) told old new does.1)
 
 rounds_anyhow : (cause : ℕ → Job → Bool → Type 0) (rate : ℕ) (rounds : List DecoderRound) (old new : List Feeder) → DidRounds cause rate rounds old new → DidRounds whatever rate rounds old new
 rounds_anyhow cause rate [] old new did = did

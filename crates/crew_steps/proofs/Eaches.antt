@@ -56,7 +56,7 @@ each_push_at R n k [] (b ∷ ys) x y is e r = absurd e
 each_push_at R n k (a ∷ xs) [] x y is e r = absurd e
 each_push_at R n k (a ∷ xs) (b ∷ ys) x y is e r = (e.0, each_push_at R (n + 1) k xs ys x y (omega (arith, is)) e.1 r)
 
--- one more pair, at the next place
+-- one more pair, at the next index
 pub each_next_at : {A B : Type 0} (R : ℕ → A → B → Type 0) (xs : List A) (ys zs : List B) (n m : ℕ) (x : A) (y : B) (rest : List A) → n ≡ length ys → m ≡ n + 1 → drop n xs ≡ x ∷ rest → zs ≡ ys ++ y ∷ []
     → EachAt R 0 (take n xs) ys → R n x y → EachAt R 0 (take m xs) zs
 each_next_at R xs ys zs n m x y rest long is e grown each r =

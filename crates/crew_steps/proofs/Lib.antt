@@ -4,9 +4,9 @@ pub mod Eaches
 pub mod Heard
 pub mod Known
 pub mod Meant
-pub mod Places
+pub mod Indices
 pub mod Pushes
 pub mod Spans
 pub mod Turns
-pub mod Wanted
+pub mod DueJob
 pub mod Whole

@@ -7,7 +7,7 @@ use Rattle.wave.specs.declared.fault.WaveFault.{WaveFault}
 use Rattle.wave.specs.declared.head.Head.{Head}
 use Rattle.crew_steps.specs.Sounds.{AreOf, Hold, Opened, StandFrom}
 
--- so many of those from a place on
+-- so many of those from an offset on
 pub part : {X : Type 0} (frames : List X) (gone count start many : ℕ) → start ≡ min gone (length frames) → many ≡ min count (length frames - start)
     → take many (drop start frames) ≡ take count (drop gone frames)
 part frames gone count start many from most =

@@ -13,7 +13,7 @@ use Rattle.output_ring.specs.declared.frames.WriteFault.{WriteFault}
 use Rattle.player_events.specs.Outcomes.{OutcomeData}
 use Rattle.player_state.specs.declared.report.Report.{Report}
 use Rattle.player_state.specs.declared.report.Report.TheVariants.{Nothing, ToScan, ScanEnded, ToDecode, ToFeed, ToPlay, Ended}
-use Rattle.counted_player.specs.Seats.{SeatCount, place}
+use Rattle.counted_player.specs.Seats.{SeatCount, seat_count}
 use Rattle.held_player.specs.Views.{TellsSomewhere, turn_of}
 use Rattle.crew_steps.specs.Turns.{AreUntold, DoesAs, Drains, GivesFates, HasTurn, HasTurns, Keeps, Obeys, Plays, Pops, Runs, TellsOutput, goes_on}
 
@@ -54,7 +54,7 @@ untold old reported new totals told given =
 -- by the output's own seat
 pub of_output : (seat : SeatCount) (output : ℕ) (f : Fates) (failed : Bool) (outcome : OutcomeData) → seat.number ≡ 5 + min output 7 → TellsSomewhere seat (turn_of output f failed) outcome → TellsOutput output f failed outcome
 of_output seat output f failed outcome own tells =
-    (seat.made, subst (λ n. TellsSomewhere (place n seat.made) (turn_of output f failed) outcome) own tells)
+    (seat.made, subst (λ n. TellsSomewhere (seat_count n seat.made) (turn_of output f failed) outcome) own tells)
 
 -- an output goes on after it was told this
 abbrev pub Goes : OutcomeData → Type 0

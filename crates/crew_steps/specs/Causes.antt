@@ -26,8 +26,8 @@ IsShortFor songs job =
 
 -- why a job has no frames: for want of memory, or since one of its songs has failed, for one of these causes
 abbrev pub EndsFor : (ℕ → Job → Bool → Type 0) → ℕ → Job → NoFrames → Type 0
-EndsFor cause place job NoMemory = Unit {0}
-EndsFor cause place job (Failed partner) = cause place job partner
+EndsFor cause index job NoMemory = Unit {0}
+EndsFor cause index job (Failed partner) = cause index job partner
 
 -- Files are had of a source, of which is known what it answers of a URI; of a file are known its bytes, if they are,
 -- and how its calls ended.
@@ -74,26 +74,26 @@ module _ {S M : Type 0} (answers : S → List ℕ → Result M SongFault → Typ
 
   -- the song of an id is not in the queue of the partition of a number, or its file is not had
   abbrev pub IsNotOpened : ℕ → ℕ → ℕ → Type 0
-  IsNotOpened rate place id =
-      IsSongSomewhere place id None ⊎ ((song : SongData) × IsSongSomewhere place id (Some song) × IsNotHad rate song.uri)
+  IsNotOpened rate index id =
+      IsSongSomewhere index id None ⊎ ((song : SongData) × IsSongSomewhere index id (Some song) × IsNotHad rate song.uri)
 
   -- the same of the song that a job fades into, which it does
   abbrev pub PartnerIsNotOpened : ℕ → ℕ → Option FadePart → Type 0
-  PartnerIsNotOpened rate place None = ⊥
-  PartnerIsNotOpened rate place (Some part) = IsNotOpened rate place part.partner
+  PartnerIsNotOpened rate index None = ⊥
+  PartnerIsNotOpened rate index (Some part) = IsNotOpened rate index part.partner
 
   -- the same of a song of a job: its own, or the one that it fades into
   abbrev pub IsNotOpenedFor : ℕ → ℕ → Job → Bool → Type 0
-  IsNotOpenedFor rate place job false = IsNotOpened rate place job.id
-  IsNotOpenedFor rate place job true = PartnerIsNotOpened rate place job.fade
+  IsNotOpenedFor rate index job false = IsNotOpened rate index job.id
+  IsNotOpenedFor rate index job true = PartnerIsNotOpened rate index job.fade
 
   -- the songs of a job were open, each of a file, and this one failed as the job's frames were read
   abbrev pub IsNotRead : ℕ → ℕ → Job → Bool → Type 0
-  IsNotRead rate place job partner =
-      (songs : OpenSongs) × (songs.rate ≡ rate) × AreOpenFor songs place job × IsOfFile bytes counts songs.current
+  IsNotRead rate index job partner =
+      (songs : OpenSongs) × (songs.rate ≡ rate) × AreOpenFor songs index job × IsOfFile bytes counts songs.current
       × IsOfFile bytes counts songs.partner × FailsAsRead bytes counts songs job partner
 
   -- Why a song of a partition's job has failed, its own or the one that it fades into: it could not be opened, or it
   -- failed as it was read.
   abbrev pub HasCause : ℕ → ℕ → Job → Bool → Type 0
-  HasCause rate place job partner = IsNotOpenedFor rate place job partner ⊎ IsNotRead rate place job partner
+  HasCause rate index job partner = IsNotOpenedFor rate index job partner ⊎ IsNotRead rate index job partner

@@ -24,17 +24,17 @@ use Rattle.crew_steps.specs.declared.songs.NoFrames.{NoFrames}
 module _ {L S M R : Type 0} {source : SongSource.Ghosts S M} {media : Media.Ghosts M} {read : Read.Ghosts M} {failing : Failing.Ghosts M} where
   -- what was read for a partition's job is fed by the decoder to its rings
   abbrev pub FeedsRead : ℕ → Job → JobFrames → OutcomeData → Decoder L S M R source media read failing → Vec Feeder → Decoder L S M R source media read failing → Vec Feeder → Type 0
-  FeedsRead place job got told old rings new rings' =
-      Feeds old.seat old.share.amount new.share.amount place job got.frames.items got.others.items told rings.items rings'.items
+  FeedsRead index job got told old rings new rings' =
+      Feeds old.seat old.share.amount new.share.amount index job got.frames.items got.others.items told rings.items rings'.items
 
   -- the decoder finishes a partition's job, as it was read
   abbrev pub FinishesRead : ℕ → Job → Result JobFrames NoFrames → Option OutcomeData → Decoder L S M R source media read failing → Vec Feeder → Decoder L S M R source media read failing → Vec Feeder → Type 0
-  FinishesRead place job got told old rings new rings' =
-      FinishesJob old.seat old.share.amount new.share.amount place job got told rings.items rings'.items
+  FinishesRead index job got told old rings new rings' =
+      FinishesJob old.seat old.share.amount new.share.amount index job got told rings.items rings'.items
 
   -- it was told this of frames of a job that are decoded, and its share has them
   abbrev pub TellsFrames : ℕ → ℕ → ℕ → OutcomeData → Decoder L S M R source media read failing → Decoder L S M R source media read failing → Type 0
-  TellsFrames place number frames told old new = FeedsShare old.seat place number frames old.share.amount new.share.amount told
+  TellsFrames index number frames told old new = FeedsShare old.seat index number frames old.share.amount new.share.amount told
 
   -- the songs that are open of one partition
   abbrev pub open_of : Decoder L S M R source media read failing → OpenSongs
@@ -46,11 +46,11 @@ module _ {L S M R : Type 0} {source : SongSource.Ghosts S M} {media : Media.Ghos
 
   -- the song of an id in a partition's queue cannot be opened
   abbrev pub IsNotOpenedBy : Decoder L S M R source media read failing → ℕ → ℕ → Type 0
-  IsNotOpenedBy decoder place id = IsNotOpened source.answers media.all_bytes failing.call_counts decoder.songs.rate place id
+  IsNotOpenedBy decoder index id = IsNotOpened source.answers media.all_bytes failing.call_counts decoder.songs.rate index id
 
   -- nor the one that a job fades into
   abbrev pub PartnerIsNotOpenedBy : Decoder L S M R source media read failing → ℕ → Option FadePart → Type 0
-  PartnerIsNotOpenedBy decoder place fade = PartnerIsNotOpened source.answers media.all_bytes failing.call_counts decoder.songs.rate place fade
+  PartnerIsNotOpenedBy decoder index fade = PartnerIsNotOpened source.answers media.all_bytes failing.call_counts decoder.songs.rate index fade
 
   -- why a partition's job has no frames
   abbrev pub EndsJobOf : Decoder L S M R source media read failing → ℕ → Job → NoFrames → Type 0
@@ -58,8 +58,8 @@ module _ {L S M R : Type 0} {source : SongSource.Ghosts S M} {media : Media.Ghos
 
   -- the decoder does a partition's job, with what its source answers
   abbrev pub Decodes : ℕ → Job → Option OutcomeData → Decoder L S M R source media read failing → Vec Feeder → Decoder L S M R source media read failing → Vec Feeder → Type 0
-  Decodes place job told old rings new rings' =
-      DoesJob (causes old.songs) (songs_of new.songs) old.seat old.share.amount new.share.amount place job told rings.items rings'.items
+  Decodes index job told old rings new rings' =
+      DoesJob (causes old.songs) (songs_of new.songs) old.seat old.share.amount new.share.amount index job told rings.items rings'.items
 
   -- it does one round, and this comes of it
   abbrev pub DecodesOnceWith : Decoder L S M R source media read failing → DecoderRound → Vec Feeder → Vec Feeder → Type 0

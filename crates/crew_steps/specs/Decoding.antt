@@ -21,7 +21,7 @@ use Rattle.crew_steps.specs.declared.decoder.DecoderRound.TheVariants.{Did, Ends
 
 -- A partition was asked for a job, with what its rings owe, and gave this one.
 abbrev pub IsGiven : SeatCount → ℕ → List Bool → Job → Type 0
-IsGiven seat place owing job = (told : OutcomeData) × TellsSomewhere seat (Want place owing) told × (told.report ≡ ToDecode (Some job))
+IsGiven seat index owing job = (told : OutcomeData) × TellsSomewhere seat (Want index owing) told × (told.report ≡ ToDecode (Some job))
 
 -- whether a thread is given a job by what it is told
 abbrev pub gives_job : Report → Bool
@@ -30,16 +30,16 @@ gives_job _ = false
 
 -- A partition was asked for a job, with what its rings owe, and has none now: what it told is neither a job nor the end.
 abbrev pub HasNoJob : SeatCount → ℕ → List Bool → OutcomeData → Type 0
-HasNoJob seat place owing told =
-    (gives_job told.report ≡ false) × (goes_on told.report ≡ true) × TellsSomewhere seat (Want place owing) told
+HasNoJob seat index owing told =
+    (gives_job told.report ≡ false) × (goes_on told.report ≡ true) × TellsSomewhere seat (Want index owing) told
 
 -- What comes of asking a partition for a job, with what its rings owe: the end, of which it was told so; a refusal, for
 -- this fault; no job now, as it was told; or a job, while none of its rings owes.
 abbrev pub AsksFor : SeatCount → ℕ → List Bool → Next → Type 0
-AsksFor seat place owing (next.Ends told) = (told.report ≡ Ended) × TellsSomewhere seat (Want place owing) told
-AsksFor seat place owing (next.Refused fault) = RefusesSomewhere seat (Want place owing) fault
-AsksFor seat place owing (next.Passes told) = HasNoJob seat place owing told
-AsksFor seat place owing (next.Decodes job changes) = IsGiven seat place owing job × OwesNothingSomewhere place owing
+AsksFor seat index owing (next.Ends told) = (told.report ≡ Ended) × TellsSomewhere seat (Want index owing) told
+AsksFor seat index owing (next.Refused fault) = RefusesSomewhere seat (Want index owing) fault
+AsksFor seat index owing (next.Passes told) = HasNoJob seat index owing told
+AsksFor seat index owing (next.Decodes job changes) = IsGiven seat index owing job × OwesNothingSomewhere index owing
 
 -- the partition that was asked has a job
 abbrev pub GivesJob : Next → Type 0
@@ -52,7 +52,7 @@ GivesJob (next.Decodes job changes) = Unit {0}
 -- what the rings owe then. This came of it, and the rings took no more frames.
 abbrev pub AsksOnly : Next → List Feeder → List Feeder → Type 0
 AsksOnly answer old new =
-    Each TakesNone old new × ((seat : SeatCount) × (place : ℕ) × (seat.number ≡ 4) × AsksFor seat place (owing new) answer)
+    Each TakesNone old new × ((seat : SeatCount) × (index : ℕ) × (seat.number ≡ 4) × AsksFor seat index (owing new) answer)
 
 -- what the decoder was told of the end in a round, if it was
 abbrev pub end_told : DecoderRound → Option OutcomeData
@@ -61,7 +61,7 @@ end_told _ = None
 
 -- a job of the partition of a number
 pub record Task : Type 0 where
-  pub place : ℕ
+  pub index : ℕ
   pub job : Job
 
 -- what is left of a ring's feeder: with its token all that it took, and what it owed
@@ -76,9 +76,9 @@ module _ (cause : ℕ → Job → Bool → Type 0) where
   abbrev pub DoesTask : ℕ → Task → Option OutcomeData → List Feeder → List Feeder → Type 0
   DoesTask rate task told old new =
       (pushed : List Feeder) × (seat : SeatCount) × (later : SeatCount) × Each TakesNone old pushed
-      × (seat.number ≡ 4) × IsGiven seat task.place (owing pushed) task.job × (later.number ≡ 4)
+      × (seat.number ≡ 4) × IsGiven seat task.index (owing pushed) task.job × (later.number ≡ 4)
       × ((songs : OpenSongs) × (songs.rate ≡ rate) × (share_before : ℕ) × (share_after : ℕ)
-      × DoesJob cause songs later share_before share_after task.place task.job told pushed new)
+      × DoesJob cause songs later share_before share_after task.index task.job told pushed new)
 
   -- One round: what waits goes into the rings, and one partition is asked for a job. It gives one, and that very job is
   -- done; or nothing is to be done, since the asking was refused, or the partition has no job now, or the end was told.
@@ -86,7 +86,7 @@ module _ (cause : ℕ → Job → Bool → Type 0) where
   DecodesOnce rate (Ends told) old new = AsksOnly (next.Ends told) old new
   DecodesOnce rate (Refused fault) old new = AsksOnly (next.Refused fault) old new
   DecodesOnce rate (Passes told) old new = AsksOnly (next.Passes told) old new
-  DecodesOnce rate (Did job told) old new = (place : ℕ) × DoesTask rate (record { place = place; job = job }) told old new
+  DecodesOnce rate (Did job told) old new = (index : ℕ) × DoesTask rate (record { index = index; job = job }) told old new
 
   -- these rounds were done one after the other, the last of them first
   abbrev pub DidRounds : ℕ → List DecoderRound → List Feeder → List Feeder → Type 0
@@ -108,4 +108,4 @@ module _ (cause : ℕ → Job → Bool → Type 0) where
 
 -- the same, for whatever causes songs failed
 abbrev pub RunsDecoder : ℕ → List Feeder → List FeederEnd → Type 0
-RunsDecoder = RunsFor (λ place job partner. Unit {0})
+RunsDecoder = RunsFor (λ index job partner. Unit {0})

@@ -44,7 +44,7 @@ OwnOweNothing owing (Some part) = owes_any part.outputs owing ≡ false
 
 -- the same of the partition of a number, after some past
 abbrev pub OwesNothingSomewhere : ℕ → List Bool → Type 0
-OwesNothingSomewhere place owing = (past : Chronicle) × IsPast past × OwnOweNothing owing (part_at place past.present.parts)
+OwesNothingSomewhere index owing = (past : Chronicle) × IsPast past × OwnOweNothing owing (part_at index past.present.parts)
 
 -- no frame waits for room in the ring
 abbrev pub OwesNothing : Feeder → Type 0
@@ -72,7 +72,7 @@ abbrev pub fading_of : Option FadePart → List (List ℤ) → ℕ → Option Fa
 fading_of None others count = None
 fading_of (Some part) others count =
     if is_within part (length others) count
-    then Some (record { others = others; place = part.index; len = part.len })
+    then Some (record { others = others; offset = part.index; len = part.len })
     else None
 
 -- the block that the outputs are handed: the job's frames, faded and then at the volume
@@ -113,43 +113,43 @@ HandsOutRead job read told old new = HandsOut job.fade read.frames.items read.ot
 
 -- the event that a song of a partition's job has failed: its own, or the one that it fades into
 abbrev pub failure_of : ℕ → ℕ → Bool → Event
-failure_of place number partner = event.Failed place number partner
+failure_of index number partner = event.Failed index number partner
 
 -- It was told this of so many frames of a partition's job that are decoded, and these were handed out as it was
 -- told of them.
 abbrev pub Feeds : SeatCount → ℕ → ℕ → ℕ → Job → List (List ℤ) → List (List ℤ) → OutcomeData → List Feeder → List Feeder → Type 0
-Feeds seat share_before share_after place job frames others told old new =
-    FeedsSomewhere seat place job.number (length frames) told share_before share_after × HandsOut job.fade frames others told old new
+Feeds seat share_before share_after index job frames others told old new =
+    FeedsSomewhere seat index job.number (length frames) told share_before share_after × HandsOut job.fade frames others told old new
 
 -- A job of a partition failed: no ring took a frame, a song of it has failed for one of these causes and is not open any
 -- more, and the event that this song of this job has failed was told so.
 abbrev pub FailsJob : (ℕ → Job → Bool → Type 0) → OpenSongs → SeatCount → ℕ → Job → OutcomeData → List Feeder → List Feeder → Type 0
-FailsJob cause songs seat place job told old new =
+FailsJob cause songs seat index job told old new =
     (new ≡ old)
-    × ((partner : Bool) × IsShut songs place job partner × cause place job partner × TellsSomewhere seat (failure_of place job.number partner) told)
+    × ((partner : Bool) × IsShut songs index job partner × cause index job partner × TellsSomewhere seat (failure_of index job.number partner) told)
 
 -- The songs of a partition's job are open: the frames that they have were read, told of, and handed out as it was
 -- told.
 abbrev pub FeedsJob : OpenSongs → SeatCount → ℕ → ℕ → ℕ → Job → OutcomeData → List Feeder → List Feeder → Type 0
-FeedsJob songs seat share_before share_after place job told old new =
-    AreOpenFor songs place job
-    × ((frames : List (List ℤ)) × (others : List (List ℤ)) × ReadsJob songs job frames others × Feeds seat share_before share_after place job frames others told old new)
+FeedsJob songs seat share_before share_after index job told old new =
+    AreOpenFor songs index job
+    × ((frames : List (List ℤ)) × (others : List (List ℤ)) × ReadsJob songs job frames others × Feeds seat share_before share_after index job frames others told old new)
 
 -- A job of a partition failed for one of these causes, or its frames were fed, and it was told this of it; where
 -- nothing was told, there was no memory, and no ring took a frame.
 abbrev pub DoesJob : (ℕ → Job → Bool → Type 0) → OpenSongs → SeatCount → ℕ → ℕ → ℕ → Job → Option OutcomeData → List Feeder → List Feeder → Type 0
-DoesJob cause songs seat share_before share_after place job None old new = (share_after ≡ share_before) × (new ≡ old)
-DoesJob cause songs seat share_before share_after place job (Some told) old new =
-    ((share_after ≡ share_before) × FailsJob cause songs seat place job told old new) ⊎ FeedsJob songs seat share_before share_after place job told old new
+DoesJob cause songs seat share_before share_after index job None old new = (share_after ≡ share_before) × (new ≡ old)
+DoesJob cause songs seat share_before share_after index job (Some told) old new =
+    ((share_after ≡ share_before) × FailsJob cause songs seat index job told old new) ⊎ FeedsJob songs seat share_before share_after index job told old new
 
 -- What was read for a job of a partition was fed, and it was told this of it; of a song that failed the very event was
 -- told so, and no ring took a frame; without memory nothing was told.
 abbrev pub FinishesJob : SeatCount → ℕ → ℕ → ℕ → Job → Result JobFrames NoFrames → Option OutcomeData → List Feeder → List Feeder → Type 0
-FinishesJob seat share_before share_after place job (Ok read) None old new = ⊥
-FinishesJob seat share_before share_after place job (Ok read) (Some told) old new =
-    Feeds seat share_before share_after place job read.frames.items read.others.items told old new
-FinishesJob seat share_before share_after place job (Err (Failed partner)) None old new = ⊥
-FinishesJob seat share_before share_after place job (Err (Failed partner)) (Some told) old new =
-    (share_after ≡ share_before) × (new ≡ old) × TellsSomewhere seat (failure_of place job.number partner) told
-FinishesJob seat share_before share_after place job (Err NoMemory) None old new = (share_after ≡ share_before) × (new ≡ old)
-FinishesJob seat share_before share_after place job (Err NoMemory) (Some told) old new = ⊥
+FinishesJob seat share_before share_after index job (Ok read) None old new = ⊥
+FinishesJob seat share_before share_after index job (Ok read) (Some told) old new =
+    Feeds seat share_before share_after index job read.frames.items read.others.items told old new
+FinishesJob seat share_before share_after index job (Err (Failed partner)) None old new = ⊥
+FinishesJob seat share_before share_after index job (Err (Failed partner)) (Some told) old new =
+    (share_after ≡ share_before) × (new ≡ old) × TellsSomewhere seat (failure_of index job.number partner) told
+FinishesJob seat share_before share_after index job (Err NoMemory) None old new = (share_after ≡ share_before) × (new ≡ old)
+FinishesJob seat share_before share_after index job (Err NoMemory) (Some told) old new = ⊥

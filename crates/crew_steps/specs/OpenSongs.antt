@@ -17,19 +17,19 @@ use Rattle.crew_steps.specs.declared.open_song.OpenSong.{OpenSong}
 abbrev pub IsOfCalls : WaveFault → Type 0
 IsOfCalls fault = (fault ≡ ReadFault) ⊎ (fault ≡ NoMemory)
 
--- of frames that were read together, of which this is the first, those from a place on, as many as are asked for
+-- of frames that were read together, of which this is the first, those from an offset on, as many as are asked for
 abbrev pub AreFrom : ℕ → List (List ℤ) → ℕ → ℕ → Vec (List ℤ) → Type 0
 AreFrom first frames from count own = own.items ≡ take count (drop (from - first) frames)
 
 module _ {M : Type 0} {media : Media.Ghosts M} {read : Read.Ghosts M} {failing : Failing.Ghosts M} where
   abbrev pub opened : OpenSong M media read failing → Opened
-  opened song = record { place = song.place; id = song.id; known = media.all_bytes song.reader.media; head = song.reader.head }
+  opened song = record { index = song.index; id = song.id; known = media.all_bytes song.reader.media; head = song.reader.head }
 
   abbrev pub opened_in : Option (OpenSong M media read failing) → Option Opened
   opened_in None = None
   opened_in (Some song) = Some (opened song)
 
-  -- these are so many frames of a song from a place on, or as many as its file has there
+  -- these are so many frames of a song from an offset on, or as many as its file has there
   abbrev pub AreFramesOf : OpenSong M media read failing → ℕ → ℕ → Vec (List ℤ) → Type 0
   AreFramesOf song from count frames = AreOf (opened song) from count frames.items
 
@@ -37,7 +37,7 @@ module _ {M : Type 0} {media : Media.Ghosts M} {read : Read.Ghosts M} {failing :
   abbrev pub AreFramesIn : Option (OpenSong M media read failing) → ℕ → ℕ → Vec (List ℤ) → Type 0
   AreFramesIn song from count frames = AreOfSome (opened_in song) from count frames.items
 
-  -- what was read together of a song holds so many frames from a place on, or as many as its file has there
+  -- what was read together of a song holds so many frames from an offset on, or as many as its file has there
   abbrev pub HoldsOf : OpenSong M media read failing → OpenSong M media read failing → ℕ → ℕ → Type 0
   HoldsOf song now from count = Hold (opened song) now.first now.frames.items from count
 

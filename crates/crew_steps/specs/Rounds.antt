@@ -5,15 +5,15 @@ use Rattle.std.specs.Option.{option_or, option_map_or}
 
 -- whether a partition has a number
 abbrev pub has_number : List Bool → ℕ → Bool
-has_number places place = slice_index_or places place false
+has_number present_partitions index = slice_index_or present_partitions index false
 
 -- the least number from one up to 15 that is there, of sixteen
 abbrev pub first_from : List Bool → ℕ → Option ℕ
-first_from places from = find (λ place. has_number places place) (range_with_len from (16 - from))
+first_from present_partitions from = find (λ index. has_number present_partitions index) (range_with_len from (16 - from))
 
 -- the next number that is there, and behind the last the first again; 0 where none is
 abbrev pub next_of : List Bool → ℕ → ℕ
-next_of places before = option_map_or (λ place. place) (option_or (first_from places (before + 1)) (first_from places 0)) 0
+next_of present_partitions before = option_map_or (λ index. index) (option_or (first_from present_partitions (before + 1)) (first_from present_partitions 0)) 0
 
 -- how many partitions were passed over, one after the other, with one more: the greatest value of the count at most
 abbrev pub with_this : ℕ → ℕ

@@ -42,10 +42,10 @@ AreOthersOf songs fade count others = OthersOf songs.rate fade songs.partner cou
 
 -- a song of the job that has failed is not open any more
 abbrev pub Fails : OpenSongs → ℕ → Job → NoFrames → Type 0
-Fails songs place job NoMemory = Unit {0}
-Fails songs place job (Failed partner) = IsShut songs place job partner
+Fails songs index job NoMemory = Unit {0}
+Fails songs index job (Failed partner) = IsShut songs index job partner
 
--- the other song has fewer frames than so many, from a place of the fade on
+-- the other song has fewer frames than so many, from an offset of the fade on
 abbrev pub IsShort : ℕ → Option FadePart → Option Opened → ℕ → Type 0
 IsShort rate None partner count = ⊥
 IsShort rate (Some part) partner count = (others : List (List ℤ)) × AreHeard rate partner part.index count others × (length others < count)

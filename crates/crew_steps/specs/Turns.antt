@@ -11,7 +11,7 @@ use Rattle.player_events.specs.Outcomes.{OutcomeData}
 use Rattle.player_state.specs.declared.report.Heard.{Heard}
 use Rattle.player_state.specs.declared.report.Report.{Report}
 use Rattle.player_state.specs.declared.report.Report.TheVariants.{ToPlay, Ended}
-use Rattle.counted_player.specs.Seats.{place}
+use Rattle.counted_player.specs.Seats.{seat_count}
 use Rattle.held_player.specs.Views.{TellsSomewhere, turn_of}
 
 -- these frames came from the ring into the hand, and none got its fate
@@ -41,7 +41,7 @@ goes_on _ = true
 -- What the player of one thread tells of the turn of an output, after some past: so many frames got which fate,
 -- and whether its writer had failed. The turn is the event of the output's own seat.
 abbrev pub TellsOutput : ℕ → Fates → Bool → OutcomeData → Type 0
-TellsOutput output fates failed outcome = (made : ℕ) × TellsSomewhere (place (5 + min output 7) made) (turn_of output fates failed) outcome
+TellsOutput output fates failed outcome = (made : ℕ) × TellsSomewhere (seat_count (5 + min output 7) made) (turn_of output fates failed) outcome
 
 -- frames got fates: they are counted, and are told of at the next turn
 abbrev pub GivesFates : Drainer → Drainer → Type 0

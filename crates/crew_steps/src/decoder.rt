@@ -7,7 +7,7 @@ ghost use Rattle.crew_steps.specs.Songs.{IsFaultOf, found_song};
 
 use crate::feeders::{are_among, finish_all, owing, push_all, take_all};
 use crate::mixing::mix_block;
-use crate::rounds::{count_of, next_place};
+use crate::rounds::{count_of, next_index};
 use crate::song_source::SongSource;
 use crate::songs::{JobFrames, NoFrames, Songs};
 use counted_devices::Media;
@@ -65,11 +65,11 @@ pub struct Decoder<'h, L: Ledgers, S: SongSource<M> + Drop, M: Media + Drop, R: 
     share: Share<Decoded<L>>,
     songs: Songs<S, M>,
     /// Of sixteen numbers those of a partition, as the house last answered.
-    places: [bool; 16],
+    present_partitions: [bool; 16],
     /// How many jobs were given since then, one after the other.
     given: u8,
     /// The number of the partition that was last asked for a job.
-    place: u8,
+    index: u8,
     /// How many were asked one after the other that have none.
     idle: usize,
     /// How often the house had changed when the first of them was asked.
@@ -189,9 +189,9 @@ impl<'h, L: Ledgers, S: SongSource<M> + Drop, M: Media + Drop, R: Wait + Clock> 
             seat: Seat::of_crew(0),
             share,
             songs: Songs::new(alloc, source, rate),
-            places: [false; 16],
+            present_partitions: [false; 16],
             given: 0,
-            place: 0,
+            index: 0,
             idle: 0,
             seen: 0,
             blocks,
@@ -244,16 +244,16 @@ impl<'h, L: Ledgers, S: SongSource<M> + Drop, M: Media + Drop, R: Wait + Clock> 
         ensures rate { self.new.songs.rate ≡ self.old.songs.rate }
     {
         let owes = self.push(feeders);
-        let places = self.known_places();
-        let place = next_place(places, self.place);
-        self.place = place;
-        match self.ask(place, owes, count_of(places)) {
+        let present_partitions = self.known_partitions();
+        let index = next_index(present_partitions, self.index);
+        self.index = index;
+        match self.ask(index, owes, count_of(present_partitions)) {
             Next::Ends(told) => DecoderRound::Ends(told),
             Next::Refused(fault) => DecoderRound::Refused(fault),
             Next::Passes(told) => DecoderRound::Passes(told),
             Next::Decodes(job, changes) => {
-                let told = self.decode(feeders, place, &job);
-                self.pass_untold(&told, changes, owes, count_of(places));
+                let told = self.decode(feeders, index, &job);
+                self.pass_untold(&told, changes, owes, count_of(present_partitions));
                 DecoderRound::Did(job, told)
             }
         }
@@ -262,27 +262,27 @@ impl<'h, L: Ledgers, S: SongSource<M> + Drop, M: Media + Drop, R: Wait + Clock> 
     /// Which partitions there are, as the house answers it. Each question takes its lock, so while one job after
     /// the other is given it asks only before each sixteenth: a new partition has its first turn a little later,
     /// and one that is gone has no job. The songs of those that are gone are closed.
-    fn known_places(&mut self) -> [bool; 16]
+    fn known_partitions(&mut self) -> [bool; 16]
         ensures kept { KeepsSeat self.old self.new }
         ensures rate { self.new.songs.rate ≡ self.old.songs.rate }
     {
         if self.given == 0 || self.given >= JOBS_IN_A_ROW {
             self.given = 0;
-            self.places = self.house.places(self.rt);
-            self.songs.close_gone(self.places);
+            self.present_partitions = self.house.present_partitions(self.rt);
+            self.songs.close_gone(self.present_partitions);
         }
-        self.places
+        self.present_partitions
     }
 
     /// Asks a partition for a job. Where the asking is refused it waits a while. There is no job while a ring
     /// of one of the partition's outputs owes frames.
-    #[tactic(auto, using(crate::proofs::Wanted::owes_nothing))]
-    fn ask(&mut self, place: u8, owes: [bool; 8], partitions: usize) -> Next
-        ensures asks { AsksFor self.old.seat place owes result }
+    #[tactic(auto, using(crate::proofs::DueJob::owes_nothing))]
+    fn ask(&mut self, index: u8, owes: [bool; 8], partitions: usize) -> Next
+        ensures asks { AsksFor self.old.seat index owes result }
         ensures idle { GivesJob result → self.new.idle ≡ 0 }
         ensures rate { self.new.songs.rate ≡ self.old.songs.rate }
     {
-        let told = match self.want(place, owes) {
+        let told = match self.want(index, owes) {
             Ok(told) => told,
             Err(fault) => {
                 self.given = 0;
@@ -305,13 +305,13 @@ impl<'h, L: Ledgers, S: SongSource<M> + Drop, M: Media + Drop, R: Wait + Clock> 
     }
 
     /// Asks a partition for a job, and says of which outputs frames still wait.
-    fn want(&mut self, place: u8, owes: [bool; 8]) -> Result<Reported, PartitionFault>
-        ensures told { IfOk result (TellsSomewhere self.old.seat (Want place owes)) }
-        ensures refused { IfErr result (RefusesSomewhere self.old.seat (Want place owes)) }
+    fn want(&mut self, index: u8, owes: [bool; 8]) -> Result<Reported, PartitionFault>
+        ensures told { IfOk result (TellsSomewhere self.old.seat (Want index owes)) }
+        ensures refused { IfErr result (RefusesSomewhere self.old.seat (Want index owes)) }
         ensures rate { self.new.songs.rate ≡ self.old.songs.rate }
     {
         self.house
-            .notice(self.rt, &mut self.seat, News::Wants(place, owes))
+            .notice(self.rt, &mut self.seat, News::Wants(index, owes))
     }
 
     /// Passes over a partition whose job was given up, of which nothing was told.
@@ -368,7 +368,7 @@ impl<'h, L: Ledgers, S: SongSource<M> + Drop, M: Media + Drop, R: Wait + Clock> 
         let spins = if self.is_fast() { SPINS } else { 1 };
         for _ in 0..spins {
             let pushed = push_all(feeders);
-            self.polls_without_progress = if pushed.moves {
+            self.polls_without_progress = if pushed.has_moved {
                 0
             } else {
                 self.polls_without_progress
@@ -388,14 +388,14 @@ impl<'h, L: Ledgers, S: SongSource<M> + Drop, M: Media + Drop, R: Wait + Clock> 
     /// Decodes a job of a partition, and hands its frames to the outputs that they are for, or tells that one
     /// of its songs has failed. `None` where there was no memory: then nothing is told, and the partition
     /// gives the job again. No ring of one of the partition's outputs owed frames when the job was given.
-    fn decode(&mut self, feeders: &mut Vec<Feeder>, place: u8, job: &Job) -> Option<Reported>
-        requires { OwesNothingSomewhere place (owing_lem feeders.old.items) }
+    fn decode(&mut self, feeders: &mut Vec<Feeder>, index: u8, job: &Job) -> Option<Reported>
+        requires { OwesNothingSomewhere index (owing_lem feeders.old.items) }
         ensures rings { Each SameFeeder feeders.old.items feeders.new.items }
-        ensures decodes { Decodes place job.now result self.old feeders.old self.new feeders.new }
+        ensures decodes { Decodes index job.now result self.old feeders.old self.new feeders.new }
         ensures rate { self.new.songs.rate ≡ self.old.songs.rate }
     {
-        let read = self.read(place, job);
-        self.finish_job(feeders, place, job, read)
+        let read = self.read(index, job);
+        self.finish_job(feeders, index, job, read)
     }
 
     /// Tells what came of reading a job. Its frames are handed out as that is told; only where there was no
@@ -403,69 +403,69 @@ impl<'h, L: Ledgers, S: SongSource<M> + Drop, M: Media + Drop, R: Wait + Clock> 
     fn finish_job(
         &mut self,
         feeders: &mut Vec<Feeder>,
-        place: u8,
+        index: u8,
         job: &Job,
         read: Result<JobFrames, NoFrames>,
     ) -> Option<Reported>
-        ensures finishes { FinishesRead place job.now read result self.old feeders.old self.new feeders.new }
+        ensures finishes { FinishesRead index job.now read result self.old feeders.old self.new feeders.new }
         ensures songs { self.new.songs ≡ self.old.songs }
     {
         match read {
-            Ok(read) => Some(self.feed(feeders, place, job, read)),
-            Err(NoFrames::Failed(partner)) => Some(self.tell_failure(place, job.number, partner)),
+            Ok(read) => Some(self.feed(feeders, index, job, read)),
+            Err(NoFrames::Failed(partner)) => Some(self.tell_failure(index, job.number, partner)),
             Err(NoFrames::NoMemory) => None,
         }
     }
 
     /// Tells that the frames of a job are decoded, and hands them out as it is told.
     #[tactic(auto, using(crate::proofs::Decodings::feeds))]
-    fn feed(&mut self, feeders: &mut Vec<Feeder>, place: u8, job: &Job, read: JobFrames) -> Reported
-        ensures feeds { FeedsRead place job.now read result self.old feeders.old self.new feeders.new }
+    fn feed(&mut self, feeders: &mut Vec<Feeder>, index: u8, job: &Job, read: JobFrames) -> Reported
+        ensures feeds { FeedsRead index job.now read result self.old feeders.old self.new feeders.new }
         ensures songs { self.new.songs ≡ self.old.songs }
     {
         self.since_rest = self.since_rest.saturating_add(1);
-        let told = self.have(place, job.number, read.frames.len() as u64);
+        let told = self.have(index, job.number, read.frames.len() as u64);
         hand_out(self.rt, feeders, job, read, &told);
         told
     }
 
     /// Reads the frames of a job, and opens its songs where they are not open yet.
-    fn read(&mut self, place: u8, job: &Job) -> Result<JobFrames, NoFrames>
-        ensures open { OnOk result (AreOpenFor (open_of self.new) place job.now) }
+    fn read(&mut self, index: u8, job: &Job) -> Result<JobFrames, NoFrames>
+        ensures open { OnOk result (AreOpenFor (open_of self.new) index job.now) }
         ensures read { IfOk result (IsReadFor (open_of self.new) job.now) }
-        ensures failed { IfErr result (Fails (open_of self.new) place job.now) }
-        ensures cause { IfErr result (EndsJobOf self.old place job.now) }
+        ensures failed { IfErr result (Fails (open_of self.new) index job.now) }
+        ensures cause { IfErr result (EndsJobOf self.old index job.now) }
         ensures kept { KeepsSeat self.old self.new }
         ensures rate { self.new.songs.rate ≡ self.old.songs.rate }
     {
         // The first job of a partition is number 1.
-        self.songs.turn_to(place, job.number == 1)?;
-        self.open_current(place, job.id)?;
-        self.open_partner(place, job.fade)?;
-        self.songs.frames_of(self.alloc, place, job)
+        self.songs.turn_to(index, job.number == 1)?;
+        self.open_current(index, job.id)?;
+        self.open_partner(index, job.fade)?;
+        self.songs.frames_of(self.alloc, index, job)
     }
 
     /// Opens the song of this id as the current one, unless it is open.
-    fn open_current(&mut self, place: u8, id: u32) -> Result<(), NoFrames>
-        ensures open { OnOk result (is_song place id (open_of self.new).current ≡ true) }
-        ensures closed { OnErr result (is_song place id (open_of self.new).current ≡ false) }
+    fn open_current(&mut self, index: u8, id: u32) -> Result<(), NoFrames>
+        ensures open { OnOk result (is_song index id (open_of self.new).current ≡ true) }
+        ensures closed { OnErr result (is_song index id (open_of self.new).current ≡ false) }
         ensures fault { IfErr result (IsFaultOf false) }
-        ensures cause { IfFailed false result (IsNotOpenedBy self.old place id) }
+        ensures cause { IfFailed false result (IsNotOpenedBy self.old index id) }
         ensures kept { KeepsSeat self.old self.new }
         ensures rate { self.new.songs.rate ≡ self.old.songs.rate }
     {
-        if self.songs.is_current(place, id) {
+        if self.songs.is_current(index, id) {
             return Ok(());
         }
-        self.open(place, id, false)
+        self.open(index, id, false)
     }
 
     /// Opens the song that a job fades into as the partner, if it fades, unless it is open.
-    fn open_partner(&mut self, place: u8, fade: Option<FadePart>) -> Result<(), NoFrames>
-        ensures open { OnOk result (is_partner place fade (open_of self.new).partner ≡ true) }
-        ensures closed { OnErr result (is_partner place fade (open_of self.new).partner ≡ false) }
+    fn open_partner(&mut self, index: u8, fade: Option<FadePart>) -> Result<(), NoFrames>
+        ensures open { OnOk result (is_partner index fade (open_of self.new).partner ≡ true) }
+        ensures closed { OnErr result (is_partner index fade (open_of self.new).partner ≡ false) }
         ensures fault { IfErr result (IsFaultOf true) }
-        ensures cause { IfFailed true result (PartnerIsNotOpenedBy self.old place fade) }
+        ensures cause { IfFailed true result (PartnerIsNotOpenedBy self.old index fade) }
         ensures current { (open_of self.new).current ≡ (open_of self.old).current }
         ensures kept { KeepsSeat self.old self.new }
         ensures rate { self.new.songs.rate ≡ self.old.songs.rate }
@@ -473,37 +473,37 @@ impl<'h, L: Ledgers, S: SongSource<M> + Drop, M: Media + Drop, R: Wait + Clock> 
         let Some(part) = fade else {
             return Ok(());
         };
-        if self.songs.is_partner(place, part.partner) {
+        if self.songs.is_partner(index, part.partner) {
             return Ok(());
         }
-        self.open(place, part.partner, true)
+        self.open(index, part.partner, true)
     }
 
     /// Opens the song of an entry of a partition's queue, as the current one or as its partner. One that left
     /// the queue has failed, as has one of a partition that is gone.
-    fn open(&mut self, place: u8, id: u32, partner: bool) -> Result<(), NoFrames>
-        ensures open { OnOk result (is_song place id (song_at partner (open_of self.new)) ≡ true) }
+    fn open(&mut self, index: u8, id: u32, partner: bool) -> Result<(), NoFrames>
+        ensures open { OnOk result (is_song index id (song_at partner (open_of self.new)) ≡ true) }
         ensures other { KeepsOther partner (open_of self.old) (open_of self.new) }
         ensures fault { IfErr result (IsFaultOf partner) }
-        ensures cause { IfFailed partner result (IsNotOpenedBy self.old place id) }
+        ensures cause { IfFailed partner result (IsNotOpenedBy self.old index id) }
         ensures unchanged { OnErr result (open_of self.new ≡ open_of self.old) }
         ensures kept { KeepsSeat self.old self.new }
         ensures rate { self.new.songs.rate ≡ self.old.songs.rate }
     {
-        let song = song_found(self.house.song(self.rt, place, id), partner)?;
-        self.songs.open(self.alloc, place, id, &song, partner)
+        let song = song_found(self.house.song(self.rt, index, id), partner)?;
+        self.songs.open(self.alloc, index, id, &song, partner)
     }
 
     /// Tells that frames of a partition's job are decoded; where that is refused, again after a while.
-    fn have(&mut self, place: u8, number: u64, frames: u64) -> Reported
-        ensures told { TellsFrames place number frames result self.old self.new }
+    fn have(&mut self, index: u8, number: u64, frames: u64) -> Reported
+        ensures told { TellsFrames index number frames result self.old self.new }
         ensures songs { self.new.songs ≡ self.old.songs }
     {
         let rt = self.rt;
         for _ in rt.forever() {
             match self
                 .house
-                .have(rt, &mut self.seat, place, number, frames, &mut self.share)
+                .have(rt, &mut self.seat, index, number, frames, &mut self.share)
             {
                 Ok(told) => return told,
                 Err(_) => self.pause(),
@@ -513,15 +513,15 @@ impl<'h, L: Ledgers, S: SongSource<M> + Drop, M: Media + Drop, R: Wait + Clock> 
     }
 
     /// Tells that a song of a partition's job cannot be read; where that is refused, again after a while.
-    fn tell_failure(&mut self, place: u8, number: u64, partner: bool) -> Reported
-        ensures told { TellsSomewhere self.old.seat (failure_of place number partner) result }
+    fn tell_failure(&mut self, index: u8, number: u64, partner: bool) -> Reported
+        ensures told { TellsSomewhere self.old.seat (failure_of index number partner) result }
         ensures kept { (self.new.songs ≡ self.old.songs) × (self.new.share ≡ self.old.share) }
     {
         let rt = self.rt;
         for _ in rt.forever() {
             match self
                 .house
-                .notice(rt, &mut self.seat, News::Failed(place, number, partner))
+                .notice(rt, &mut self.seat, News::Failed(index, number, partner))
             {
                 Ok(told) => return told,
                 Err(_) => self.pause(),

@@ -15,7 +15,7 @@ use std::thread;
 #[derive(Clone, Copy, PartialEq, Eq)]
 pub struct Pushed {
     /// Whether some went.
-    pub moves: bool,
+    pub has_moved: bool,
     /// Whether some still wait for room.
     pub waits: bool,
 }
@@ -25,11 +25,11 @@ impl Pushed {
 
     /// What came of it in rings of both.
     fn joined(self, other: Pushed) -> Pushed
-        ensures moves { result.moves ≡ (self.moves || other.moves) }
+        ensures has_moved { result.has_moved ≡ (self.has_moved || other.has_moved) }
         ensures waits { result.waits ≡ (self.waits || other.waits) }
     {
         Pushed {
-            moves: self.moves || other.moves,
+            has_moved: self.has_moved || other.has_moved,
             waits: self.waits || other.waits,
         }
     }
@@ -41,7 +41,7 @@ pub fn push_all(feeders: &mut Vec<Feeder>) -> Pushed
     ensures waits { result.waits ≡ false → All OwesNothing feeders.new.items }
 {
     let mut pushed = Pushed {
-        moves: false,
+        has_moved: false,
         waits: false,
     };
     for i in 0..feeders.len() {
@@ -143,7 +143,7 @@ fn push_one(feeder: &mut Feeder) -> Pushed
 {
     let moved = feeder.push();
     Pushed {
-        moves: moved > 0,
+        has_moved: moved > 0,
         waits: feeder.owed() > 0,
     }
 }

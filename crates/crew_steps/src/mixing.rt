@@ -18,7 +18,7 @@ pub(crate) fn mix_block(frames: &mut [Frame], others: &[Frame], fade: Option<Fad
     let fading = match fade {
         Some(part) if is_within(part, others.len(), count) => Some(Fading {
             others,
-            place: part.index as u32,
+            offset: part.index as u32,
             len: part.len as u32,
         }),
         _ => None,

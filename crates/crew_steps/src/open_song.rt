@@ -13,7 +13,7 @@ pub(crate) const WIDTH: usize = 8_192;
 #[derive(Drop)]
 pub(crate) struct OpenSong<M: Media + Drop> {
     /// The partition in whose queue it is.
-    place: u8,
+    index: u8,
     id: u32,
     reader: Reader<M>,
     first: u64,
@@ -29,11 +29,11 @@ impl<M: Media + Drop> OpenSong<M> {
     ghost use Rattle.crew_steps.specs.OpenSongs.{AreFramesOf, AreFrom, HoldsOf, IsOfCalls, calls_of, opened};
 
     /// The song of this id in the queue of a partition, in a file whose head this is.
-    pub(crate) fn new(alloc: Global, place: u8, id: u32, file: M, head: Head) -> OpenSong<M>
-        ensures { opened result ≡ record { place = place; id = id; known = M.all_bytes file; head = head } }
+    pub(crate) fn new(alloc: Global, index: u8, id: u32, file: M, head: Head) -> OpenSong<M>
+        ensures { opened result ≡ record { index = index; id = id; known = M.all_bytes file; head = head } }
     {
         OpenSong {
-            place,
+            index,
             id,
             reader: Reader::new(file, head),
             first: 0,
@@ -42,13 +42,13 @@ impl<M: Media + Drop> OpenSong<M> {
     }
 
     /// Whether it has this id in the queue of a partition.
-    pub(crate) fn is(&self, place: u8, id: u32) -> bool
-        ensures { result ≡ (((opened self.now).place == place) && ((opened self.now).id == id)) }
+    pub(crate) fn is(&self, index: u8, id: u32) -> bool
+        ensures { result ≡ (((opened self.now).index == index) && ((opened self.now).id == id)) }
     {
-        self.place == place && self.id == id
+        self.index == index && self.id == id
     }
 
-    /// The frames from a place on, as many as are asked for, or fewer where the song has no more.
+    /// The frames from an offset on, as many as are asked for, or fewer where the song has no more.
     pub(crate) fn frames_at(
         &mut self,
         alloc: Global,
@@ -81,7 +81,7 @@ impl<M: Media + Drop> OpenSong<M> {
         Ok(())
     }
 
-    /// Reads frames from a place on together.
+    /// Reads frames from an offset on together.
     #[tactic(auto, using(crate::proofs::Spans::frames_given))]
     fn read(&mut self, alloc: Global, from: u64) -> Result<Vec<Frame>, WaveFault>
         ensures value { IfOk result (AreFramesOf self.old from WIDTH) }
@@ -102,7 +102,7 @@ impl<M: Media + Drop> OpenSong<M> {
             && count as u64 <= many - (from - self.first)
     }
 
-    /// Those of the frames that were read together, from a place on, as many as are asked for.
+    /// Those of the frames that were read together, from an offset on, as many as are asked for.
     fn held(&self, alloc: Global, from: u64, count: usize) -> Result<Vec<Frame>, WaveFault>
         ensures value { IfOk result (AreFrom self.now.first self.now.frames.items from count) }
         ensures fault { IfErr result (λ fault. fault ≡ WaveFault.NoMemory) }

@@ -12,18 +12,18 @@ use std::mem;
 #[derive(Drop)]
 pub(crate) struct PartSongs<M: Media + Drop> {
     /// The number of the partition.
-    pub(crate) place: u8,
+    pub(crate) index: u8,
     pub(crate) current: Option<OpenSong<M>>,
     pub(crate) partner: Option<OpenSong<M>>,
 }
 
 impl<M: Media + Drop> PartSongs<M> {
     /// None is open.
-    pub(crate) fn none(place: u8) -> PartSongs<M>
+    pub(crate) fn none(index: u8) -> PartSongs<M>
         ensures { (result.current ≡ None) × (result.partner ≡ None) }
     {
         PartSongs {
-            place,
+            index,
             current: None,
             partner: None,
         }
@@ -31,46 +31,49 @@ impl<M: Media + Drop> PartSongs<M> {
 }
 
 /// Where the songs of the partition of a number are, if they are there.
-fn position_of<M: Media + Drop>(songs: &[PartSongs<M>], place: u8) -> Option<usize>
+fn position_of<M: Media + Drop>(songs: &[PartSongs<M>], index: u8) -> Option<usize>
     ensures { IfSome result (λ at. at < length songs.now) }
 {
-    songs.iter().position(|songs| songs.place == place)
+    songs.iter().position(|songs| songs.index == index)
 }
 
 /// Puts songs to the others, and takes out those of the partition of a number, if some are there. There is room.
 pub(crate) fn exchange<M: Media + Drop>(
     others: &mut Vec<PartSongs<M>>,
     left: PartSongs<M>,
-    place: u8,
+    index: u8,
 ) -> PartSongs<M>
     requires { vec_len others.old < vec_capacity others.old }
     ensures { ExchangesMeant others.old.items left others.new.items result }
 {
-    match position_of(others, place) {
+    match position_of(others, index) {
         Some(at) => mem::replace(&mut others[at], left),
         None => {
             others.push_reserved(left);
-            PartSongs::none(place)
+            PartSongs::none(index)
         }
     }
 }
 
 /// Closes the songs of the partitions that are gone: of sixteen numbers these are of one.
-pub(crate) fn close_gone<M: Media + Drop>(others: &mut Vec<PartSongs<M>>, places: [bool; 16])
+pub(crate) fn close_gone<M: Media + Drop>(
+    others: &mut Vec<PartSongs<M>>,
+    present_partitions: [bool; 16],
+)
     ensures { StayMeant others.old.items others.new.items }
 {
     for i in 0..others.len() {
-        close_one_gone(&mut others[i], places);
+        close_one_gone(&mut others[i], present_partitions);
     }
 }
 
 /// Closes the songs of a partition if it is gone.
-fn close_one_gone<M: Media + Drop>(songs: &mut PartSongs<M>, places: [bool; 16])
-    ensures closed { has_number places songs.old.place ≡ false → AreNone songs.new }
-    ensures kept { has_number places songs.old.place ≡ true → songs.new ≡ songs.old }
+fn close_one_gone<M: Media + Drop>(songs: &mut PartSongs<M>, present_partitions: [bool; 16])
+    ensures closed { has_number present_partitions songs.old.index ≡ false → AreNone songs.new }
+    ensures kept { has_number present_partitions songs.old.index ≡ true → songs.new ≡ songs.old }
     ensures meant { (rate : ℕ) → AreMeant rate songs.old → AreMeant rate songs.new }
 {
-    if is_there(places, songs.place) {
+    if is_there(present_partitions, songs.index) {
         return;
     }
     songs.current = None;

@@ -3,10 +3,10 @@ ghost use Rattle.std.specs.Prelude.{◌≡◌, filter, length};
 ghost use Rattle.crew_steps.specs.Rounds.{first_from as first_from_lem, has_number, next_of};
 
 /// Whether a partition has this number, of sixteen numbers of which these have one.
-pub(crate) fn is_there(places: [bool; 16], place: u8) -> bool
-    ensures { result ≡ has_number places place }
+pub(crate) fn is_there(present_partitions: [bool; 16], index: u8) -> bool
+    ensures { result ≡ has_number present_partitions index }
 {
-    match places.get(usize::from(place)) {
+    match present_partitions.get(usize::from(index)) {
         Some(is_there) => *is_there,
         None => false,
     }
@@ -14,30 +14,33 @@ pub(crate) fn is_there(places: [bool; 16], place: u8) -> bool
 
 /// The number of the partition that has its turn after the one of this number: the next that is there, and
 /// behind the last the first again.
-pub(crate) fn next_place(places: [bool; 16], before: u8) -> u8
-    ensures { result ≡ next_of places before }
+pub(crate) fn next_index(present_partitions: [bool; 16], before: u8) -> u8
+    ensures { result ≡ next_of present_partitions before }
 {
-    match first_from(places, before.saturating_add(1)) {
-        Some(place) => place,
-        None => first_from(places, 0).unwrap_or(0),
+    match first_from(present_partitions, before.saturating_add(1)) {
+        Some(index) => index,
+        None => first_from(present_partitions, 0).unwrap_or(0),
     }
 }
 
 /// The least number from one on that is there.
-fn first_from(places: [bool; 16], from: u8) -> Option<u8>
-    ensures { result ≡ first_from_lem places from }
+fn first_from(present_partitions: [bool; 16], from: u8) -> Option<u8>
+    ensures { result ≡ first_from_lem present_partitions from }
 {
-    for place in from..16 {
-        if is_there(places, place) {
-            return Some(place);
+    for index in from..16 {
+        if is_there(present_partitions, index) {
+            return Some(index);
         }
     }
     None
 }
 
 /// How many partitions there are.
-pub(crate) fn count_of(places: [bool; 16]) -> usize
-    ensures { result ≡ length (filter (λ is_there. is_there) places) }
+pub(crate) fn count_of(present_partitions: [bool; 16]) -> usize
+    ensures { result ≡ length (filter (λ is_there. is_there) present_partitions) }
 {
-    places.iter().filter(|is_there| **is_there).count()
+    present_partitions
+        .iter()
+        .filter(|is_there| **is_there)
+        .count()
 }

@@ -40,7 +40,7 @@ pub(crate) struct Songs<S: SongSource<M> + Drop, M: Media + Drop> {
     source: S,
     rate: u32,
     /// The number of the partition.
-    place: u8,
+    index: u8,
     current: Option<OpenSong<M>>,
     partner: Option<OpenSong<M>>,
     others: Vec<PartSongs<M>>,
@@ -66,7 +66,7 @@ impl<S: SongSource<M> + Drop, M: Media + Drop> Songs<S, M> {
         Songs {
             source,
             rate,
-            place: 0,
+            index: 0,
             current: None,
             partner: None,
             others: Vec::new(alloc),
@@ -75,12 +75,12 @@ impl<S: SongSource<M> + Drop, M: Media + Drop> Songs<S, M> {
 
     /// Turns to the songs of the partition of a number. Where it has just come, none of it is open: what was
     /// open of an earlier one of this number is closed.
-    pub(crate) fn turn_to(&mut self, place: u8, is_new: bool) -> Result<(), NoFrames>
+    pub(crate) fn turn_to(&mut self, index: u8, is_new: bool) -> Result<(), NoFrames>
         ensures closed { is_new ≡ true → OnOk result (AreClosed (songs_of self.new)) }
         ensures fault { IfErr result (λ fault. fault ≡ NoFrames.NoMemory) }
         ensures rate { self.new.rate ≡ self.old.rate }
     {
-        if self.place != place && !self.put_aside(place) {
+        if self.index != index && !self.put_aside(index) {
             return Err(NoFrames::NoMemory);
         }
         if is_new {
@@ -91,74 +91,74 @@ impl<S: SongSource<M> + Drop, M: Media + Drop> Songs<S, M> {
 
     /// Puts the songs of the partition aside, and takes out those of another, if some are there. Answers
     /// whether there was memory.
-    fn put_aside(&mut self, place: u8) -> bool
+    fn put_aside(&mut self, index: u8) -> bool
         ensures { self.new.rate ≡ self.old.rate }
     {
         if self.others.reserve(1).is_err() {
             return false;
         }
         let left = PartSongs {
-            place: self.place,
+            index: self.index,
             current: self.current.take(),
             partner: self.partner.take(),
         };
-        let taken = exchange(&mut self.others, left, place);
-        self.place = place;
+        let taken = exchange(&mut self.others, left, index);
+        self.index = index;
         self.current = taken.current;
         self.partner = taken.partner;
         true
     }
 
     /// Closes the songs of the partitions that are gone: of sixteen numbers these are of one.
-    pub(crate) fn close_gone(&mut self, places: [bool; 16])
-        ensures closed { has_number places self.old.place ≡ false → AreClosed (songs_of self.new) }
-        ensures kept { has_number places self.old.place ≡ true → songs_of self.new ≡ songs_of self.old }
+    pub(crate) fn close_gone(&mut self, present_partitions: [bool; 16])
+        ensures closed { has_number present_partitions self.old.index ≡ false → AreClosed (songs_of self.new) }
+        ensures kept { has_number present_partitions self.old.index ≡ true → songs_of self.new ≡ songs_of self.old }
         ensures rate { self.new.rate ≡ self.old.rate }
     {
-        close_gone(&mut self.others, places);
-        if !is_there(places, self.place) {
+        close_gone(&mut self.others, present_partitions);
+        if !is_there(present_partitions, self.index) {
             self.close_both();
         }
     }
 
     /// Whether the current song has this id; a partner that has it becomes the current song where that has
     /// another.
-    pub(crate) fn is_current(&mut self, place: u8, id: u32) -> bool
-        ensures open { result ≡ is_either place id (songs_of self.old) }
-        ensures current { result ≡ is_song place id (opened_in self.new.current) }
+    pub(crate) fn is_current(&mut self, index: u8, id: u32) -> bool
+        ensures open { result ≡ is_either index id (songs_of self.old) }
+        ensures current { result ≡ is_song index id (opened_in self.new.current) }
         ensures kept { result ≡ false → songs_of self.new ≡ songs_of self.old }
         ensures rate { self.new.rate ≡ self.old.rate }
     {
-        if !is_of(&self.current, place, id) && is_of(&self.partner, place, id) {
+        if !is_of(&self.current, index, id) && is_of(&self.partner, index, id) {
             self.current = self.partner.take();
         }
-        is_of(&self.current, place, id)
+        is_of(&self.current, index, id)
     }
 
     /// Whether the partner has this id.
-    pub(crate) fn is_partner(&self, place: u8, id: u32) -> bool
-        ensures { result ≡ is_song place id (songs_of self.now).partner }
+    pub(crate) fn is_partner(&self, index: u8, id: u32) -> bool
+        ensures { result ≡ is_song index id (songs_of self.now).partner }
     {
-        is_of(&self.partner, place, id)
+        is_of(&self.partner, index, id)
     }
 
     /// Opens the song of an entry of the queue, as the current one or as its partner.
     pub(crate) fn open(
         &mut self,
         alloc: Global,
-        place: u8,
+        index: u8,
         id: u32,
         song: &SharedSong,
         partner: bool,
     ) -> Result<(), NoFrames>
-        ensures open { OnOk result (is_song place id (song_at partner (songs_of self.new)) ≡ true) }
+        ensures open { OnOk result (is_song index id (song_at partner (songs_of self.new)) ≡ true) }
         ensures other { KeepsOther partner (songs_of self.old) (songs_of self.new) }
         ensures fault { IfErr result (IsFaultOf partner) }
         ensures cause { IfFailed partner result (IsNotHadBy self.old song.now.uri) }
         ensures kept { OnErr result (songs_of self.new ≡ songs_of self.old) }
         ensures rate { self.new.rate ≡ self.old.rate }
     {
-        match self.opened(alloc, place, id, song) {
+        match self.opened(alloc, index, id, song) {
             Ok(opened) => {
                 if partner {
                     self.partner = Some(opened);
@@ -175,11 +175,11 @@ impl<S: SongSource<M> + Drop, M: Media + Drop> Songs<S, M> {
     fn opened(
         &mut self,
         alloc: Global,
-        place: u8,
+        index: u8,
         id: u32,
         song: &SharedSong,
     ) -> Result<OpenSong<M>, SongFault>
-        ensures id { IfOk result (λ song. is_song place id (Some (opened song)) ≡ true) }
+        ensures id { IfOk result (λ song. is_song index id (Some (opened song)) ≡ true) }
         ensures meant { IfOk result (λ song. IsMeant self.old.rate (Some (opened song))) }
         ensures cause { result ≡ Err SongFault.Unopened → IsNotHadBy self.old song.now.uri }
         ensures kept { (self.new.current ≡ self.old.current) × (self.new.partner ≡ self.old.partner) }
@@ -187,7 +187,7 @@ impl<S: SongSource<M> + Drop, M: Media + Drop> Songs<S, M> {
     {
         let mut file = self.source.open(alloc, song.song().uri())?;
         match read_head(alloc, &mut file, self.rate, false) {
-            Ok(head) => Ok(OpenSong::new(alloc, place, id, file, head)),
+            Ok(head) => Ok(OpenSong::new(alloc, index, id, file, head)),
             Err(fault) => Err(song_fault(fault)),
         }
     }
@@ -219,12 +219,12 @@ impl<S: SongSource<M> + Drop, M: Media + Drop> Songs<S, M> {
     pub(crate) fn frames_of(
         &mut self,
         alloc: Global,
-        place: u8,
+        index: u8,
         job: &Job,
     ) -> Result<JobFrames, NoFrames>
         ensures read { IfOk result (IsReadFor (songs_of self.old) job.now) }
         ensures kept { OnOk result (songs_of self.new ≡ songs_of self.old) }
-        ensures failed { IfErr result (Fails (songs_of self.new) place job.now) }
+        ensures failed { IfErr result (Fails (songs_of self.new) index job.now) }
         ensures cause { IfErr result (EndsReadingOf self.old job.now) }
         ensures rate { self.new.rate ≡ self.old.rate }
     {
@@ -299,11 +299,11 @@ fn no_frames(fault: SongFault, partner: bool) -> NoFrames
     }
 }
 
-fn is_of<M: Media + Drop>(song: &Option<OpenSong<M>>, place: u8, id: u32) -> bool
-    ensures { result ≡ is_song place id (opened_in song.now) }
+fn is_of<M: Media + Drop>(song: &Option<OpenSong<M>>, index: u8, id: u32) -> bool
+    ensures { result ≡ is_song index id (opened_in song.now) }
 {
     match song {
-        Some(song) => song.is(place, id),
+        Some(song) => song.is(index, id),
         None => false,
     }
 }

@@ -4,12 +4,12 @@ use crate::door::behind_a_door;
 use crate::rooms::Host;
 use crate::tunes::{Tone, saw_alone, saw_and_steps};
 use crate::wire::add_right;
-use crate::wired::told_with_lines;
+use crate::wired::observed_with_lines;
 use std::alloc::{AllocError, Global};
 use std::test::Fail;
 use test_texts::wants;
 
-fn write_told<R: Host>(rt: R, alloc: Global) -> Result<String, AllocError> {
+fn write_observed<R: Host>(rt: R, alloc: Global) -> Result<String, AllocError> {
     let script = "add a.wav
 play
 ~ an output stands in its write
@@ -27,7 +27,7 @@ ping
         20_000,
         script,
     )?;
-    told_with_lines(day, &mut rooms.wires, Tone::Saw)
+    observed_with_lines(day, &mut rooms.wires, Tone::Saw)
 }
 
 /// The song has fewer frames than a ring, so that the attic gets all of them though the hall takes none.
@@ -46,7 +46,7 @@ decoded 8000, written 8000, discarded 0, left 0, torn 0
 right frames in the hall 8000, in the attic 8000
 ";
 
-fn pause_told<R: Host>(rt: R, alloc: Global) -> Result<String, AllocError> {
+fn pause_observed<R: Host>(rt: R, alloc: Global) -> Result<String, AllocError> {
     let script = "add a.wav
 play
 ~ an output stands in its write
@@ -62,7 +62,7 @@ pause 1
         20_000,
         script,
     )?;
-    day.told().into_text()
+    day.observed().into_text()
 }
 
 /// The hall has 1,024 frames in its hand and 8,192 in its ring, and 1,024 are owed to it, so nothing more is
@@ -80,7 +80,7 @@ decoded 10240, written 10240, discarded 0, left 0, torn 0
 ";
 
 /// What its first output wrote, and whether frames of its second are left.
-fn late_told<R: Host>(rt: R, alloc: Global) -> Result<String, AllocError> {
+fn late_observed<R: Host>(rt: R, alloc: Global) -> Result<String, AllocError> {
     let script = "add a.wav
 play
 ~ hall 3000
@@ -107,7 +107,7 @@ written 3000 torn 0 balanced true
 left true balanced true
 ";
 
-fn stop_told<R: Host>(rt: R, alloc: Global) -> Result<String, AllocError> {
+fn stop_observed<R: Host>(rt: R, alloc: Global) -> Result<String, AllocError> {
     let script = "add a.wav
 add b.wav
 play
@@ -147,8 +147,8 @@ right frames in the hall 4024
 
 #[test]
 fn outputs_that_stand_in_a_write(rt: HostRuntime) -> Result<(), Fail> {
-    wants(write_told(rt, rt.alloc()), A_WRITE_WITHOUT_THE_LOCK)?;
-    wants(pause_told(rt, rt.alloc()), FRAMES_ARE_LEFT_AT_THE_END)?;
-    wants(late_told(rt, rt.alloc()), A_LATE_OUTPUT_IS_SETTLED)?;
-    wants(stop_told(rt, rt.alloc()), FRAMES_OF_AN_OLD_CUT)
+    wants(write_observed(rt, rt.alloc()), A_WRITE_WITHOUT_THE_LOCK)?;
+    wants(pause_observed(rt, rt.alloc()), FRAMES_ARE_LEFT_AT_THE_END)?;
+    wants(late_observed(rt, rt.alloc()), A_LATE_OUTPUT_IS_SETTLED)?;
+    wants(stop_observed(rt, rt.alloc()), FRAMES_OF_AN_OLD_CUT)
 }

@@ -1,12 +1,12 @@
 //! Songs whose files are not there, or are shorter than the library says.
 use crate::rooms::Host;
 use crate::tunes::{Tone, Tune, listed, lost_tune, tune_of};
-use crate::wired::{told_with_lines, wired_day};
+use crate::wired::{observed_with_lines, wired_day};
 use std::alloc::{AllocError, Global};
 use std::test::Fail;
 use test_texts::wants;
 
-fn told<R: Host>(
+fn observed<R: Host>(
     rt: R,
     alloc: Global,
     first: Tune,
@@ -16,7 +16,7 @@ fn told<R: Host>(
 ) -> Result<String, AllocError> {
     let tunes = listed(alloc, first, Some(second));
     let (day, mut wires) = wired_day(rt, alloc, tunes, 100_000, script)?;
-    told_with_lines(day, &mut wires, tone)
+    observed_with_lines(day, &mut wires, tone)
 }
 
 fn after_a_lost_song<R: Host>(rt: R, alloc: Global) -> Result<String, AllocError> {
@@ -29,7 +29,7 @@ status ~ error: Failed to decode a.wav
 play 1
 ~ hall 3000
 ~ attic 3000";
-    told(rt, alloc, lost, next, script, Tone::Steps)
+    observed(rt, alloc, lost, next, script, Tone::Steps)
 }
 
 const A_MISSING_FILE: &str = "OK
@@ -54,7 +54,7 @@ add b.wav
 play
 ~ hall 12100
 ~ attic 12100";
-    told(rt, alloc, first, short, script, Tone::SawThenSteps)
+    observed(rt, alloc, first, short, script, Tone::SawThenSteps)
 }
 
 /// The partner has 100 frames of the 8,000 of its fade, so the first song is played to its end alone, and then

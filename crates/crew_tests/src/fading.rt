@@ -2,22 +2,22 @@
 //! formulas.
 use crate::rooms::Host;
 use crate::tunes::{Tone, saw_and_steps};
-use crate::wired::{told_with_lines, wired_day};
+use crate::wired::{observed_with_lines, wired_day};
 use std::alloc::{AllocError, Global};
 use std::test::Fail;
 use test_texts::wants;
 
-fn told<R: Host>(rt: R, alloc: Global) -> Result<String, AllocError> {
+fn observed<R: Host>(rt: R, alloc: Global) -> Result<String, AllocError> {
     let script = "crossfade 1\nsetvol 50\nadd a.wav\nadd b.wav\nplay\n~ hall 14000\n~ attic 14000";
     let tunes = saw_and_steps(alloc, 12_000, 10_000);
     let (day, mut wires) = wired_day(rt, alloc, tunes, 100_000, script)?;
-    told_with_lines(day, &mut wires, Tone::Faded)
+    observed_with_lines(day, &mut wires, Tone::Faded)
 }
 
 #[test]
 fn bytes_through_the_threads(rt: HostRuntime) -> Result<(), Fail> {
     wants(
-        told(rt, rt.alloc()),
+        observed(rt, rt.alloc()),
         "OK
 OK
 OK

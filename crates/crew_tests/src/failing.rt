@@ -7,7 +7,7 @@ use std::alloc::{AllocError, Global};
 use std::test::Fail;
 use test_texts::wants;
 
-fn told<R: Host>(rt: R, alloc: Global, room: usize) -> Result<String, AllocError> {
+fn observed<R: Host>(rt: R, alloc: Global, room: usize) -> Result<String, AllocError> {
     let script = "add a.wav
 play
 outputs ~ outputenabled: 0
@@ -25,7 +25,7 @@ outputs
 #[test]
 fn a_failing_writer(rt: HostRuntime) -> Result<(), Fail> {
     wants(
-        told(rt, rt.alloc(), 6),
+        observed(rt, rt.alloc(), 6),
         "OK
 OK
 outputenabled: 0: true

@@ -37,7 +37,7 @@ impl Gate for Meeting {
     }
 }
 
-fn told<R: Host>(rt: R, alloc: Global) -> Result<String, AllocError> {
+fn observed<R: Host>(rt: R, alloc: Global) -> Result<String, AllocError> {
     let (writers, mut wires) = wires_of(alloc, &[20_000, 20_000])?;
     let meeting = Meeting {
         hall: AtomicU32::new(0),
@@ -52,17 +52,17 @@ fn told<R: Host>(rt: R, alloc: Global) -> Result<String, AllocError> {
         scanner: Blind,
     };
     let script = "add a.wav\nplay\n~ hall 3000\n~ attic 3000";
-    let mut told = one_day(rt, alloc, setup, script, &mut wires).told();
-    add_right(&mut wires, &[Tone::Saw, Tone::Saw], &mut told);
+    let mut observed = one_day(rt, alloc, setup, script, &mut wires).observed();
+    add_right(&mut wires, &[Tone::Saw, Tone::Saw], &mut observed);
     let has_missed = gate.missed.load(Ordering::SeqCst) != 0;
-    told.add(format_args!("missed: {has_missed}\n"));
-    told.into_text()
+    observed.add(format_args!("missed: {has_missed}\n"));
+    observed.into_text()
 }
 
 #[test]
 fn outputs_run_at_once(rt: HostRuntime) -> Result<(), Fail> {
     wants(
-        told(rt, rt.alloc()),
+        observed(rt, rt.alloc()),
         "OK
 OK
 hall 3000: true

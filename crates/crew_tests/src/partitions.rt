@@ -4,7 +4,7 @@ use crate::door::behind_a_door;
 use crate::rooms::Host;
 use crate::tunes::{Tone, Tune, listed, saw_and_steps, scarce_tune, tune_of};
 use crate::wire::add_right;
-use crate::wired::told_apart;
+use crate::wired::observed_apart;
 use std::alloc::{AllocError, Global};
 use std::test::Fail;
 use test_texts::wants;
@@ -30,7 +30,7 @@ play
         0,
         script,
     )?;
-    told_apart(day, &mut rooms.wires, Tone::Saw, Tone::Steps)
+    observed_apart(day, &mut rooms.wires, Tone::Saw, Tone::Steps)
 }
 
 /// Both entries have the id 1 in their own queues. Each file is opened once, though jobs of the partitions take
@@ -66,7 +66,7 @@ play
     let tunes = listed(alloc, first, Some(scarce_tune(alloc, "b.wav", 5_000)?));
     // No output is behind the door.
     let (day, mut rooms) = behind_a_door(rt, alloc, tunes, &[false, false], 0, script)?;
-    told_apart(day, &mut rooms.wires, Tone::Saw, Tone::Steps)
+    observed_apart(day, &mut rooms.wires, Tone::Saw, Tone::Steps)
 }
 
 /// The job for which there is no memory is asked for again and again, and the other partition goes on. At the end the
@@ -107,7 +107,7 @@ play
         20_000,
         script,
     )?;
-    told_apart(day, &mut rooms.wires, Tone::Saw, Tone::HandThenSteps)
+    observed_apart(day, &mut rooms.wires, Tone::Saw, Tone::HandThenSteps)
 }
 
 /// The attic has 1,024 frames in its hand, which it writes, and 8,192 in its ring, and 1,024 are owed to it. It is
@@ -185,7 +185,7 @@ fn in_turn<R: Host>(rt: R, alloc: Global) -> Result<String, AllocError> {
         20_000,
         MOVES_IN_TURN,
     )?;
-    let mut told = day.told();
+    let mut observed = day.observed();
     let tones = [
         Tone::Saw,
         Tone::HandThenSteps,
@@ -194,8 +194,8 @@ fn in_turn<R: Host>(rt: R, alloc: Global) -> Result<String, AllocError> {
         Tone::Ramp,
         Tone::RampThenSaw,
     ];
-    add_right(&mut rooms.wires, &tones, &mut told);
-    told.into_text()
+    add_right(&mut rooms.wires, &tones, &mut observed);
+    observed.into_text()
 }
 
 /// Three partitions with two outputs each: `a.wav` is played in the hall and the attic, `b.wav` in the bath and the

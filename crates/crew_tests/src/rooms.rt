@@ -25,7 +25,7 @@ use std::thread;
 use std::thread::Threads;
 use std::time::{Clock, Duration};
 use test_houses::{comes, says};
-use test_texts::Told;
+use test_texts::Recorder;
 
 /// What a house is opened with: its songs, what its outputs write to (the first of `OUTPUTS`), what lets them go on,
 /// and what scans.
@@ -81,7 +81,7 @@ pub(crate) fn is_raised<R: Clock>(rt: &R, flag: &AtomicU32, most: u32) -> bool {
 /// was heard keeps any fault of the day.
 #[derive(Drop)]
 pub(crate) struct Day {
-    pub(crate) heard: Told,
+    pub(crate) heard: Recorder,
     opened: u32,
     settled: Vec<Result<Settled, SettleFault>>,
 }
@@ -99,24 +99,24 @@ impl Day {
 
     /// What was heard and seen, after it the files that were opened, and a line for each output: frames
     /// decoded, written, discarded and left, and bytes torn.
-    pub(crate) fn told(self) -> Told {
+    pub(crate) fn observed(self) -> Recorder {
         let Day {
             heard,
             opened,
             settled,
         } = self;
-        let mut told = heard;
-        told.add(format_args!("files opened: {opened}\n"));
+        let mut observed = heard;
+        observed.add(format_args!("files opened: {opened}\n"));
         for one in &settled {
             match one {
-                Ok(s) => told.add(format_args!(
+                Ok(s) => observed.add(format_args!(
                     "decoded {}, written {}, discarded {}, left {}, torn {}\n",
                     s.decoded, s.written, s.discarded, s.left, s.torn
                 )),
-                Err(_) => told.add("not settled\n"),
+                Err(_) => observed.add("not settled\n"),
             }
         }
-        told
+        observed
     }
 
     /// Adds the frames that an output wrote, the bytes that were torn, and whether those that were written,
@@ -176,11 +176,11 @@ fn says_until<L: Ledgers, R: Wait + Clock>(
     seat: &mut Seat<L>,
     line: &str,
     text: &str,
-    told: &mut Told,
+    recorder: &mut Recorder,
 ) -> bool {
     for _ in 0..5_000u32 {
         let Ok(heard) = says(rt, alloc, house, seat, 1, line) else {
-            told.fail();
+            recorder.fail();
             return false;
         };
         if heard.contains(text) {
@@ -200,19 +200,19 @@ fn hears<L: Ledgers, V: Watch<R>, R: Wait + Clock>(
     seat: &mut Seat<L>,
     line: &str,
     watch: &mut V,
-    told: &mut Told,
+    recorder: &mut Recorder,
 ) {
     if let Some(step) = line.strip_prefix("~ ") {
         let done = watch.does(rt, step);
-        told.add(format_args!("{step}: {done}\n"));
+        recorder.add(format_args!("{step}: {done}\n"));
         return;
     }
     if let Some((line, text)) = line.split_once(" ~ ") {
-        let came = says_until(rt, alloc, house, seat, line, text, told);
-        told.add(format_args!("{text}: {came}\n"));
+        let came = says_until(rt, alloc, house, seat, line, text, recorder);
+        recorder.add(format_args!("{text}: {came}\n"));
         return;
     }
-    told.add_made(says(rt, alloc, house, seat, 1, line));
+    recorder.add_made(says(rt, alloc, house, seat, 1, line));
 }
 
 /// A client comes and goes through a script. Adds what was heard of all its lines.
@@ -223,13 +223,13 @@ fn plays<L: Ledgers, V: Watch<R>, R: Wait + Clock>(
     seat: &mut Seat<L>,
     script: &str,
     watch: &mut V,
-    told: &mut Told,
+    recorder: &mut Recorder,
 ) {
     if comes(rt, house, seat, 1).is_err() {
-        told.fail();
+        recorder.fail();
     }
     for line in script.lines() {
-        hears(rt, alloc, house, seat, line, watch, told);
+        hears(rt, alloc, house, seat, line, watch, recorder);
     }
 }
 
@@ -466,7 +466,7 @@ pub(crate) fn one_day<
     R: Host,
 >(rt: R, alloc: Global, setup: DaySetup<O, G, N>, script: &str, watch: &mut V) -> Day {
     let mut day = Day {
-        heard: Told::new(alloc),
+        heard: Recorder::new(alloc),
         opened: 0,
         settled: Vec::new(alloc),
     };

@@ -8,7 +8,7 @@ use std::sync::Arc;
 use std::sync::atomic::{AtomicU32, Ordering};
 use test_songs::song;
 
-/// The left and the right sample of a frame, by its place.
+/// The left and the right sample of a frame, by its offset.
 #[derive(Clone, Copy)]
 pub(crate) enum Tone {
     Saw,

@@ -2,7 +2,7 @@
 use crate::rooms::{DaySetup, Host, Watch, is_raised, one_day, shared};
 use crate::tunes::{Tone, saw_alone};
 use crate::wire::{Wires, wires_of};
-use crate::wired::told_with_lines;
+use crate::wired::observed_with_lines;
 use crew::Scanner;
 use crew_steps::Open;
 use song_db::SharedDb;
@@ -88,7 +88,7 @@ impl<R: Clock> Watch<R> for Scans {
     }
 }
 
-fn told<R: Host>(rt: R, alloc: Global) -> Result<String, AllocError> {
+fn observed<R: Host>(rt: R, alloc: Global) -> Result<String, AllocError> {
     let (writers, wires) = wires_of(alloc, &[100_000, 100_000])?;
     let begun = shared(alloc, AtomicU32::new(0))?;
     let may_end = shared(alloc, AtomicU32::new(0))?;
@@ -104,11 +104,11 @@ fn told<R: Host>(rt: R, alloc: Global) -> Result<String, AllocError> {
         scanner: Slow { rt, begun, may_end },
     };
     let day = one_day(rt, alloc, setup, SCRIPT, &mut scans);
-    told_with_lines(day, &mut scans.wires, Tone::Saw)
+    observed_with_lines(day, &mut scans.wires, Tone::Saw)
 }
 
 /// Whether a scan that had begun has ended where the house is closed.
-fn late_told<R: Host>(rt: R, alloc: Global) -> Result<String, AllocError> {
+fn late_observed<R: Host>(rt: R, alloc: Global) -> Result<String, AllocError> {
     let (writers, wires) = wires_of(alloc, &[100, 100])?;
     let begun = shared(alloc, AtomicU32::new(0))?;
     let has_ended = shared(alloc, AtomicU32::new(0))?;
@@ -169,6 +169,6 @@ right frames in the hall 12000, in the attic 12000
 
 #[test]
 fn updates_beside_what_is_played(rt: HostRuntime) -> Result<(), Fail> {
-    wants(late_told(rt, rt.alloc()), A_CLOSE_WHILE_A_SCAN_IS_MADE)?;
-    wants(told(rt, rt.alloc()), AN_UPDATE_WHILE_A_SONG_IS_PLAYED)
+    wants(late_observed(rt, rt.alloc()), A_CLOSE_WHILE_A_SCAN_IS_MADE)?;
+    wants(observed(rt, rt.alloc()), AN_UPDATE_WHILE_A_SONG_IS_PLAYED)
 }

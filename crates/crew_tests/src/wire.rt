@@ -7,7 +7,7 @@ use std::alloc::{AllocError, Global};
 use std::io::{ErrorKind, Write};
 use std::time::{Clock, Duration};
 use std::{io, thread};
-use test_texts::Told;
+use test_texts::Recorder;
 
 /// The end of a wire that an output writes to. It fails once it is full, and nobody empties it before the
 /// outputs are settled.
@@ -51,10 +51,10 @@ pub(crate) struct Wires {
 impl Wires {
     /// Waits until so many frames came to the output of this name, ten seconds at most. Whether they came.
     fn come<R: Clock>(&mut self, rt: &R, name: &str, frames: usize) -> bool {
-        let Some(place) = OUTPUTS.lines().position(|known| known == name) else {
+        let Some(index) = OUTPUTS.lines().position(|known| known == name) else {
             return false;
         };
-        match self.ends.get_mut(place) {
+        match self.ends.get_mut(index) {
             Some(wire) => frames_come(rt, wire, frames),
             None => false,
         }
@@ -66,9 +66,9 @@ impl<R: Clock> Watch<R> for Wires {
         match step.split_once(' ') {
             Some(("only", frames)) => {
                 thread::sleep(rt, Duration::from_millis(50));
-                let wanted = frames.parse().unwrap_or(0usize).saturating_mul(4);
+                let expected = frames.parse().unwrap_or(0usize).saturating_mul(4);
                 match self.ends.get_mut(1) {
-                    Some(attic) => attic.slots() == wanted,
+                    Some(attic) => attic.slots() == expected,
                     None => false,
                 }
             }
@@ -94,25 +94,25 @@ pub(crate) fn wires_of(
 }
 
 /// Adds how many frames that came to each of the first outputs are those of a formula, from the first on.
-pub(crate) fn add_right(wires: &mut Wires, tones: &[Tone], told: &mut Told) {
-    told.add("right frames");
+pub(crate) fn add_right(wires: &mut Wires, tones: &[Tone], recorder: &mut Recorder) {
+    recorder.add("right frames");
     let mut is_first = true;
     for ((wire, tone), name) in wires.ends.iter_mut().zip(tones).zip(OUTPUTS.lines()) {
         let right = right_frames(wire, *tone);
         if !is_first {
-            told.add(",");
+            recorder.add(",");
         }
-        told.add(format_args!(" in the {name} {right}"));
+        recorder.add(format_args!(" in the {name} {right}"));
         is_first = false;
     }
-    told.add("\n");
+    recorder.add("\n");
 }
 
 /// Waits until so many frames came over a wire, ten seconds at most. Whether they came.
 fn frames_come<R: Clock>(rt: &R, wire: &mut Consumer<u8>, frames: usize) -> bool {
-    let wanted = frames.saturating_mul(4);
+    let expected = frames.saturating_mul(4);
     for _ in 0..10_000u32 {
-        if wire.slots() >= wanted {
+        if wire.slots() >= expected {
             return true;
         }
         thread::sleep(rt, Duration::from_millis(1));

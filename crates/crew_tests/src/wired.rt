@@ -17,22 +17,22 @@ pub(crate) fn wired_day<R: Host>(
 }
 
 /// What came of a day, and how many frames that came to each output are those of a formula.
-pub(crate) fn told_with_lines(
+pub(crate) fn observed_with_lines(
     day: Day,
     wires: &mut Wires,
     tone: Tone,
 ) -> Result<String, AllocError> {
-    told_apart(day, wires, tone, tone)
+    observed_apart(day, wires, tone, tone)
 }
 
 /// The same of one formula in the hall, and of another in the attic.
-pub(crate) fn told_apart(
+pub(crate) fn observed_apart(
     day: Day,
     wires: &mut Wires,
     to_hall: Tone,
     to_attic: Tone,
 ) -> Result<String, AllocError> {
-    let mut told = day.told();
-    add_right(wires, &[to_hall, to_attic], &mut told);
-    told.into_text()
+    let mut observed = day.observed();
+    add_right(wires, &[to_hall, to_attic], &mut observed);
+    observed.into_text()
 }

@@ -40,7 +40,7 @@ use Rattle.daemon_script.proofs.Ranges.{limit_at_least_one}
 pub record Agree {P Q : Type 0} (m : PlayerKind P) (n : PlayerKind Q) (R : P → Q → Type 0) : Type 0 where
   pub opens : (limits : Limits) (songs : List SongData) → 1 ≤ limits.max_version → R (m.opens limits songs) (n.opens limits songs)
   pub there : (p : P) (q : Q) (number : ℕ) → R p q → m.is_there number p ≡ n.is_there number q
-  pub place : (p : P) (q : Q) (name : List ℕ) → R p q → m.place_named name p ≡ n.place_named name q
+  pub index : (p : P) (q : Q) (name : List ℕ) → R p q → m.index_named name p ≡ n.index_named name q
   pub full : (p : P) (q : Q) → R p q → m.is_full p ≡ n.is_full q
   pub limit : (p : P) (q : Q) (event : Event) → R p q → m.limit p event ≡ n.limit q event
   pub after : (p : P) (q : Q) (event : Event) → R p q → R (m.after p event) (n.after q event)
@@ -297,10 +297,10 @@ module _ {P Q : Type 0} (m : PlayerKind P) (n : PlayerKind Q) (R : P → Q → T
   event_same s q event found above r = applies_same s.limits s.commands s.songs s.lists s.player q event found above r
 
   -- a step of the decoder in the partition of a number, if a name is that of one
-  at_same : (s : ScriptData P) (q : Option Q) (place : Option ℕ) (step : JobStep) (found : Found) → 1 ≤ s.limits.max_version → SamePlayer R s.player q
-      → SameShown R (applies_at m s place step found) (applies_at n (over R s q) place step found)
+  at_same : (s : ScriptData P) (q : Option Q) (index : Option ℕ) (step : JobStep) (found : Found) → 1 ≤ s.limits.max_version → SamePlayer R s.player q
+      → SameShown R (applies_at m s index step found) (applies_at n (over R s q) index step found)
   at_same s q None step found above r = shows_same R _ s q above r
-  at_same s q (Some place) step found above r = event_same s q (job_event place step) found above r
+  at_same s q (Some index) step found above r = event_same s q (job_event index step) found above r
 
   in_same : (limits : Limits) (commands : CommandSet) (songs : List SongData) (lists : List (Option CommandList)) (p : Option P) (q : Option Q) (name : List ℕ) (step : JobStep) (found : Found) → 1 ≤ limits.max_version → SamePlayer R p q
       → SameShown R (applies_in m (record { limits = limits; commands = commands; songs = songs; lists = lists; player = p }) p name step found)
@@ -310,8 +310,8 @@ module _ {P Q : Type 0} (m : PlayerKind P) (n : PlayerKind Q) (R : P → Q → T
   in_same limits commands songs lists (Some p) None name step found above r = absurd r
   in_same limits commands songs lists (Some p) (Some q) name step found above r =
       let s : ScriptData P = record { limits = limits; commands = commands; songs = songs; lists = lists; player = Some p } in
-      subst (λ (place : Option ℕ). SameShown R (applies_at m s (m.place_named name p) step found) (applies_at n (over R s (Some q)) place step found))
-      (agree.place p q name r) (at_same s (Some q) (m.place_named name p) step found above r)
+      subst (λ (index : Option ℕ). SameShown R (applies_at m s (m.index_named name p) step found) (applies_at n (over R s (Some q)) index step found))
+      (agree.index p q name r) (at_same s (Some q) (m.index_named name p) step found above r)
 
   -- what is told of the history, by the player that is there
   window_same : (limits : Limits) (commands : CommandSet) (songs : List SongData) (lists : List (Option CommandList)) (p : Option P) (q : Option Q) → 1 ≤ limits.max_version → SamePlayer R p q

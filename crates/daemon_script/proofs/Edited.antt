@@ -10,12 +10,12 @@ use Rattle.shelf.specs.declared.kinds.StickerKind.TheVariants.{Song, Playlist}
 use Rattle.shelf.specs.Maps.{Same, no_stickers, with_list, with_removed, with_renamed, with_sticker, with_stickers}
 use Rattle.daemon_script.specs.Contents.{Contents, Stickers, by_bytes, maps_in, moved, put_in, stickers_for, stickers_of, with_stickers_for, without}
 use Rattle.daemon_script.specs.Shelf.{removed, renamed, sticker_set}
-use Rattle.daemon_script.proofs.Held.{or_else, or_none, others_kept, pair_ties, pair_total, text_ties, text_total, turned, with_named-get}
+use Rattle.daemon_script.proofs.Held.{or_else, or_none, others_kept, pair_ties, pair_total, text_ties, text_total, bytes_eq_sym, with_named-get}
 use Rattle.daemon_script.proofs.Listed.{stickers_of-find}
 
 put_list : (m : FinMap by_bytes (List (List ℕ))) (name other : List ℕ) (w : Option (List (List ℕ))) → finite.get (put_in m name w) other ≡ cond (bytes_eq name other) w (finite.get m other)
-put_list m name other (Some uris) = get-insert text_total m name uris other ∙ ap (λ b. cond b (Some uris) (finite.get m other)) (text_ties other name ∙ turned other name)
-put_list m name other None = get-remove text_total m name other ∙ ap (λ b. cond b None (finite.get m other)) (text_ties other name ∙ turned other name)
+put_list m name other (Some uris) = get-insert text_total m name uris other ∙ ap (λ b. cond b (Some uris) (finite.get m other)) (text_ties other name ∙ bytes_eq_sym other name)
+put_list m name other None = get-remove text_total m name other ∙ ap (λ b. cond b None (finite.get m other)) (text_ties other name ∙ bytes_eq_sym other name)
 
 put_sticker : (m : Stickers) (target name other n : List ℕ) (w : Option (List ℕ))
     → finite.get (put_in m (target, name) w) (other, n) ≡ cond (bytes_eq other target && bytes_eq n name) w (finite.get m (other, n))
@@ -51,8 +51,8 @@ put_has m target name w other n = put_sticker m target name other n w ∙ at (ca
         → cond (bytes_eq other target && bytes_eq n name) w (finite.get m (other, n))
         ≡ (if bytes_eq target other then update bytes_eq (named_in m target) name w else named_in m other) n
     at (inl is) =
-        rw (turned other target, is, turned n name) (ap (λ u. cond (bytes_eq name n) w (finite.get m (u, n))) (sym ((bytes_eq-Decides target other).0 is)))
-    at (inr apart) = rw (turned other target, apart) refl
+        rw (bytes_eq_sym other target, is, bytes_eq_sym n name) (ap (λ u. cond (bytes_eq name n) w (finite.get m (u, n))) (sym ((bytes_eq-Decides target other).0 is)))
+    at (inr apart) = rw (bytes_eq_sym other target, apart) refl
 
 without_has : (m : Stickers) (target : List ℕ) → HasTexts m target no_stickers (without target m)
 without_has m target other n = others_kept target other n m ∙ at (cases_Bool (bytes_eq target other))
@@ -66,7 +66,7 @@ without_has m target other n = others_kept target other n m ∙ at (cases_Bool (
 moved_has : (m : Stickers) (target new : List ℕ) → HasTexts (without target m) new (named_in m target) (moved target new m)
 moved_has m target new other n =
     with_named-get new (stickers_of m target) (without new (without target m)) other n
-    ∙ ap (λ b. if b then or_else (find by_bytes n (stickers_of m target)) (finite.get (without new (without target m)) (other, n)) else finite.get (without new (without target m)) (other, n)) (turned other new)
+    ∙ ap (λ b. if b then or_else (find by_bytes n (stickers_of m target)) (finite.get (without new (without target m)) (other, n)) else finite.get (without new (without target m)) (other, n)) (bytes_eq_sym other new)
     ∙ ap (λ found. if bytes_eq new other then or_else found (finite.get (without new (without target m)) (other, n)) else finite.get (without new (without target m)) (other, n)) (stickers_of-find m target n)
     ∙ ap (λ kept. if bytes_eq new other then or_else (named_in m target n) kept else kept) (others_kept new other n (without target m))
     ∙ at (cases_Bool (bytes_eq new other))

@@ -56,8 +56,8 @@ and_is Greater b = refl
 pub pair_ties : (u n : List ℕ) (k : List ℕ × List ℕ) → eq_by_cmp by_target_and_name (u, n) k ≡ (bytes_eq u k.0 && bytes_eq n k.1)
 pair_ties u n k = and_is (by_bytes u k.0) (by_bytes n k.1) ∙ (λ i. is_eq-slice_cmp u k.0 i && is_eq-slice_cmp n k.1 i)
 
-pub turned : (a b : List ℕ) → bytes_eq a b ≡ bytes_eq b a
-turned a b =
+pub bytes_eq_sym : (a b : List ℕ) → bytes_eq a b ≡ bytes_eq b a
+bytes_eq_sym a b =
     elim (cases_Bool (bytes_eq a b)) [
       | inl is ↦ (let same = (bytes_eq-Decides a b).0 is in ap (λ x. bytes_eq a x) (sym same) ∙ ap (λ x. bytes_eq x a) same)
       | inr apart ↦ elim (cases_Bool (bytes_eq b a)) [
@@ -134,7 +134,7 @@ shows_pairs [] target name = get-empty by_target_and_name (target, name)
 shows_pairs (t ∷ ts) target name =
     with_named-get (string_bytes t.0) (map entry_bytes t.1.entries) (without (string_bytes t.0) (stickers_by_target ts)) target name
     ∙ ap (λ o. if bytes_eq target (string_bytes t.0) then or_else (find by_bytes name (map {B = List ℕ × List ℕ} entry_bytes t.1.entries)) o else o)
-    (others_kept (string_bytes t.0) target name (stickers_by_target ts) ∙ ap (λ b. if b then None else finite.get (stickers_by_target ts) (target, name)) (turned (string_bytes t.0) target))
+    (others_kept (string_bytes t.0) target name (stickers_by_target ts) ∙ ap (λ b. if b then None else finite.get (stickers_by_target ts) (target, name)) (bytes_eq_sym (string_bytes t.0) target))
     ∙ ap (λ found. if bytes_eq target (string_bytes t.0) then or_else found (left (string_bytes t.0) ts target name) else left (string_bytes t.0) ts target name) (texts_found name t.1.entries)
     ∙ at (cases_Bool (bytes_eq target (string_bytes t.0))) (shows_pairs ts target name)
   where

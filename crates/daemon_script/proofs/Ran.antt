@@ -18,10 +18,10 @@ use Rattle.daemon_script.proofs.Runs.{script_after-append, text_of-append, lines
 
 -- a device was called this often, by a count that stays at its greatest value
 abbrev Called : ℕ → CallCounts → CallCounts → Type 0
-Called turns old new = ((turns ≡ 0) × (new.calls ≡ old.calls)) ⊎ (new.calls ≡ min (old.calls + turns) (2 ^ 64 - 1))
+Called iterations old new = ((iterations ≡ 0) × (new.calls ≡ old.calls)) ⊎ (new.calls ≡ min (old.calls + iterations) (2 ^ 64 - 1))
 
 -- what was read and written so far, by what its lines found of memory
-pub record Ran (unread left old new start : Option (List ℕ)) (script : ScriptData (Shelved Image)) (turns : ℕ) (reader reader' writer writer' : CallCounts) : Type 0 where
+pub record Ran (unread left old new start : Option (List ℕ)) (script : ScriptData (Shelved Image)) (iterations : ℕ) (reader reader' writer writer' : CallCounts) : Type 0 where
   pub read : List ℕ
   pub run : Run
   pub consumed : Consumes unread left read
@@ -32,7 +32,7 @@ pub record Ran (unread left old new start : Option (List ℕ)) (script : ScriptD
   pub written : Appends old new (text_of images opening_script run)
   pub reads : NoFewer reader reader'
   pub writes : NoFewer writer writer'
-  pub calls : Called turns reader reader'
+  pub calls : Called iterations reader reader'
 
 abbrev Cuts : Type 0
 Cuts = (stream more : List ℕ) → split (stream ++ more) ≡ then_split (split stream) more
@@ -121,9 +121,9 @@ pub start_ran : (unread old start : Option (List ℕ)) (script : ScriptData (She
 start_ran unread old start script reader writer e f = rw (e, f) (none_ran unread old reader writer)
 
 -- all that was read is answered
-pub all_here : (unread left left' old new start : Option (List ℕ)) (script : ScriptData (Shelved Image)) (turns : ℕ) (r r' w w' : CallCounts)
-    → Ran unread left old new start script turns r r' w w' → Keeps left left' → WritesAll images unread left' old new
-all_here unread left left' old new start script turns r r' w w' ran keeps = (
+pub all_here : (unread left left' old new start : Option (List ℕ)) (script : ScriptData (Shelved Image)) (iterations : ℕ) (r r' w w' : CallCounts)
+    → Ran unread left old new start script iterations r r' w w' → Keeps left left' → WritesAll images unread left' old new
+all_here unread left left' old new start script iterations r r' w w' ran keeps = (
   ran.read,
   consumes_kept unread left left' ran.read ran.consumed keeps,
   (ran.run, ran.are, subst (Appends old new) (sym (output_open ran.read start ran.run ran.next ran.goes)) ran.written),
@@ -134,10 +134,10 @@ front_of_all unread left old new (read, consumes, (run, are, written)) =
     (read, consumes, run, are, (output_of images read run, [], sym (append-nil (output_of images read run)), written))
 
 -- a front of what a piece prints was written
-pub front_piece : Cuts → (unread left left' old mid new start : Option (List ℕ)) (script : ScriptData (Shelved Image)) (piece : List ℕ) (more : Run) (turns : ℕ) (r r' w w' : CallCounts)
-    → Ran unread left old mid start script turns r r' w w' → Consumes left left' piece → lines_in more ≡ map line_of (split_from start piece).lines
+pub front_piece : Cuts → (unread left left' old mid new start : Option (List ℕ)) (script : ScriptData (Shelved Image)) (piece : List ℕ) (more : Run) (iterations : ℕ) (r r' w w' : CallCounts)
+    → Ran unread left old mid start script iterations r r' w w' → Consumes left left' piece → lines_in more ≡ map line_of (split_from start piece).lines
     → AppendsFront mid new (text_of images script more ++ ending (split_from start piece).next) → WritesFront images unread left' old new
-front_piece cuts unread left left' old mid new start script piece more turns r r' w w' ran consumes lines front =
+front_piece cuts unread left left' old mid new start script piece more iterations r r' w w' ran consumes lines front =
     let texts : List ℕ = text_of images opening_script ran.run in (
       ran.read ++ piece,
       consumes_both unread left left' ran.read piece ran.consumed consumes,
@@ -154,11 +154,11 @@ front_piece cuts unread left left' old mid new start script piece more turns r r
     )
 
 -- nothing of a piece was written
-pub none_of_piece : Cuts → (unread left left' old mid start : Option (List ℕ)) (script : ScriptData (Shelved Image)) (piece : List ℕ) (turns : ℕ) (r r' w w' : CallCounts)
-    → Ran unread left old mid start script turns r r' w w' → Consumes left left' piece → WritesFront images unread left' old mid
-none_of_piece cuts unread left left' old mid start script piece turns r r' w w' ran consumes =
+pub none_of_piece : Cuts → (unread left left' old mid start : Option (List ℕ)) (script : ScriptData (Shelved Image)) (piece : List ℕ) (iterations : ℕ) (r r' w w' : CallCounts)
+    → Ran unread left old mid start script iterations r r' w w' → Consumes left left' piece → WritesFront images unread left' old mid
+none_of_piece cuts unread left left' old mid start script piece iterations r r' w w' ran consumes =
     let more : Run = ample (map line_of (split_from start piece).lines) in
-    front_piece cuts unread left left' old mid mid start script piece more turns r r' w w' ran consumes (lines_in-ample (map line_of (split_from start piece).lines))
+    front_piece cuts unread left left' old mid mid start script piece more iterations r r' w w' ran consumes (lines_in-ample (map line_of (split_from start piece).lines))
     ([], text_of images script more ++ ending (split_from start piece).next, refl, appends_none mid)
 
 -- the input is at its end
@@ -167,9 +167,9 @@ ends_all None left read P c e h = tt
 ends_all (Some x) None read P c e h = absurd c
 ends_all (Some x) (Some y) read P c e h = subst P (sym (c ∙ ap (λ (l : List ℕ). read ++ l) e ∙ append-nil read)) h
 
-pub whole_input : (unread left left' old new start : Option (List ℕ)) (script : ScriptData (Shelved Image)) (turns : ℕ) (r r' w w' : CallCounts)
-    → Ran unread left old new start script turns r r' w w' → Consumes left left' [] → IsAtEnd left' → IfSome unread (WritesOutput images old new)
-whole_input unread left left' old new start script turns r r' w w' ran consumes ends =
+pub whole_input : (unread left left' old new start : Option (List ℕ)) (script : ScriptData (Shelved Image)) (iterations : ℕ) (r r' w w' : CallCounts)
+    → Ran unread left old new start script iterations r r' w w' → Consumes left left' [] → IsAtEnd left' → IfSome unread (WritesOutput images old new)
+whole_input unread left left' old new start script iterations r r' w w' ran consumes ends =
     let consumed = subst (Consumes unread left') (append-nil ran.read) (consumes_both unread left left' ran.read [] ran.consumed consumes) in
     ends_all unread left' ran.read (WritesOutput images old new) consumed ends
     (ran.run, ran.are, subst (Appends old new) (sym (output_open ran.read start ran.run ran.next ran.goes)) ran.written)
@@ -208,11 +208,11 @@ piece_written cuts old mid new start script script' read piece before after run 
     (appends_both old mid new texts after written appends)
 
 -- a line was too long
-pub all_closed : Cuts → (unread left left' old mid new start : Option (List ℕ)) (script script' : ScriptData (Shelved Image)) (piece before after : List ℕ) (turns : ℕ) (r r' w w' : CallCounts)
-    → Ran unread left old mid start script turns r r' w w' → Consumes left left' piece
+pub all_closed : Cuts → (unread left left' old mid new start : Option (List ℕ)) (script script' : ScriptData (Shelved Image)) (piece before after : List ℕ) (iterations : ℕ) (r r' w w' : CallCounts)
+    → Ran unread left old mid start script iterations r r' w w' → Consumes left left' piece
     → before ≡ [] → ShowsPiece start piece script script' before after → Appends mid new after → (split_from start piece).next ≡ None
     → IfSome unread (WritesOutput images old new)
-all_closed cuts unread left left' old mid new start script script' piece before after turns r r' w w' ran consumes none shows appends closed =
+all_closed cuts unread left left' old mid new start script script' piece before after iterations r r' w w' ran consumes none shows appends closed =
     closed_all cuts unread left' old new (ran.read ++ piece) (consumes_both unread left left' ran.read piece ran.consumed consumes)
     (next_more cuts ran.read piece start ran.next ∙ closed) (
       ran.run ++ shows.run,
@@ -221,53 +221,53 @@ all_closed cuts unread left left' old mid new start script script' piece before 
     )
 
 -- only a front of what a piece prints was written
-pub front_shown : Cuts → (unread left left' old mid new start : Option (List ℕ)) (script script' : ScriptData (Shelved Image)) (piece before after : List ℕ) (turns : ℕ) (r r' w w' : CallCounts)
-    → Ran unread left old mid start script turns r r' w w' → Consumes left left' piece
+pub front_shown : Cuts → (unread left left' old mid new start : Option (List ℕ)) (script script' : ScriptData (Shelved Image)) (piece before after : List ℕ) (iterations : ℕ) (r r' w w' : CallCounts)
+    → Ran unread left old mid start script iterations r r' w w' → Consumes left left' piece
     → before ≡ [] → ShowsPiece start piece script script' before after → AppendsFront mid new after → WritesFront images unread left' old new
-front_shown cuts unread left left' old mid new start script script' piece before after turns r r' w w' ran consumes none shows front =
-    front_piece cuts unread left left' old mid new start script piece shows.run turns r r' w w' ran consumes shows.are
+front_shown cuts unread left left' old mid new start script script' piece before after iterations r r' w w' ran consumes none shows front =
+    front_piece cuts unread left left' old mid new start script piece shows.run iterations r r' w w' ran consumes shows.are
     (front.0, front.1, sym (text_alone before after _ none shows.text) ∙ front.2, front.3)
 
-min_more : (a turns top : ℕ) → min (min (a + turns) top + 1) top ≡ min (a + (turns + 1)) top
-min_more a turns top = omega arith
+min_more : (a iterations top : ℕ) → min (min (a + iterations) top + 1) top ≡ min (a + (iterations + 1)) top
+min_more a iterations top = omega arith
 
-min_first : (a b turns top : ℕ) → turns ≡ 0 → b ≡ a → min (b + 1) top ≡ min (a + (turns + 1)) top
-min_first a b turns top e f = rw (e, f) refl
+min_first : (a b iterations top : ℕ) → iterations ≡ 0 → b ≡ a → min (b + 1) top ≡ min (a + (iterations + 1)) top
+min_first a b iterations top e f = rw (e, f) refl
 
 -- one more call
-more_calls : (old mid : CallCounts) (turns now : ℕ) → Called turns old mid → now ≡ (one_call mid).calls → now ≡ min (old.calls + (turns + 1)) (2 ^ 64 - 1)
-more_calls old mid turns now before e = elim before [
-  | inl h ↦ e ∙ min_first old.calls mid.calls turns (2 ^ 64 - 1) h.0 h.1
-  | inr h ↦ e ∙ ap (λ (n : ℕ). min (n + 1) (2 ^ 64 - 1)) h ∙ min_more old.calls turns (2 ^ 64 - 1)
+more_calls : (old mid : CallCounts) (iterations now : ℕ) → Called iterations old mid → now ≡ (one_call mid).calls → now ≡ min (old.calls + (iterations + 1)) (2 ^ 64 - 1)
+more_calls old mid iterations now before e = elim before [
+  | inl h ↦ e ∙ min_first old.calls mid.calls iterations (2 ^ 64 - 1) h.0 h.1
+  | inr h ↦ e ∙ ap (λ (n : ℕ). min (n + 1) (2 ^ 64 - 1)) h ∙ min_more old.calls iterations (2 ^ 64 - 1)
 ]
 
-at_most : (a b turns top : ℕ) → b ≡ min (a + turns) top → turns ≤ 2 ^ 32 → b ≤ a + 2 ^ 32
-at_most a b turns top e most = omega (arith, e, most)
+at_most : (a b iterations top : ℕ) → b ≡ min (a + iterations) top → iterations ≤ 2 ^ 32 → b ≤ a + 2 ^ 32
+at_most a b iterations top e most = omega (arith, e, most)
 
-all_calls : (old new : CallCounts) (turns : ℕ) → Called turns old new → turns ≡ 2 ^ 32 → CalledTooOften old new
-all_calls old new turns called e = elim called [ inl h ↦ absurd (omega (arith, h.0, e)) | inr h ↦ h ∙ ap (λ (n : ℕ). min (old.calls + n) (2 ^ 64 - 1)) e ]
+all_calls : (old new : CallCounts) (iterations : ℕ) → Called iterations old new → iterations ≡ 2 ^ 32 → CalledTooOften old new
+all_calls old new iterations called e = elim called [ inl h ↦ absurd (omega (arith, h.0, e)) | inr h ↦ h ∙ ap (λ (n : ℕ). min (old.calls + n) (2 ^ 64 - 1)) e ]
 
 -- after one call more than were made so far
-pub few : (unread left old new start : Option (List ℕ)) (script : ScriptData (Shelved Image)) (turns : ℕ) (r r' w w' : CallCounts) (now : ℕ)
-    → Ran unread left old new start script turns r r' w w' → now ≡ (one_call r').calls → turns < 2 ^ 32 → now ≤ r.calls + 2 ^ 32
-few unread left old new start script turns r r' w w' now ran calls less =
-    at_most r.calls now (turns + 1) (2 ^ 64 - 1) (more_calls r r' turns now ran.calls calls) (omega (arith, less))
+pub few : (unread left old new start : Option (List ℕ)) (script : ScriptData (Shelved Image)) (iterations : ℕ) (r r' w w' : CallCounts) (now : ℕ)
+    → Ran unread left old new start script iterations r r' w w' → now ≡ (one_call r').calls → iterations < 2 ^ 32 → now ≤ r.calls + 2 ^ 32
+few unread left old new start script iterations r r' w w' now ran calls less =
+    at_most r.calls now (iterations + 1) (2 ^ 64 - 1) (more_calls r r' iterations now ran.calls calls) (omega (arith, less))
 
 -- after all calls
-pub too_often : (unread left old new start : Option (List ℕ)) (script : ScriptData (Shelved Image)) (turns : ℕ) (r r' w w' : CallCounts)
-    → Ran unread left old new start script turns r r' w w' → turns ≡ 2 ^ 32 → CalledTooOften r r'
-too_often unread left old new start script turns r r' w w' ran e = all_calls r r' turns ran.calls e
+pub too_often : (unread left old new start : Option (List ℕ)) (script : ScriptData (Shelved Image)) (iterations : ℕ) (r r' w w' : CallCounts)
+    → Ran unread left old new start script iterations r r' w w' → iterations ≡ 2 ^ 32 → CalledTooOften r r'
+too_often unread left old new start script iterations r r' w w' ran e = all_calls r r' iterations ran.calls e
 
-pub few_in_all : (unread left old new start : Option (List ℕ)) (script : ScriptData (Shelved Image)) (turns : ℕ) (r r' w w' : CallCounts)
-    → Ran unread left old new start script turns r r' w w' → turns ≡ 2 ^ 32 → r'.calls ≤ r.calls + 2 ^ 32
-few_in_all unread left old new start script turns r r' w w' ran e = at_most r.calls r'.calls (2 ^ 32) (2 ^ 64 - 1) (all_calls r r' turns ran.calls e) (omega arith)
+pub few_in_all : (unread left old new start : Option (List ℕ)) (script : ScriptData (Shelved Image)) (iterations : ℕ) (r r' w w' : CallCounts)
+    → Ran unread left old new start script iterations r r' w w' → iterations ≡ 2 ^ 32 → r'.calls ≤ r.calls + 2 ^ 32
+few_in_all unread left old new start script iterations r r' w w' ran e = at_most r.calls r'.calls (2 ^ 32) (2 ^ 64 - 1) (all_calls r r' iterations ran.calls e) (omega arith)
 
 -- one more turn
-pub one_turn : Cuts → (unread left left' old mid new start start' : Option (List ℕ)) (script script' : ScriptData (Shelved Image)) (piece before after : List ℕ) (turns : ℕ) (r r' r'' w w' w'' : CallCounts)
-    → Ran unread left old mid start script turns r r' w w' → Consumes left left' piece
+pub one_iteration : Cuts → (unread left left' old mid new start start' : Option (List ℕ)) (script script' : ScriptData (Shelved Image)) (piece before after : List ℕ) (iterations : ℕ) (r r' r'' w w' w'' : CallCounts)
+    → Ran unread left old mid start script iterations r r' w w' → Consumes left left' piece
     → before ≡ [] → ShowsPiece start piece script script' before after → Appends mid new after → start' ≡ (split_from start piece).next → IsSome start'
-    → NoFewer r' r'' → r''.calls ≡ (one_call r').calls → NoFewer w' w'' → Ran unread left' old new start' script' (turns + 1) r r'' w w''
-one_turn cuts unread left left' old mid new start start' script script' piece before after turns r r' r'' w w' w'' ran consumes none shows appends is some reads calls writes =
+    → NoFewer r' r'' → r''.calls ≡ (one_call r').calls → NoFewer w' w'' → Ran unread left' old new start' script' (iterations + 1) r r'' w w''
+one_iteration cuts unread left left' old mid new start start' script script' piece before after iterations r r' r'' w w' w'' ran consumes none shows appends is some reads calls writes =
     let next : (split (ran.read ++ piece)).next ≡ start' = next_more cuts ran.read piece start ran.next ∙ sym is in
     record {
       read = ran.read ++ piece;
@@ -281,7 +281,7 @@ one_turn cuts unread left left' old mid new start start' script script' piece be
           (piece_written cuts old mid new start script script' ran.read piece before after ran.run ran.next ran.script_is ran.written none shows appends);
       reads = (omega (arith, ran.reads.0, reads.0), omega (arith, ran.reads.1, reads.1), omega (arith, ran.reads.2, reads.2));
       writes = (omega (arith, ran.writes.0, writes.0), omega (arith, ran.writes.1, writes.1), omega (arith, ran.writes.2, writes.2));
-      calls = inr (more_calls r r' turns r''.calls ran.calls calls);
+      calls = inr (more_calls r r' iterations r''.calls ran.calls calls);
     }
 
 pub some_left : (o : Option (List ℕ)) → is_none o ≡ false → IsSome o

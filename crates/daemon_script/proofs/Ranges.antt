@@ -11,7 +11,7 @@ use Rattle.mpd_text.specs.declared.lines.quoting.WordsFault.{WordsFault}
 use Rattle.script_lines.specs.Cuts.{before, after}
 use Rattle.script_lines.specs.Lines.{LineData, ClientLine, StepLine, BadLine, by_head, script_line_of}
 use Rattle.script_lines.specs.Limits.{limit_named, greatest_of, within, number_within}
-use Rattle.script_lines.specs.Steps.{step_of, step_if_read, song_of, song_with, is_uri, limit_of, limit_with, limit_to, gone_of, gone_with, scanned_of, window_of, in_first, in_named, job_step_of, mark_of, named_of, turn_as, turn_at, turn_of, turn_to, turn_told, turn_with, player_step_of}
+use Rattle.script_lines.specs.Steps.{step_of, step_if_read, song_of, song_with, is_uri, limit_of, limit_with, limit_to, gone_of, gone_with, scanned_of, window_of, in_first, in_named, job_step_of, flag_of, named_of, turn_as, turn_at, turn_of, turn_to, turn_told, turn_with, player_step_of}
 use Rattle.script_lines.specs.Tags.{is_tag, tags_of}
 use Rattle.script_lines.specs.declared.limit.LimitName.{LimitName}
 use Rattle.script_lines.specs.declared.step.JobStep.{JobStep}
@@ -92,7 +92,7 @@ turn_as_no_limit written discarded (Some failed) found n e = cc
 
 turn_to_no_limit : (written : ℕ) (discarded : Option ℕ) (words : List (List ℕ)) → SetsMore (turn_to written discarded words)
 turn_to_no_limit written None words found n e = cc
-turn_to_no_limit written (Some discarded) words found n e = turn_as_no_limit written discarded (mark_of (codes "failed") words) found n e
+turn_to_no_limit written (Some discarded) words found n e = turn_as_no_limit written discarded (flag_of (codes "failed") words) found n e
 
 turn_with_no_limit : (written : Option ℕ) (discarded : List ℕ) (words : List (List ℕ)) → SetsMore (turn_with written discarded words)
 turn_with_no_limit None discarded words found n e = cc

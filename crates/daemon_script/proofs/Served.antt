@@ -3,7 +3,7 @@ use Rattle.std.proofs.Common.{◌≡◌, ℕ, Bool, true, false, List, Option, S
 use Rattle.std.specs.FinMap as finite
 use Rattle.std.proofs.lemmas.Option.{same_Some}
 use Rattle.shelf.specs.Calls.{Call}
-use Rattle.shelf.specs.Maps.{Answers, AnswersAll, Maps, Same, Standing, Turns, refusal_of_create, refusal_of_list, refusal_of_put, refusal_of_rename, refusal_of_set, refusal_of_sticker, refusal_of_target, first_of}
+use Rattle.shelf.specs.Maps.{Answers, AnswersAll, Maps, Same, Standing, Changes, refusal_of_create, refusal_of_list, refusal_of_put, refusal_of_rename, refusal_of_set, refusal_of_sticker, refusal_of_target, first_of}
 use Rattle.shelf.specs.Memory.{maps_of, memory_of}
 use Rattle.shelf.specs.declared.faults.ShelfFault.{ShelfFault}
 use Rattle.shelf.specs.declared.faults.ShelfFault.TheVariants.{NoSuchList, Exists, BadName, NoSticker, StoreFault, NoMemory}
@@ -17,7 +17,7 @@ use Rattle.transitions.specs.declared.shelf_calls.ShelfWrite.{ShelfWrite}
 use Rattle.transitions.specs.declared.shelf_calls.ShelfWrite.TheVariants.{Nothing, Put, Create, Rename, Remove, SetSticker, DeleteSticker, DeleteStickers}
 use Rattle.partition.specs.Image.{Image}
 use Rattle.partition.specs.Lent.{question, writing}
-use Rattle.transitions.specs.Shelves.{IsAnswered, IsCause, IsRead, Question, NoQuestion, AskNames, AskList, AskSticker, AskStickers, AskFound, Serves, LeavesUnchanged, answered, is_ok_write, is_wanting, is_written, maps_after}
+use Rattle.transitions.specs.Shelves.{IsAnswered, IsCause, IsRead, Question, NoQuestion, AskNames, AskList, AskSticker, AskStickers, AskFound, Serves, LeavesUnchanged, answered, is_ok_write, is_out_of_memory, is_written, maps_after}
 use Rattle.daemon_script.specs.Contents.{Contents, contents_of, has_stickers, maps_in, stickers_for, stickers_of}
 use Rattle.daemon_script.specs.Shelf.{contents_after, contents_with, heard_by, list_read, read_in, refusal_in, refusal_of_all, refusal_of_none, shelf_after, sticker_read, unless_refused}
 use Rattle.daemon_script.proofs.Edited.{list_put, list_removed, list_renamed, sticker_put, stickers_gone}
@@ -123,7 +123,7 @@ reads c (AskFound kind name) (read_variant.Refused fault) is = never_none fault 
 
 -- ---- why what is to be written is refused
 
-answer_is : (refusal r : Option ShelfFault) → Answers ⊥ refusal (answered r) → is_wanting r ≡ false → r ≡ refusal
+answer_is : (refusal r : Option ShelfFault) → Answers ⊥ refusal (answered r) → is_out_of_memory r ≡ false → r ≡ refusal
 answer_is refusal None is ample = sym is
 answer_is refusal (Some NoSuchList) is ample = sym is
 answer_is refusal (Some Exists) is ample = sym is
@@ -138,7 +138,7 @@ first_refuses : (c : Contents) (kind : StickerKind) (target : List ℕ) (fault :
 first_refuses c kind target fault e = sym (ap (λ o. first_of o (refusal_of_none c kind target)) e)
 
 all_answer_is : (c : Contents) (kind : StickerKind) (target : List ℕ) (r : Option ShelfFault)
-    → AnswersAll ⊥ (refusal_of_target (maps_in c) kind target) ((maps_in c).stickers kind target) (answered r) → is_wanting r ≡ false
+    → AnswersAll ⊥ (refusal_of_target (maps_in c) kind target) ((maps_in c).stickers kind target) (answered r) → is_out_of_memory r ≡ false
     → r ≡ refusal_of_all c kind target
 all_answer_is c kind target None is ample =
     sym (ap (λ o. first_of o (refusal_of_none c kind target)) is.0
@@ -156,7 +156,7 @@ not_refused : (r : Option ShelfFault) → answered r ≡ Ok tt → r ≡ None
 not_refused None e = refl
 not_refused (Some fault) e = cc
 
-refuses : (c : Contents) (w : ShelfWrite) (r : Option ShelfFault) → IsAnswered Fails (maps_in c) w (answered r) → is_wanting r ≡ false → r ≡ refusal_in c w
+refuses : (c : Contents) (w : ShelfWrite) (r : Option ShelfFault) → IsAnswered Fails (maps_in c) w (answered r) → is_out_of_memory r ≡ false → r ≡ refusal_in c w
 refuses c Nothing r is ample = not_refused r is
 refuses c (Put name uris changes) r is ample = answer_is (refusal_of_put name) r is ample
 refuses c (Create name uris) r is ample = answer_is (refusal_of_create (maps_in c) name) r is ample
@@ -185,17 +185,17 @@ trusted : Unit {0} × Unit {0}
 trusted = (record {}, record {})
 
 -- a call that changes nothing leaves the contents
-pub kept : (old new : MemShelf) (after : Maps) → Turns (standing_of old) (standing_of new) false after → contents new ≡ contents old
-kept old new after turns = holds new (contents old) (subst (λ m. Same m (standing_of new).maps) (sym (shows old)) (turns.kept trusted refl refl))
+pub kept : (old new : MemShelf) (after : Maps) → Changes (standing_of old) (standing_of new) false after → contents new ≡ contents old
+kept old new after changes = holds new (contents old) (subst (λ m. Same m (standing_of new).maps) (sym (shows old)) (changes.kept trusted refl refl))
 
-pub asked : (old new : MemShelf) (b : Bool) → Turns (standing_of old) (standing_of new) b (standing_of old).maps → contents new ≡ contents old
-asked old new true turns = holds new (contents old) (subst (λ m. Same m (standing_of new).maps) (sym (shows old)) (turns.done trusted refl).1)
-asked old new false turns = kept old new (standing_of old).maps turns
+pub asked : (old new : MemShelf) (b : Bool) → Changes (standing_of old) (standing_of new) b (standing_of old).maps → contents new ≡ contents old
+asked old new true changes = holds new (contents old) (subst (λ m. Same m (standing_of new).maps) (sym (shows old)) (changes.done trusted refl).1)
+asked old new false changes = kept old new (standing_of old).maps changes
 
-done : (old new : MemShelf) (w : ShelfWrite) → is_written w ≡ true → Turns (standing_of old) (standing_of new) true (maps_after w (standing_of old).maps) → contents new ≡ contents_with w (contents old)
-done old new w e turns =
+done : (old new : MemShelf) (w : ShelfWrite) → is_written w ≡ true → Changes (standing_of old) (standing_of new) true (maps_after w (standing_of old).maps) → contents new ≡ contents_with w (contents old)
+done old new w e changes =
     holds new (contents_with w (contents old)) (same_between (maps_after w (maps_in (contents old))) (maps_in (contents_with w (contents old))) (standing_of new).maps
-    (after_write (contents old) w e) (subst (λ m. Same (maps_after w m) (standing_of new).maps) (sym (shows old)) (turns.done trusted refl).1))
+    (after_write (contents old) w e) (subst (λ m. Same (maps_after w m) (standing_of new).maps) (sym (shows old)) (changes.done trusted refl).1))
 
 unwritten_same : (w : ShelfWrite) (c : Contents) → is_written w ≡ false → contents_with w c ≡ c
 unwritten_same Nothing c e = refl
@@ -207,16 +207,16 @@ unwritten_same (SetSticker kind target name value changes) c e = cc
 unwritten_same (DeleteSticker kind target name) c e = cc
 unwritten_same (DeleteStickers kind target) c e = cc
 
-written : (old new : MemShelf) (w : ShelfWrite) (r : Option ShelfFault) → Turns (standing_of old) (standing_of new) (is_ok_write w (answered r)) (maps_after w (standing_of old).maps)
+written : (old new : MemShelf) (w : ShelfWrite) (r : Option ShelfFault) → Changes (standing_of old) (standing_of new) (is_ok_write w (answered r)) (maps_after w (standing_of old).maps)
     → contents new ≡ contents_after w r (contents old)
-written old new w None turns =
-    let cases : (b : Bool) → is_written w ≡ b → Turns (standing_of old) (standing_of new) b (maps_after w (standing_of old).maps) → contents new ≡ contents_with w (contents old) =
-    λ b. elim b as (λ b. is_written w ≡ b → Turns (standing_of old) (standing_of new) b (maps_after w (standing_of old).maps) → contents new ≡ contents_with w (contents old)) [
+written old new w None changes =
+    let cases : (b : Bool) → is_written w ≡ b → Changes (standing_of old) (standing_of new) b (maps_after w (standing_of old).maps) → contents new ≡ contents_with w (contents old) =
+    λ b. elim b as (λ b. is_written w ≡ b → Changes (standing_of old) (standing_of new) b (maps_after w (standing_of old).maps) → contents new ≡ contents_with w (contents old)) [
       | true ↦ λ e t. done old new w e t
       | false ↦ λ e t. kept old new (maps_after w (standing_of old).maps) t ∙ sym (unwritten_same w (contents old) e)
     ] in
-    cases (is_written w) refl turns
-written old new w (Some fault) turns = kept old new (maps_after w (standing_of old).maps) turns
+    cases (is_written w) refl changes
+written old new w (Some fault) changes = kept old new (maps_after w (standing_of old).maps) changes
 
 -- ---- an event
 

@@ -31,7 +31,7 @@ use Rattle.daemon_script.proofs.Alike.{Agree, SamePlayer, SameScript, runs_same}
 record AgreeOfEvents {P Q : Type 0} (m : EventKind P) (n : EventKind Q) (R : P → Q → Type 0) : Type 0 where
   opens : (limits : Limits) (songs : List SongData) → 1 ≤ limits.max_version → R (m.opens limits songs) (n.opens limits songs)
   there : (p : P) (q : Q) (number : ℕ) → R p q → m.is_there number p ≡ n.is_there number q
-  place : (p : P) (q : Q) (name : List ℕ) → R p q → m.place_named name p ≡ n.place_named name q
+  index : (p : P) (q : Q) (name : List ℕ) → R p q → m.index_named name p ≡ n.index_named name q
   limit : (p : P) (q : Q) (event : Event) → R p q → m.limit p event ≡ n.limit q event
   after : (p : P) (q : Q) (event : Event) → R p q → R (m.after p event) (n.after q event)
   told : (p : P) (q : Q) (event : Event) → R p q → m.told p event ≡ n.told q event
@@ -73,7 +73,7 @@ among world_transitions number (k ∷ ks) =
 
 placed : (name : List ℕ) (worlds : List PartWorld) → named name (map known (map part_in worlds)) ≡ world_named name worlds
 placed name [] = refl
-placed name (p ∷ ps) = ap (λ (rest : Option ℕ). if bytes_eq p.name name then Some p.place else rest) (placed name ps)
+placed name (p ∷ ps) = ap (λ (rest : Option ℕ). if bytes_eq p.name name then Some p.index else rest) (placed name ps)
 
 module _ (law : ReplaysWorlds) where
   opens : (limits : Limits) (songs : List SongData) → 1 ≤ limits.max_version → Shows (opening (setup_of limits) (library_of songs)) (record { trace = opening_trace (opening (setup_of limits) (library_of songs)); history = [] })
@@ -109,7 +109,7 @@ module _ (law : ReplaysWorlds) where
   agree = record {
     opens = opens;
     there = λ i traced number shows. ap (λ (x : Image). is_some (client_of number x.clients)) shows.0 ∙ among traced.trace.world_transitions number traced.trace.world.clients;
-    place = λ i traced name shows. ap (λ (x : Image). named name (map known x.parts)) shows.0 ∙ placed name traced.trace.world.parts;
+    index = λ i traced name shows. ap (λ (x : Image). named name (map known x.parts)) shows.0 ∙ placed name traced.trace.world.parts;
     limit = λ i traced event shows. ap (λ (x : Image). limit_of 0 x event) shows.0;
     after = λ i traced event shows. (ap (λ (x : Image). next_image 0 x event) shows.0 ∙ after_seen traced event shows.1, from_after traced event shows.1);
     told = λ i traced event shows. ap (λ (x : Image). told x event) shows.0 ∙ told_seen traced event;
@@ -142,7 +142,7 @@ module _ (law : ReplaysWorlds) where
   agree_beside = record {
     opens = λ limits songs above. record { shows = agree.opens limits songs above; shelf = refl; window = refl; most = refl };
     there = λ p q number same. agree.there p.player q.player number same.shows;
-    place = λ p q name same. agree.place p.player q.player name same.shows;
+    index = λ p q name same. agree.index p.player q.player name same.shows;
     full = λ p q same j. nat_le (same.most j) (same.window j);
     limit = λ p q event same. ap (λ (e : Event). limit_of 0 p.player e) (heard_same p q event same) ∙ agree.limit p.player q.player (heard trace_kind seen q event) same.shows;
     after = λ p q event same. record {

@@ -42,7 +42,7 @@ setup_of limits = record { limits = limits; random_start = 0; outputs = one_outp
 pub record EventKind (P : Type 0) : Type 0 where
   pub opens : Limits → List SongData → P
   pub is_there : ℕ → P → Bool
-  pub place_named : List ℕ → P → Option ℕ
+  pub index_named : List ℕ → P → Option ℕ
   pub limit : P → Event → Option PartitionFault
   pub after : P → Event → P
   pub told : P → Event → OutcomeData
@@ -53,7 +53,7 @@ pub record EventKind (P : Type 0) : Type 0 where
 pub record PlayerKind (P : Type 0) : Type 0 where
   pub opens : Limits → List SongData → P
   pub is_there : ℕ → P → Bool
-  pub place_named : List ℕ → P → Option ℕ
+  pub index_named : List ℕ → P → Option ℕ
   pub is_full : P → Bool
   pub limit : P → Event → Option PartitionFault
   pub after : P → Event → P
@@ -68,7 +68,7 @@ abbrev pub image_kind : EventKind Image
 image_kind = record {
   opens = λ limits songs. opening (setup_of limits) (library_of songs);
   is_there = λ number i. is_some (client_of number i.clients);
-  place_named = λ name i. named name (map known i.parts);
+  index_named = λ name i. named name (map known i.parts);
   limit = λ i event. limit_of 0 i event;
   after = λ i event. next_image 0 i event;
   told = λ i event. told i event;
@@ -78,7 +78,7 @@ image_kind = record {
 -- the number of the first partition of a name
 abbrev pub world_named : List ℕ → List PartWorld → Option ℕ
 world_named name [] = None
-world_named name (p ∷ ps) = if bytes_eq p.name name then Some p.place else world_named name ps
+world_named name (p ∷ ps) = if bytes_eq p.name name then Some p.index else world_named name ps
 
 -- a trace, and what happened in it
 pub record Traced : Type 0 where
@@ -105,7 +105,7 @@ abbrev pub trace_kind : EventKind Traced
 trace_kind = record {
   opens = λ limits songs. record { trace = opening_trace (opening (setup_of limits) (library_of songs)); history = [] };
   is_there = λ number traced. is_there number traced.trace.world;
-  place_named = λ name traced. world_named name traced.trace.world.parts;
+  index_named = λ name traced. world_named name traced.trace.world.parts;
   limit = λ traced event. limit_of 0 (seen traced) event;
   after = traced_after;
   told = λ traced event. told_at (traced_after traced event).trace.world_transitions;
@@ -143,7 +143,7 @@ module _ {P : Type 0} (kind : EventKind P) (read : P → Image) where
   beside_shelf = record {
     opens = λ limits songs. record { player = kind.opens limits songs; shelf = no_contents; window = 0; most = limits.history };
     is_there = λ number p. kind.is_there number p.player;
-    place_named = λ name p. kind.place_named name p.player;
+    index_named = λ name p. kind.index_named name p.player;
     is_full = is_full;
     limit = λ p event. kind.limit p.player (heard p event);
     after = λ p event. record {

@@ -259,9 +259,9 @@ scan_result s = ScanResult (Some (in_byte_order s.songs)) 0
 
 -- the event of a step of the decoder in the partition of a number; no output's feeder owes frames
 abbrev pub job_event : ℕ → JobStep → Event
-job_event place WantStep = Want place all_off
-job_event place (HaveStep number frames) = Have place number frames
-job_event place (FailedStep number partner) = Failed place number partner
+job_event index WantStep = Want index all_off
+job_event index (HaveStep number frames) = Have index number frames
+job_event index (FailedStep number partner) = Failed index number partner
 
 module _ {P : Type 0} (kind : PlayerKind P) where
   -- why an event is refused, if it is, by what it found of memory
@@ -303,11 +303,11 @@ module _ {P : Type 0} (kind : PlayerKind P) where
   -- a step of the decoder in the partition of a name, once the player is there: one that no partition has is bad
   abbrev pub applies_at : ScriptData P → Option ℕ → JobStep → Found → Shown P
   applies_at s None step found = bad s
-  applies_at s (Some place) step found = applies s s.player (job_event place step) found
+  applies_at s (Some index) step found = applies s s.player (job_event index step) found
 
   abbrev pub applies_in : ScriptData P → Option P → List ℕ → JobStep → Found → Shown P
   applies_in s None name step found = bad s
-  applies_in s (Some player) name step found = applies_at s (kind.place_named name player) step found
+  applies_in s (Some player) name step found = applies_at s (kind.index_named name player) step found
 
   abbrev pub named_line : ScriptData P → List ℕ → JobStep → Memory → Shown P
   named_line s name step memory = once_read s memory (applies_in s s.player name step (found_then memory))

@@ -72,10 +72,10 @@ impl Player {
     }
 
     /// The number of the partition of this name, if there is one.
-    pub(crate) fn place_named(&self, name: &str) -> Option<u8>
-        ensures { result ≡ images.place_named name.now self.now }
+    pub(crate) fn index_named(&self, name: &str) -> Option<u8>
+        ensures { result ≡ images.index_named name.now self.now }
     {
-        self.partition.place_named(name)
+        self.partition.index_named(name)
     }
 
     /// Applies an event.

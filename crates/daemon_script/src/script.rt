@@ -235,10 +235,10 @@ impl Script {
         let Some(player) = &self.player else {
             return push_bad(shown);
         };
-        let Some(place) = player.place_named(name) else {
+        let Some(index) = player.index_named(name) else {
             return push_bad(shown);
         };
-        self.happen(job_event(place, step), shown)
+        self.happen(job_event(index, step), shown)
     }
 
     /// Appends what the history holds, once the player is there.
@@ -344,13 +344,13 @@ impl Script {
 }
 
 /// The event of a step of the decoder in the partition of a number. No output's feeder owes frames.
-fn job_event(place: u8, step: JobStep) -> Event
-    ensures { result ≡ job_event_lem place step }
+fn job_event(index: u8, step: JobStep) -> Event
+    ensures { result ≡ job_event_lem index step }
 {
     match step {
-        JobStep::Want => Event::Want(place, [false; 8]),
-        JobStep::Have(number, frames) => Event::Have(place, u64::from(number), u64::from(frames)),
-        JobStep::Failed(number, partner) => Event::Failed(place, u64::from(number), partner),
+        JobStep::Want => Event::Want(index, [false; 8]),
+        JobStep::Have(number, frames) => Event::Have(index, u64::from(number), u64::from(frames)),
+        JobStep::Failed(number, partner) => Event::Failed(index, u64::from(number), partner),
     }
 }
 
@@ -409,9 +409,9 @@ fn run_listed_line(
 fn drop_list_of(lists: &mut [ListCollector; 10], number: u32)
     ensures { lists.new ≡ with_list number None lists.old }
 {
-    let place = number as usize;
-    if place < lists.len() {
-        lists[place].drop_list();
+    let index = number as usize;
+    if index < lists.len() {
+        lists[index].drop_list();
     }
 }
 

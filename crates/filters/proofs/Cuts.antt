@@ -48,25 +48,25 @@ CutsAlone : List ℕ → Result State Stop → Type 0
 CutsAlone rest (Ok state) = IsCut state rest
 CutsAlone rest (Err stop) = Unit {0}
 
-record CutsPlace (rest : List ℕ) (r : Result State Stop) : Type 0 where
+record CutsState (rest : List ℕ) (r : Result State Stop) : Type 0 where
   is : CutsAlone rest r
 
-goes_place : (rest : List ℕ) (state : State) → IsCut state rest → CutsPlace rest (Ok state)
+goes_state : (rest : List ℕ) (state : State) → IsCut state rest → CutsState rest (Ok state)
 unfolding CutsAlone
-goes_place rest state is = record { is = is }
+goes_state rest state is = record { is = is }
 
-stop_place : (rest : List ℕ) (s : Stop) → CutsPlace rest (Err s)
+stop_state : (rest : List ℕ) (s : Stop) → CutsState rest (Err s)
 unfolding CutsAlone
-stop_place rest s = record { is = tt }
+stop_state rest s = record { is = tt }
 
-when_place : (rest : List ℕ) (c : Bool) (x y : Result State Stop) → (c ≡ true → CutsPlace rest x) → (c ≡ false → CutsPlace rest y) → CutsPlace rest (cond c x y)
-when_place rest true x y h k = h refl
-when_place rest false x y h k = k refl
+when_state : (rest : List ℕ) (c : Bool) (x y : Result State Stop) → (c ≡ true → CutsState rest x) → (c ≡ false → CutsState rest y) → CutsState rest (cond c x y)
+when_state rest true x y h k = h refl
+when_state rest false x y h k = k refl
 
-from_place : (rest : List ℕ) (r : Result State Stop) (purposes : List Purpose) → CutsPlace rest r → Cuts rest (alone r purposes)
+from_state : (rest : List ℕ) (r : Result State Stop) (purposes : List Purpose) → CutsState rest r → Cuts rest (alone r purposes)
 unfolding CutsNext CutsAlone
-from_place rest (Ok state) purposes h = record { is = h.is }
-from_place rest (Err s) purposes h = record { is = tt }
+from_state rest (Ok state) purposes h = record { is = h.is }
+from_state rest (Err s) purposes h = record { is = tt }
 
 -- a byte that is this ASCII byte is gone
 past : (b c : ℕ) (rest : List ℕ) → IsUtf8 (b ∷ rest) → (b == c) ≡ true → c < 128 → IsUtf8 rest
@@ -85,17 +85,17 @@ closes e (Negated ∷ purposes) rest utf8 = goes rest (Done (Negation e)) purpos
 closes e (First ∷ purposes) rest utf8 = goes rest (Joined e) purposes utf8
 closes e (Next first ∷ purposes) rest utf8 = goes rest (Joined (Both first e)) purposes utf8
 
-signs : (field : Field) (b : ℕ) (rest : List ℕ) → IsUtf8 (b ∷ rest) → CutsPlace rest (sign field b)
+signs : (field : Field) (b : ℕ) (rest : List ℕ) → IsUtf8 (b ∷ rest) → CutsState rest (sign field b)
 signs field b rest utf8 =
-    when_place rest (b == 32) _ _ (λ e. goes_place rest (AfterField field) (past b 32 rest utf8 e (omega arith))) (λ _.
-    when_place rest (b == 61) _ _ (λ e. goes_place rest (Sign field Equals) (past b 61 rest utf8 e (omega arith))) (λ _.
-    when_place rest (b == 33) _ _ (λ e. goes_place rest (Sign field Differs) (past b 33 rest utf8 e (omega arith))) (λ _.
-    when_place rest (b == 99) _ _ (λ e. goes_place rest (Contains field 1) (past b 99 rest utf8 e (omega arith))) (λ _. stop_place rest Syntax))))
+    when_state rest (b == 32) _ _ (λ e. goes_state rest (AfterField field) (past b 32 rest utf8 e (omega arith))) (λ _.
+    when_state rest (b == 61) _ _ (λ e. goes_state rest (Sign field Equals) (past b 61 rest utf8 e (omega arith))) (λ _.
+    when_state rest (b == 33) _ _ (λ e. goes_state rest (Sign field Differs) (past b 33 rest utf8 e (omega arith))) (λ _.
+    when_state rest (b == 99) _ _ (λ e. goes_state rest (Contains field 1) (past b 99 rest utf8 e (omega arith))) (λ _. stop_state rest Syntax))))
 
-words : (name : Option Named) (word : List ℕ) (b : ℕ) (rest : List ℕ) → IsUtf8 (b ∷ rest) → CutsPlace rest (after_word name word b)
-words None word b rest utf8 = stop_place rest (UnknownTag word)
+words : (name : Option Named) (word : List ℕ) (b : ℕ) (rest : List ℕ) → IsUtf8 (b ∷ rest) → CutsState rest (after_word name word b)
+words None word b rest utf8 = stop_state rest (UnknownTag word)
 words (Some (NamedField field)) word b rest utf8 = signs field b rest utf8
-words (Some NamedBase) word b rest utf8 = when_place rest (b == 32) _ _ (λ e. goes_place rest (BeforeText BaseGoal) (past b 32 rest utf8 e (omega arith))) (λ _. stop_place rest Syntax)
+words (Some NamedBase) word b rest utf8 = when_state rest (b == 32) _ _ (λ e. goes_state rest (BeforeText BaseGoal) (past b 32 rest utf8 e (omega arith))) (λ _. stop_state rest Syntax)
 
 contains_small : (read : ℕ) → read < 7 → slice_index (codes "contains") read < 128
 contains_small zero low = omega arith
@@ -116,16 +116,16 @@ contains_byte read b e =
 second : (m n b c : ℕ) → ((m == n) && (b == c)) ≡ true → c < 128 → b < 128
 second m n b c e small = grind (arith, nat_tests)
 
-contains_cuts : (field : Field) (read b : ℕ) (rest : List ℕ) → IsUtf8 (b ∷ rest) → CutsPlace rest (contains_letter field read b)
+contains_cuts : (field : Field) (read b : ℕ) (rest : List ℕ) → IsUtf8 (b ∷ rest) → CutsState rest (contains_letter field read b)
 contains_cuts field read b rest utf8 =
-    when_place rest (nat_lt read 7 && (b == slice_index (codes "contains") read)) _ _ (λ e. goes_place rest (Contains field (read + 1)) (after_ascii b rest utf8 (contains_byte read b e))) (λ _.
-    when_place rest ((read == 7) && (b == 115)) _ _ (λ e. goes_place rest (NeedsSpace (Compared field ContainsTest)) (after_ascii b rest utf8 (second read 7 b 115 e (omega arith)))) (λ _. stop_place rest Syntax))
+    when_state rest (nat_lt read 7 && (b == slice_index (codes "contains") read)) _ _ (λ e. goes_state rest (Contains field (read + 1)) (after_ascii b rest utf8 (contains_byte read b e))) (λ _.
+    when_state rest ((read == 7) && (b == 115)) _ _ (λ e. goes_state rest (NeedsSpace (Compared field ContainsTest)) (after_ascii b rest utf8 (second read 7 b 115 e (omega arith)))) (λ _. stop_state rest Syntax))
 
-and_cuts : (e : Expression) (read b : ℕ) (rest : List ℕ) → IsUtf8 (b ∷ rest) → CutsPlace rest (and_letter e read b)
+and_cuts : (e : Expression) (read b : ℕ) (rest : List ℕ) → IsUtf8 (b ∷ rest) → CutsState rest (and_letter e read b)
 and_cuts e read b rest utf8 =
-    when_place rest ((read == 1) && (b == 78)) _ _ (λ h. goes_place rest (And e 2) (after_ascii b rest utf8 (second read 1 b 78 h (omega arith)))) (λ _.
-    when_place rest ((read == 2) && (b == 68)) _ _ (λ h. goes_place rest (And e 3) (after_ascii b rest utf8 (second read 2 b 68 h (omega arith)))) (λ _.
-    when_place rest ((read == 3) && (b == 32)) _ _ (λ h. goes_place rest (AfterAnd e) (after_ascii b rest utf8 (second read 3 b 32 h (omega arith)))) (λ _. stop_place rest Syntax)))
+    when_state rest ((read == 1) && (b == 78)) _ _ (λ h. goes_state rest (And e 2) (after_ascii b rest utf8 (second read 1 b 78 h (omega arith)))) (λ _.
+    when_state rest ((read == 2) && (b == 68)) _ _ (λ h. goes_state rest (And e 3) (after_ascii b rest utf8 (second read 2 b 68 h (omega arith)))) (λ _.
+    when_state rest ((read == 3) && (b == 32)) _ _ (λ h. goes_state rest (AfterAnd e) (after_ascii b rest utf8 (second read 3 b 32 h (omega arith)))) (λ _. stop_state rest Syntax)))
 
 quote_small : (b : ℕ) → ((b == 34) || (b == 39)) ≡ true → b < 128
 quote_small b e = grind (arith, nat_tests)
@@ -188,10 +188,10 @@ module _ (vocabulary : Vocabulary) where
   keeps Bang purposes b rest is = when rest (b == 40) _ _ (λ e. opens Negated purposes rest (past b 40 rest is e (omega arith))) (λ _. stop rest Syntax)
   keeps (Word word) purposes b rest is =
       when rest (is_word_byte vocabulary b) _ _ (λ e. goes rest (Word (word ++ b ∷ [])) purposes (IsAscii-push word b is.0 (letter_small b e), after_ascii b rest is.1 (letter_small b e)))
-      (λ _. from_place rest _ purposes (words (named_of vocabulary word) word b rest is.1))
-  keeps (AfterField field) purposes b rest is = from_place rest _ purposes (signs field b rest is)
+      (λ _. from_state rest _ purposes (words (named_of vocabulary word) word b rest is.1))
+  keeps (AfterField field) purposes b rest is = from_state rest _ purposes (signs field b rest is)
   keeps (Sign field test) purposes b rest is = when rest (b == 61) _ _ (λ e. goes rest (BeforeText (Compared field test)) purposes (past b 61 rest is e (omega arith))) (λ _. stop rest Syntax)
-  keeps (Contains field read) purposes b rest is = from_place rest _ purposes (contains_cuts field read b rest is)
+  keeps (Contains field read) purposes b rest is = from_state rest _ purposes (contains_cuts field read b rest is)
   keeps (NeedsSpace goal) purposes b rest is = when rest (b == 32) _ _ (λ e. goes rest (BeforeText goal) purposes (past b 32 rest is e (omega arith))) (λ _. stop rest Syntax)
   keeps (BeforeText goal) purposes b rest is =
       when rest (b == 32) _ _ (λ e. goes rest (BeforeText goal) purposes (past b 32 rest is e (omega arith))) (λ _.
@@ -211,7 +211,7 @@ module _ (vocabulary : Vocabulary) where
       when rest (b == 32) _ _ (λ h. goes rest (AfterJoined e) purposes (past b 32 rest is h (omega arith))) (λ _.
       when rest (b == 65) _ _ (λ h. goes rest (And e 1) purposes (past b 65 rest is h (omega arith))) (λ _.
       when rest (b == 41) _ _ (λ h. closes e purposes rest (past b 41 rest is h (omega arith))) (λ _. stop rest Syntax)))
-  keeps (And e read) purposes b rest is = from_place rest _ purposes (and_cuts e read b rest is)
+  keeps (And e read) purposes b rest is = from_state rest _ purposes (and_cuts e read b rest is)
   keeps (AfterAnd e) purposes b rest is =
       when rest (b == 32) _ _ (λ h. goes rest (AfterAnd e) purposes (past b 32 rest is h (omega arith))) (λ _.
       when rest (b == 40) _ _ (λ h. opens (Next e) purposes rest (past b 40 rest is h (omega arith))) (λ _. stop rest Syntax))

@@ -60,8 +60,8 @@ module _ (vocabulary : Vocabulary) where
       let more = longer h.front h.back h'.front h'.back (sym h.parts ∙ h'.parts) less in
       h.longest more.0 (more.1 ++ h'.back) more.3 (begins_shorter h.front h'.front more.1 more.0 more.2 h'.begins)
 
-  one_place : (text : List ℕ) (k n : ℕ) → IsLongestStart vocabulary text k → IsLongestStart vocabulary text n → k ≡ n
-  one_place text k n h h' =
+  one_offset : (text : List ℕ) (k n : ℕ) → IsLongestStart vocabulary text k → IsLongestStart vocabulary text n → k ≡ n
+  one_offset text k n h h' =
       let not_less = not_longer text k n h h' in
       let not_more = not_longer text n k h' h in
       let at = h.at in let at' = h'.at in
@@ -70,7 +70,7 @@ module _ (vocabulary : Vocabulary) where
   -- an answer is what is read
   syntax_read : (text : List ℕ) (k : ℕ) (r : Result Expression FilterFault) → parsed vocabulary text ≡ r → IsFirstFault vocabulary text (Syntax k) → Err (Syntax k) ≡ r
   syntax_read text k (Ok e) h is = let says = said text e h in absurd (is.0.no_filter says.0 says.1)
-  syntax_read text k (Err (Syntax n)) h is = ap (λ (m : ℕ). Err (Syntax m)) (one_place text k n is.0 (fault_at_longest vocabulary text n h))
+  syntax_read text k (Err (Syntax n)) h is = ap (λ (m : ℕ). Err (Syntax m)) (one_offset text k n is.0 (fault_at_longest vocabulary text n h))
   syntax_read text k (Err (UnknownTag word)) h is = absurd (is.1 word (refused_for vocabulary text (UnknownTag word) h))
   syntax_read text k (Err TooDeep) h is = absurd (is.2 (refused_for vocabulary text TooDeep h))
   syntax_read text k (Err NoMemory) h is = absurd (refused_for vocabulary text NoMemory h)

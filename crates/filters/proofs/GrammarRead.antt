@@ -18,9 +18,9 @@ use Rattle.filters.proofs.Reaching.{Reaches, by_byte, spaces_reach, gap_reach, s
 abbrev pub Room : Bool → ℕ → Type 0
 Room strict level = strict ≡ true → level < 32
 
-abbrev end_place : Bool → Expression → State
-end_place true e = Joined e
-end_place false e = Done e
+abbrev end_state : Bool → Expression → State
+end_state true e = Joined e
+end_state false e = Done e
 
 low : (n : ℕ) → n < 32 → nat_le 32 n ≡ false
 low n h = grind (arith, nat_tests)
@@ -67,7 +67,7 @@ module _ (vocabulary : Vocabulary) where
       (spaces_reach vocabulary strict (AfterJoined f) purposes (bs ++ more) more e refl (bs, refl, are.1) (rw ends (by_byte vocabulary strict (AfterJoined f) purposes 41 rest next outer e ((joined_closes strict f purposes).1 ∙ closes) r))))
 
   ends : (strict joined : Bool) (f : Expression) (purposes : List Purpose) (text more rest : List ℕ) (next : State) (outer : List Purpose) (e : Result Expression FilterFault) → Spaces text more → more ≡ 41 ∷ rest → closed f purposes ≡ Ok (next, outer)
-      → Reaches vocabulary strict next outer rest e → Reaches vocabulary strict (end_place joined f) purposes text e
+      → Reaches vocabulary strict next outer rest e → Reaches vocabulary strict (end_state joined f) purposes text e
   unfolding step
   ends strict true f purposes text more rest next outer e spaces last closes r = subst (λ (t : List ℕ). Reaches vocabulary strict (Joined f) purposes t e) (sym spaces.1) (joined_end strict f purposes spaces.0 more rest next outer e spaces.2 last closes r)
   ends strict false f purposes text more rest next outer e spaces last closes r =
@@ -97,7 +97,7 @@ module _ (vocabulary : Vocabulary) where
   unfolding step
   whole_opens strict purposes = refl
 
-  pub at_joined : (b : Body) (strict : Bool) (purposes : List Purpose) (text : List ℕ) (e : Result Expression FilterFault) → is_joined b ≡ true → Reaches vocabulary strict (Joined (meaning vocabulary b)) purposes text e → Reaches vocabulary strict (end_place (is_joined b) (meaning vocabulary b)) purposes text e
+  pub at_joined : (b : Body) (strict : Bool) (purposes : List Purpose) (text : List ℕ) (e : Result Expression FilterFault) → is_joined b ≡ true → Reaches vocabulary strict (Joined (meaning vocabulary b)) purposes text e → Reaches vocabulary strict (end_state (is_joined b) (meaning vocabulary b)) purposes text e
   at_joined b strict purposes text e is r = rw is r
 
   pub stays_opened : (strict : Bool) (purposes : List Purpose) → step vocabulary strict Opened purposes 32 ≡ Ok (Opened, purposes)
@@ -106,7 +106,7 @@ module _ (vocabulary : Vocabulary) where
 
   -- a form that is read so in this parenthesis
   abbrev ReadsInside : Body → Bool → List Purpose → Result Expression FilterFault → Type 0
-  ReadsInside b strict purposes e = (text rest : List ℕ) → IsBody vocabulary b text rest → Reaches vocabulary strict (end_place (is_joined b) (meaning vocabulary b)) purposes rest e → Reaches vocabulary strict Opened purposes text e
+  ReadsInside b strict purposes e = (text rest : List ℕ) → IsBody vocabulary b text rest → Reaches vocabulary strict (end_state (is_joined b) (meaning vocabulary b)) purposes rest e → Reaches vocabulary strict Opened purposes text e
 
   -- a parenthesis of such a form: from the byte that opens it up to what follows it
   parentheses_reach : (b : Body) (strict : Bool) (state : State) (purpose : Purpose) (purposes : List Purpose) (text rest : List ℕ) (next : State) (e : Result Expression FilterFault)

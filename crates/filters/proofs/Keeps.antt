@@ -28,8 +28,8 @@ record Lives (r : Result (State × List Purpose) Stop) : Type 0 where
 record LivesAlone (purposes : List Purpose) (r : Result State Stop) : Type 0 where
   is : StaysLive (alone r purposes)
 
-yes_place : (state : State) (purposes : List Purpose) → IsLive state purposes → Lives (Ok (state, purposes))
-yes_place state purposes is = record { is = is }
+yes_state : (state : State) (purposes : List Purpose) → IsLive state purposes → Lives (Ok (state, purposes))
+yes_state state purposes is = record { is = is }
 
 stop : (s : Stop) → Lives (Err s)
 stop s = record { is = tt }
@@ -53,10 +53,10 @@ not_alone purposes r h = record { is = h.is }
 
 closed_live : (e : Expression) (purposes : List Purpose) → IsOpen purposes → Lives (closed e purposes)
 closed_live e [] is = stop Syntax
-closed_live e (Whole ∷ purposes) is = yes_place (Finished e) purposes tt
-closed_live e (Negated ∷ purposes) is = yes_place (Done (Negation e)) purposes is
-closed_live e (First ∷ purposes) is = yes_place (Joined e) purposes is
-closed_live e (Next first ∷ purposes) is = yes_place (Joined (Both first e)) purposes is
+closed_live e (Whole ∷ purposes) is = yes_state (Finished e) purposes tt
+closed_live e (Negated ∷ purposes) is = yes_state (Done (Negation e)) purposes is
+closed_live e (First ∷ purposes) is = yes_state (Joined e) purposes is
+closed_live e (Next first ∷ purposes) is = yes_state (Joined (Both first e)) purposes is
 
 sign_live : (field : Field) (purposes : List Purpose) (b : ℕ) → IsOpen purposes → LivesAlone purposes (sign field b)
 sign_live field purposes b is = when purposes (b == 32) _ _ (λ _. yes_alone (AfterField field) purposes is) (when purposes (b == 61) _ _ (λ _. yes_alone (Sign field Equals) purposes is) (when purposes (b == 33) _ _ (λ _. yes_alone (Sign field Differs) purposes is) (when purposes (b == 99) _ _ (λ _. yes_alone (Contains field 1) purposes (omega arith, omega arith, is)) (stop_alone purposes Syntax))))
@@ -84,22 +84,22 @@ whole (purpose ∷ purposes) e = cc
 module _ (vocabulary : Vocabulary) where
   lives : (state : State) (purposes : List Purpose) (b : ℕ) → IsLive state purposes → Lives (step vocabulary false state purposes b)
   unfolding step
-  lives Start purposes b is = either (b == 40) _ _ (yes_place (Opened) (Whole ∷ purposes) (whole purposes is)) (stop Syntax)
-  lives Opened purposes b is = either (b == 32) _ _ (yes_place (Opened) purposes is) (either (b == 33) _ _ (yes_place (Bang) purposes is) (either (is_word_byte vocabulary b) _ _ (yes_place (Word (b ∷ [])) purposes is) (either (b == 40) _ _ (yes_place (Opened) (First ∷ purposes) is) (stop Syntax))))
-  lives Bang purposes b is = either (b == 40) _ _ (yes_place (Opened) (Negated ∷ purposes) is) (stop Syntax)
-  lives (Word word) purposes b is = either (is_word_byte vocabulary b) _ _ (yes_place (Word (word ++ b ∷ [])) purposes is) (not_alone purposes _ (word_live (names vocabulary false word) word purposes b is))
+  lives Start purposes b is = either (b == 40) _ _ (yes_state (Opened) (Whole ∷ purposes) (whole purposes is)) (stop Syntax)
+  lives Opened purposes b is = either (b == 32) _ _ (yes_state (Opened) purposes is) (either (b == 33) _ _ (yes_state (Bang) purposes is) (either (is_word_byte vocabulary b) _ _ (yes_state (Word (b ∷ [])) purposes is) (either (b == 40) _ _ (yes_state (Opened) (First ∷ purposes) is) (stop Syntax))))
+  lives Bang purposes b is = either (b == 40) _ _ (yes_state (Opened) (Negated ∷ purposes) is) (stop Syntax)
+  lives (Word word) purposes b is = either (is_word_byte vocabulary b) _ _ (yes_state (Word (word ++ b ∷ [])) purposes is) (not_alone purposes _ (word_live (names vocabulary false word) word purposes b is))
   lives (AfterField field) purposes b is = not_alone purposes _ (sign_live field purposes b is)
-  lives (Sign field test) purposes b is = either (b == 61) _ _ (yes_place (BeforeText (Compared field test)) purposes is) (stop Syntax)
+  lives (Sign field test) purposes b is = either (b == 61) _ _ (yes_state (BeforeText (Compared field test)) purposes is) (stop Syntax)
   lives (Contains field read) purposes b is = not_alone purposes _ (contains_live field read purposes b is.2)
-  lives (NeedsSpace goal) purposes b is = either (b == 32) _ _ (yes_place (BeforeText goal) purposes is) (stop Syntax)
-  lives (BeforeText goal) purposes b is = either (b == 32) _ _ (yes_place (BeforeText goal) purposes is) (either ((b == 34) || (b == 39)) _ _ (yes_place (InText goal b []) purposes is) (stop Syntax))
-  lives (InText goal quote text) purposes b is = either (b == quote) _ _ (yes_place (Done (filter_for goal text)) purposes is) (either (b == 92) _ _ (yes_place (Escaped goal quote text) purposes is) (yes_place (InText goal quote (text ++ b ∷ [])) purposes is))
-  lives (Escaped goal quote text) purposes b is = yes_place (InText goal quote (text ++ b ∷ [])) purposes is
-  lives (Done e) purposes b is = either (b == 32) _ _ (yes_place (Done e) purposes is) (either (b == 41) _ _ (closed_live e purposes is) (stop Syntax))
-  lives (Joined e) purposes b is = either (b == 32) _ _ (yes_place (AfterJoined e) purposes is) (either (b == 41) _ _ (closed_live e purposes is) (stop Syntax))
-  lives (AfterJoined e) purposes b is = either (b == 32) _ _ (yes_place (AfterJoined e) purposes is) (either (b == 65) _ _ (yes_place (And e 1) purposes (omega arith, omega arith, is)) (either (b == 41) _ _ (closed_live e purposes is) (stop Syntax)))
+  lives (NeedsSpace goal) purposes b is = either (b == 32) _ _ (yes_state (BeforeText goal) purposes is) (stop Syntax)
+  lives (BeforeText goal) purposes b is = either (b == 32) _ _ (yes_state (BeforeText goal) purposes is) (either ((b == 34) || (b == 39)) _ _ (yes_state (InText goal b []) purposes is) (stop Syntax))
+  lives (InText goal quote text) purposes b is = either (b == quote) _ _ (yes_state (Done (filter_for goal text)) purposes is) (either (b == 92) _ _ (yes_state (Escaped goal quote text) purposes is) (yes_state (InText goal quote (text ++ b ∷ [])) purposes is))
+  lives (Escaped goal quote text) purposes b is = yes_state (InText goal quote (text ++ b ∷ [])) purposes is
+  lives (Done e) purposes b is = either (b == 32) _ _ (yes_state (Done e) purposes is) (either (b == 41) _ _ (closed_live e purposes is) (stop Syntax))
+  lives (Joined e) purposes b is = either (b == 32) _ _ (yes_state (AfterJoined e) purposes is) (either (b == 41) _ _ (closed_live e purposes is) (stop Syntax))
+  lives (AfterJoined e) purposes b is = either (b == 32) _ _ (yes_state (AfterJoined e) purposes is) (either (b == 65) _ _ (yes_state (And e 1) purposes (omega arith, omega arith, is)) (either (b == 41) _ _ (closed_live e purposes is) (stop Syntax)))
   lives (And e read) purposes b is = not_alone purposes _ (and_live e read purposes b is.2)
-  lives (AfterAnd e) purposes b is = either (b == 32) _ _ (yes_place (AfterAnd e) purposes is) (either (b == 40) _ _ (yes_place (Opened) (Next e ∷ purposes) is) (stop Syntax))
+  lives (AfterAnd e) purposes b is = either (b == 32) _ _ (yes_state (AfterAnd e) purposes is) (either (b == 40) _ _ (yes_state (Opened) (Next e ∷ purposes) is) (stop Syntax))
   lives (Finished e) purposes b is = stop Syntax
 
   pub keeps : (state : State) (purposes : List Purpose) (b : ℕ) → IsLive state purposes → StaysLive (step vocabulary false state purposes b)

@@ -37,27 +37,27 @@ folded Ignored text = encode_utf8_all (default_case_fold (chars text))
 
 -- how two texts that are folded already are compared
 abbrev pub IsRelated : Relation → List ℕ → List ℕ → Type 0
-IsRelated Same text wanted = text ≡ wanted
-IsRelated IncludesIt text wanted = HasSubslice text wanted
+IsRelated Same text value = text ≡ value
+IsRelated IncludesIt text value = HasSubslice text value
 
--- what is compared has this relation to a wanted text that is folded already
+-- what is compared has this relation to a value that is folded already
 abbrev pub Relates : Case → Relation → List ℕ → Field → SongData → Type 0
-Relates case relation wanted field song = HasIt (λ text. IsRelated relation (folded case text) wanted) field song
+Relates case relation value field song = HasIt (λ text. IsRelated relation (folded case text) value) field song
 
 -- some tag of these names has a text with this relation to it
 abbrev pub SomeTagRelates : Case → Relation → List ℕ → List TagName → List TagData → Type 0
-SomeTagRelates case relation wanted names tags = SomeTag (λ text. IsRelated relation (folded case text) wanted) names tags
+SomeTagRelates case relation value names tags = SomeTag (λ text. IsRelated relation (folded case text) value) names tags
 
 abbrev pub IsSame : Case → List ℕ → List ℕ → Type 0
-IsSame case wanted text = folded case text ≡ folded case wanted
+IsSame case value text = folded case text ≡ folded case value
 
 abbrev pub Includes : Case → List ℕ → List ℕ → Type 0
-Includes case wanted text = HasSubslice (folded case text) (folded case wanted)
+Includes case value text = HasSubslice (folded case text) (folded case value)
 
 abbrev pub Compares : Case → Test → List ℕ → Field → SongData → Type 0
-Compares case Equals wanted field song = HasIt (IsSame case wanted) field song
-Compares case Differs wanted field song = HasIt (IsSame case wanted) field song → ⊥
-Compares case Contains wanted field song = HasIt (Includes case wanted) field song
+Compares case Equals value field song = HasIt (IsSame case value) field song
+Compares case Differs value field song = HasIt (IsSame case value) field song → ⊥
+Compares case Contains value field song = HasIt (Includes case value) field song
 
 -- bytes do not begin with a prefix: nothing after it gives them
 abbrev pub LacksPrefix : List ℕ → List ℕ → Type 0
@@ -70,7 +70,7 @@ IsUnder (b ∷ bs) uri = (rest : List ℕ) × (uri ≡ (b ∷ bs) ++ 47 ∷ rest
 
 -- the truth of an expression on a song
 abbrev pub Holds : Case → Expression → SongData → Type 0
-Holds case (Compare field test wanted) song = Compares case test wanted field song
+Holds case (Compare field test value) song = Compares case test value field song
 Holds case (Under folder) song = IsUnder folder song.uri
 Holds case (Negation e) song = Holds case e song → ⊥
 Holds case (Both e f) song = Holds case e song × Holds case f song

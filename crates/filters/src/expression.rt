@@ -21,14 +21,14 @@ pub enum Field {
     AnyKnown,
 }
 
-/// How a text of a song is compared with the one that is wanted.
+/// How a text of a song is compared with the value of a filter.
 #[derive(Clone, Copy, PartialEq, Eq)]
 pub enum Test {
     /// They are the same, written `==`.
     Equals,
     /// They are not, written `!=`.
     Differs,
-    /// The wanted one is somewhere in the song's.
+    /// The value is somewhere in the song's.
     Contains,
 }
 

@@ -62,50 +62,50 @@ fn compares(
     song: &Song,
     field: Field,
     test: Test,
-    wanted: &str,
+    value: &str,
     case: Case,
 ) -> Result<bool, AllocError>
-    ensures truth { IfOk result (λ yes. IsTrue yes ↔ Compares case test wanted.now field song.now) }
+    ensures truth { IfOk result (λ yes. IsTrue yes ↔ Compares case test value.now field song.now) }
     ensures answers { case ≡ Heeded → IsOk result }
 {
     match test {
-        Test::Equals => relates(alloc, song, field, Relation::Same, wanted, case),
-        Test::Differs => Ok(!relates(alloc, song, field, Relation::Same, wanted, case)?),
-        Test::Contains => relates(alloc, song, field, Relation::Includes, wanted, case),
+        Test::Equals => relates(alloc, song, field, Relation::Same, value, case),
+        Test::Differs => Ok(!relates(alloc, song, field, Relation::Same, value, case)?),
+        Test::Contains => relates(alloc, song, field, Relation::Includes, value, case),
     }
 }
 
-/// Whether what is compared has this relation to the wanted text.
+/// Whether what is compared has this relation to the value.
 fn relates(
     alloc: Global,
     song: &Song,
     field: Field,
     relation: Relation,
-    wanted: &str,
+    value: &str,
     case: Case,
 ) -> Result<bool, AllocError>
-    ensures truth { IfOk result (λ yes. IsTrue yes ↔ Relates case relation (folded case wanted.now) field song.now) }
+    ensures truth { IfOk result (λ yes. IsTrue yes ↔ Relates case relation (folded case value.now) field song.now) }
     ensures answers { case ≡ Heeded → IsOk result }
 {
     match case {
-        Case::Heeded => has_it(alloc, song, field, relation, wanted, case),
+        Case::Heeded => has_it(alloc, song, field, relation, value, case),
         Case::Ignored => {
-            let wanted = default_case_fold_str(alloc, wanted)?;
-            has_it(alloc, song, field, relation, wanted.as_str(), case)
+            let value = default_case_fold_str(alloc, value)?;
+            has_it(alloc, song, field, relation, value.as_str(), case)
         }
     }
 }
 
-/// Whether what is compared has this relation to a wanted text that is folded already.
+/// Whether what is compared has this relation to a value that is folded already.
 fn has_it(
     alloc: Global,
     song: &Song,
     field: Field,
     relation: Relation,
-    wanted: &str,
+    value: &str,
     case: Case,
 ) -> Result<bool, AllocError>
-    ensures truth { IfOk result (λ yes. IsTrue yes ↔ Relates case relation wanted.now field song.now) }
+    ensures truth { IfOk result (λ yes. IsTrue yes ↔ Relates case relation value.now field song.now) }
     ensures answers { case ≡ Heeded → IsOk result }
 {
     match field {
@@ -113,71 +113,71 @@ fn has_it(
             alloc,
             text_of_tag(song.tags(), name),
             relation,
-            wanted,
+            value,
             case,
         ),
-        Field::NoTag => text_has_it(alloc, "", relation, wanted, case),
-        Field::File => text_has_it(alloc, song.uri(), relation, wanted, case),
-        Field::Any => some_tag(alloc, song.tags(), &BASE_TAG_NAMES, relation, wanted, case),
-        Field::AnyKnown => some_tag(alloc, song.tags(), &TAG_NAMES, relation, wanted, case),
+        Field::NoTag => text_has_it(alloc, "", relation, value, case),
+        Field::File => text_has_it(alloc, song.uri(), relation, value, case),
+        Field::Any => some_tag(alloc, song.tags(), &BASE_TAG_NAMES, relation, value, case),
+        Field::AnyKnown => some_tag(alloc, song.tags(), &TAG_NAMES, relation, value, case),
     }
 }
 
 /// Whether some tag of these names, each read as by its own name, has a text with this relation to the
-/// wanted one.
+/// value.
 fn some_tag(
     alloc: Global,
     tags: &[Tag],
     names: &[TagName],
     relation: Relation,
-    wanted: &str,
+    value: &str,
     case: Case,
 ) -> Result<bool, AllocError>
-    ensures truth { IfOk result (λ yes. IsTrue yes ↔ SomeTagRelates case relation wanted.now names.now tags.now) }
+    ensures truth { IfOk result (λ yes. IsTrue yes ↔ SomeTagRelates case relation value.now names.now tags.now) }
     ensures answers { case ≡ Heeded → IsOk result }
 {
     for name in names {
-        if text_has_it(alloc, text_of_tag(tags, *name), relation, wanted, case)? {
+        if text_has_it(alloc, text_of_tag(tags, *name), relation, value, case)? {
             return Ok(true);
         }
     }
     Ok(false)
 }
 
-/// Whether a text, folded where case is ignored, has this relation to the wanted one.
+/// Whether a text, folded where case is ignored, has this relation to the value.
 fn text_has_it(
     alloc: Global,
     text: &str,
     relation: Relation,
-    wanted: &str,
+    value: &str,
     case: Case,
 ) -> Result<bool, AllocError>
-    ensures truth { IfOk result (λ yes. IsTrue yes ↔ IsRelated relation (folded case text.now) wanted.now) }
+    ensures truth { IfOk result (λ yes. IsTrue yes ↔ IsRelated relation (folded case text.now) value.now) }
     ensures answers { case ≡ Heeded → IsOk result }
 {
     match case {
-        Case::Heeded => Ok(is_related(relation, text, wanted)),
+        Case::Heeded => Ok(is_related(relation, text, value)),
         Case::Ignored => {
             let text = default_case_fold_str(alloc, text)?;
-            Ok(is_related(relation, text.as_str(), wanted))
+            Ok(is_related(relation, text.as_str(), value))
         }
     }
 }
 
-fn is_related(relation: Relation, text: &str, wanted: &str) -> bool
-    ensures { IsTrue result ↔ IsRelated relation text.now wanted.now }
+fn is_related(relation: Relation, text: &str, value: &str) -> bool
+    ensures { IsTrue result ↔ IsRelated relation text.now value.now }
 {
     match relation {
-        Relation::Same => text == wanted,
-        Relation::Includes => includes(text, wanted),
+        Relation::Same => text == value,
+        Relation::Includes => includes(text, value),
     }
 }
 
-/// Whether the wanted text is somewhere in the text.
-fn includes(text: &str, wanted: &str) -> bool
-    ensures { IsTrue result ↔ HasSubslice text.now wanted.now }
+/// Whether the value is somewhere in the text.
+fn includes(text: &str, value: &str) -> bool
+    ensures { IsTrue result ↔ HasSubslice text.now value.now }
 {
-    text.contains(wanted)
+    text.contains(value)
 }
 
 /// Whether a URI lies under a folder; each lies under the empty one.

@@ -17,7 +17,7 @@ use std::alloc::Global;
 pub struct Pair {
     /// A word of the vocabulary or `base`; the case of its letters does not count.
     pub name: Text,
-    /// The wanted text; of `base` the folder.
+    /// The value; of `base` the folder.
     pub text: Text,
 }
 

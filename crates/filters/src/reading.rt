@@ -20,7 +20,7 @@ use std::alloc::{AllocError, AllocFailed, Global};
 pub enum FilterFault {
     /// It goes wrong after so many bytes: the length of the longest start with which some filter begins.
     Syntax(usize),
-    /// This word is where a word of the vocabulary or `base` is wanted. In a text it ends before the first
+    /// This word is where a word of the vocabulary or `base` is expected. In a text it ends before the first
     /// byte that no name has, or at the end.
     UnknownTag(Text),
     /// A 33rd parenthesis is open.
@@ -55,7 +55,7 @@ impl Filter {
         // It is the text's expression, or its first fault from the left, by the grammar.
         ensures answer { (result ≡ Err NoMemory) ⊎ IsAnswer vocabulary text.now result }
         // A text is refused for nothing else, and says nothing else.
-        ensures only { (told : Result Expression Fault) → IsAnswer vocabulary text.now told → OrNoMemory result told }
+        ensures only { (outcome : Result Expression Fault) → IsAnswer vocabulary text.now outcome → OrNoMemory result outcome }
         // The same as a function of the text, which is that answer by a law of its own.
         ensures exact { OrNoMemory result (parsed vocabulary text.now) }
     {

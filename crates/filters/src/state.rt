@@ -264,10 +264,10 @@ pub fn text_of(bytes: Sequence<u8>) -> Text
 }
 
 /// Before a text in quotes, if the byte is this one.
-fn only_at(wanted: u8, b: u8, goal: Goal) -> Result<State, Stop>
-    ensures { StepsAlone result (if b == wanted then Ok (State.BeforeText goal) else Err Syntax) }
+fn only_at(expected: u8, b: u8, goal: Goal) -> Result<State, Stop>
+    ensures { StepsAlone result (if b == expected then Ok (State.BeforeText goal) else Err Syntax) }
 {
-    if b == wanted {
+    if b == expected {
         Ok(State::BeforeText(goal))
     } else {
         Err(Stop::Syntax)

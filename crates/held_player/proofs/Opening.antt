@@ -1,10 +1,10 @@
 -- The free seats and the books of a new house.
 use Rattle.std.proofs.Common.{◌≡◌, ℕ, zero, suc, ◌<◌, List, [], ◌∷◌, refl, ap, sym, subst, ◌∙◌, arith}
 use Rattle.std.specs.Prelude.{All, slice_index_or}
-use Rattle.counted_player.specs.Seats.{IsUnused, SeatCount, place, with_four_seats}
+use Rattle.counted_player.specs.Seats.{IsUnused, SeatCount, seat_count, with_four_seats}
 
 abbrev four : List SeatCount
-four = place 0 0 ∷ place 1 0 ∷ place 2 0 ∷ place 3 0 ∷ []
+four = seat_count 0 0 ∷ seat_count 1 0 ∷ seat_count 2 0 ∷ seat_count 3 0 ∷ []
 
 free_at : (k : ℕ) (d : SeatCount) → k < 4 → IsUnused (slice_index_or four k d)
 free_at zero d low = (omega arith, refl)

@@ -38,7 +38,7 @@ use Rattle.partition.specs.Lists.{Answered, entries_of}
 use Rattle.player_events.specs.Events.{ends_list}
 use Rattle.connected_clients.specs.Rooms.{is_waiting, room_for}
 use Rattle.transitions.specs.Shelves.{is_written}
-use Rattle.partition.specs.Step.{asked_by, ends_waiting, sender_number, next_image, once_written, place_at, raised_of, sender_in, told, transition, transition_line, transition_of, transition_request, transition_run, transition_there, transition_wished, written_transition}
+use Rattle.partition.specs.Step.{asked_by, ends_waiting, sender_number, next_image, once_written, index_at, raised_of, sender_in, told, transition, transition_line, transition_of, transition_request, transition_run, transition_there, transition_wished, written_transition}
 use Rattle.counted_player.proofs.Plans.{planned_is}
 use Rattle.connected_clients.proofs.Tells.{fewer_wait}
 use Rattle.held_player.specs.Lists.{notices_in}
@@ -47,7 +47,7 @@ use Rattle.held_player.proofs.Few.{told_notices}
 -- a move by which no client begins to wait
 abbrev IsQuiet : Move → Type 0
 IsQuiet Stay = Unit {0}
-IsQuiet (Enter place) = Unit {0}
+IsQuiet (Enter index) = Unit {0}
 IsQuiet (Show tags) = Unit {0}
 IsQuiet _ = ⊥
 
@@ -65,7 +65,7 @@ run o asked part library read (asked_for.Stickers command) = tt
 run o asked part library read (asked_for.Connection command) = tt
 run o asked part library read (asked_for.Outputs command) = tt
 run o asked part library read (asked_for.Messages command) = tt
-run o asked part library read (asked_for.Partitions command) = planned_is Stays (λ r. tt) (λ asked crossing. tt) (λ asked place. tt) o.parts o.clients o.openings asked part.place command
+run o asked part library read (asked_for.Partitions command) = planned_is Stays (λ r. tt) (λ asked crossing. tt) (λ asked index. tt) o.parts o.clients o.openings asked part.index command
 
 there : (o : Overview) (asked : Asked) (part : Option Part) (library : Library) (read : Read) (command : Command) → Stays (transition_there o asked part library read command)
 there o asked None library read command = tt
@@ -111,19 +111,19 @@ one_more client clients =
     sum_by-append (λ (k : Client). if is_waiting k then 1 else 0) (client ∷ []) clients ∙ ap (λ n. n + count_by is_waiting clients) (omega arith)
 
 -- a client that is told waits no more
-one_less_at : (raised : Subsystems) (number place : ℕ) (tags : List TagName) (waiting : Option Subsystems) (changed : Subsystems)
-    → length (notice_for (λ k. raised) (record { number = number; place = place; tags = tags; pending = record { waiting = waiting; changed = changed } }))
-    + room_for (notified (λ k. raised) (record { number = number; place = place; tags = tags; pending = record { waiting = waiting; changed = changed } }))
-    ≤ room_for (record { number = number; place = place; tags = tags; pending = record { waiting = waiting; changed = changed } })
-one_less_at raised number place tags None changed = omega arith
-one_less_at raised number place tags (Some names) changed =
+one_less_at : (raised : Subsystems) (number index : ℕ) (tags : List TagName) (waiting : Option Subsystems) (changed : Subsystems)
+    → length (notice_for (λ k. raised) (record { number = number; index = index; tags = tags; pending = record { waiting = waiting; changed = changed } }))
+    + room_for (notified (λ k. raised) (record { number = number; index = index; tags = tags; pending = record { waiting = waiting; changed = changed } }))
+    ≤ room_for (record { number = number; index = index; tags = tags; pending = record { waiting = waiting; changed = changed } })
+one_less_at raised number index tags None changed = omega arith
+one_less_at raised number index tags (Some names) changed =
     let p : Pending = noted raised (record { waiting = Some names; changed = changed }) in
     elim (is_nonempty (due p))
-    as (λ b. length (notice_to number (if b then Some (due p) else None)) + room_for (record { number = number; place = place; tags = tags; pending = if b then fresh else p }) ≤ 1)
+    as (λ b. length (notice_to number (if b then Some (due p) else None)) + room_for (record { number = number; index = index; tags = tags; pending = if b then fresh else p }) ≤ 1)
     [ true ↦ omega arith | false ↦ omega arith ]
 
 one_less : (raised : Client → Subsystems) (client : Client) → length (notice_for raised client) + room_for (notified raised client) ≤ room_for client
-one_less raised client = one_less_at (raised client) client.number client.place client.tags client.pending.waiting client.pending.changed
+one_less raised client = one_less_at (raised client) client.number client.index client.tags client.pending.waiting client.pending.changed
 
 all_less : (raised : Client → Subsystems) (clients : List Client)
     → length (flat_map (notice_for raised) clients) + count_by is_waiting (map (notified raised) clients) ≤ count_by is_waiting clients
@@ -139,19 +139,19 @@ all_less raised (k ∷ ks) =
 at_most : (n : ℕ) → n ≤ n
 at_most n = omega arith
 
-entered_less : (number place : ℕ) (client : Client) → room_for (entered number place client) ≤ room_for client
-entered_less number place client =
-    elim (client.number == number) as (λ b. room_for (if b then record client { place = place; pending = everything } else client) ≤ room_for client)
+entered_less : (number index : ℕ) (client : Client) → room_for (entered number index client) ≤ room_for client
+entered_less number index client =
+    elim (client.number == number) as (λ b. room_for (if b then record client { index = index; pending = everything } else client) ≤ room_for client)
     [ true ↦ omega arith | false ↦ at_most (room_for client) ]
 
 -- no client begins to wait where one goes to another partition
-all_entered : (number place : ℕ) (clients : List Client) → count_by is_waiting (map (entered number place) clients) ≤ count_by is_waiting clients
-all_entered number place [] = omega arith
-all_entered number place (k ∷ ks) =
-    let first = entered_less number place k in
-    let rest = all_entered number place ks in
+all_entered : (number index : ℕ) (clients : List Client) → count_by is_waiting (map (entered number index) clients) ≤ count_by is_waiting clients
+all_entered number index [] = omega arith
+all_entered number index (k ∷ ks) =
+    let first = entered_less number index k in
+    let rest = all_entered number index ks in
     let before = one_more k ks in
-    let after = one_more (entered number place k) (map (entered number place) ks) in
+    let after = one_more (entered number index k) (map (entered number index) ks) in
     omega (arith, first, rest, before, after)
 
 shown_less : (number : ℕ) (tags : List TagName) (client : Client) → room_for (shown number tags client) ≤ room_for client
@@ -171,7 +171,7 @@ all_shown number tags (k ∷ ks) =
 
 moved_less : (number : ℕ) (move : Move) (clients : List Client) → IsQuiet move → count_by is_waiting (moved number move clients) ≤ count_by is_waiting clients
 moved_less number Stay clients quiet = omega arith
-moved_less number (Enter place) clients quiet = all_entered number place clients
+moved_less number (Enter index) clients quiet = all_entered number index clients
 moved_less number (Wait names) clients quiet = absurd quiet
 moved_less number Learn clients quiet = absurd quiet
 moved_less number Resume clients quiet = absurd quiet
@@ -218,7 +218,7 @@ few_entries seat client form (suc n) place i [] = omega arith
 few_entries seat client form (suc n) place i (a ∷ more) =
     let event : Event = Line client (InList form place) a.0 a.1 in
     let next : Image = next_image seat i event in
-    let less = told_less seat i event (line_stays form place (overview i) (part_at (place_at i event) i.parts) i.shared.library (sender_in i.clients event) client a.0 a.1) in
+    let less = told_less seat i event (line_stays form place (overview i) (part_at (index_at i event) i.parts) i.shared.library (sender_in i.clients event) client a.0 a.1) in
     let rest : List LogEntry = if ends_list (told i event) then [] else entries_of seat next client form (place + 1) more in
     let few : length (notices_in (map (λ (h : LogEntry). h.told) (take n rest))) ≤ count_by is_waiting next.clients =
     elim (ends_list (told i event))

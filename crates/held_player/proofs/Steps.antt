@@ -9,7 +9,7 @@ use Rattle.partition.specs.History.{Chronicle, joined_by}
 use Rattle.partition_table.specs.Parts.{part_at}
 use Rattle.partition.specs.Image.{Image, Overview, overview}
 use Rattle.partition.specs.Legal.{IsPast}
-use Rattle.partition.specs.Step.{failure, limit_of, next_image, place_at, sender_in, told, transition, transition_of, want}
+use Rattle.partition.specs.Step.{failure, limit_of, next_image, index_at, sender_in, told, transition, transition_of, want}
 use Rattle.partition.specs.Steps.{RefusesStep}
 use Rattle.player_events.specs.Events.{is_line}
 use Rattle.player_state.specs.Outputs.{FrameBooks}
@@ -32,8 +32,8 @@ news_steps (news.Comes client) = refl
 news_steps (news.Goes client) = refl
 news_steps news.AsksToScan = refl
 news_steps (news.Scanned songs second) = refl
-news_steps (news.Wants place owes) = refl
-news_steps (news.Failed place number partner) = refl
+news_steps (news.Wants index owes) = refl
+news_steps (news.Failed index number partner) = refl
 
 want_frameless : (ended : Bool) (part : Option Part) (owes : List Bool) → is_frameless (want ended part owes).effect ≡ true
 want_frameless ended None owes = refl
@@ -49,13 +49,13 @@ news_frameless o part library client (news.Comes number) = refl
 news_frameless o part library client (news.Goes number) = refl
 news_frameless o part library client news.AsksToScan = refl
 news_frameless o part library client (news.Scanned songs second) = refl
-news_frameless o part library client (news.Wants place owes) = want_frameless o.ended part owes
-news_frameless o part library client (news.Failed place number partner) = failure_frameless part number partner
+news_frameless o part library client (news.Wants index owes) = want_frameless o.ended part owes
+news_frameless o part library client (news.Failed index number partner) = failure_frameless part number partner
 
 -- the same of the whole image
 quiet_frameless : (i : Image) (piece : News) → is_frameless (transition i (event_of piece)).effect ≡ true
 quiet_frameless i piece =
-    news_frameless (overview i) (part_at (place_at i (event_of piece)) i.parts) i.shared.library (sender_in i.clients (event_of piece)) piece
+    news_frameless (overview i) (part_at (index_at i (event_of piece)) i.parts) i.shared.library (sender_in i.clients (event_of piece)) piece
 
 -- it gives no more notices than there are clients
 pub few_told : (i : Image) (event : Event) (outcome : OutcomeData) → outcome ≡ told i event → length outcome.notices ≤ length i.clients
@@ -149,9 +149,9 @@ module _ (before after : Chronicle) (seat : ℕ) (past : IsPast before) where
   quiet (news.Goes client) r joins leaves = step_stays before after seat (Disconnect client) eight (quiet_frameless before.present (news.Goes client)) r joins leaves
   quiet news.AsksToScan r joins leaves = step_stays before after seat ScanQuestion eight (quiet_frameless before.present news.AsksToScan) r joins leaves
   quiet (news.Scanned songs second) r joins leaves = step_stays before after seat (ScanResult songs second) eight (quiet_frameless before.present (news.Scanned songs second)) r joins leaves
-  quiet (news.Wants place owes) r joins leaves = step_stays before after seat (Want place owes) eight (quiet_frameless before.present (news.Wants place owes)) r joins leaves
-  quiet (news.Failed place number partner) r joins leaves =
-      step_stays before after seat (Failed place number partner) eight (quiet_frameless before.present (news.Failed place number partner)) r joins leaves
+  quiet (news.Wants index owes) r joins leaves = step_stays before after seat (Want index owes) eight (quiet_frameless before.present (news.Wants index owes)) r joins leaves
+  quiet (news.Failed index number partner) r joins leaves =
+      step_stays before after seat (Failed index number partner) eight (quiet_frameless before.present (news.Failed index number partner)) r joins leaves
 
   pub follows : (event : Event) → is_line event ≡ false → (r : Result OutcomeData PartitionFault) → Joins before after seat event r → LeavesUnchanged before after seat event r
       → BooksFollow event before after
@@ -160,14 +160,14 @@ module _ (before after : Chronicle) (seat : ℕ) (past : IsPast before) where
   follows (Line client stand request heard) step r joins leaves = absurd (no_line step)
   follows ScanQuestion step r joins leaves = quiet news.AsksToScan r joins leaves
   follows (ScanResult songs second) step r joins leaves = quiet (news.Scanned songs second) r joins leaves
-  follows (Want place owes) step r joins leaves = quiet (news.Wants place owes) r joins leaves
-  follows (Have place number frames) step r joins leaves =
-      let event : Event = Have place number frames in (
+  follows (Want index owes) step r joins leaves = quiet (news.Wants index owes) r joins leaves
+  follows (Have index number frames) step r joins leaves =
+      let event : Event = Have index number frames in (
         decoded_rise before after seat event eight r joins leaves,
-        step_part before after seat event eight (λ (b : FrameBooks). b.written) r (λ i is. (have_fates seat before.present i place number frames eight is).0) joins leaves,
-        step_part before after seat event eight (λ (b : FrameBooks). b.discarded) r (λ i is. (have_fates seat before.present i place number frames eight is).1) joins leaves,
+        step_part before after seat event eight (λ (b : FrameBooks). b.written) r (λ i is. (have_fates seat before.present i index number frames eight is).0) joins leaves,
+        step_part before after seat event eight (λ (b : FrameBooks). b.discarded) r (λ i is. (have_fates seat before.present i index number frames eight is).1) joins leaves,
       )
-  follows (Failed place number partner) step r joins leaves = quiet (news.Failed place number partner) r joins leaves
+  follows (Failed index number partner) step r joins leaves = quiet (news.Failed index number partner) r joins leaves
   follows (OutputTurn output written discarded failed) step r joins leaves =
       let event : Event = OutputTurn output written discarded failed in (
         (written_rise before after seat event eight r joins leaves, discarded_rise before after seat event eight r joins leaves),
@@ -181,5 +181,5 @@ news_stay before after (news.Comes client) follow = follow
 news_stay before after (news.Goes client) follow = follow
 news_stay before after news.AsksToScan follow = follow
 news_stay before after (news.Scanned songs second) follow = follow
-news_stay before after (news.Wants place owes) follow = follow
-news_stay before after (news.Failed place number partner) follow = follow
+news_stay before after (news.Wants index owes) follow = follow
+news_stay before after (news.Failed index number partner) follow = follow

@@ -16,7 +16,7 @@ use Rattle.partition.specs.Image.{Image, overview}
 use Rattle.partition.specs.Lent.{Records}
 use Rattle.player_state.specs.Outputs.{FrameBooks}
 use Rattle.player_events.specs.Events.{with_store_reply}
-use Rattle.partition.specs.Step.{place_at, sender_in, transition}
+use Rattle.partition.specs.Step.{index_at, sender_in, transition}
 use Rattle.held_player.specs.Views.{IsUnchangedOrFolded, IsUnwritten, Stops}
 use Rattle.counted_player.proofs.Booked.{HasEight, all_stay}
 use Rattle.counted_player.proofs.Frameless.{is_frameless, line_frameless}
@@ -26,7 +26,7 @@ use Rattle.counted_player.proofs.ListEntries.{room_keeps}
 pub lines_frameless : (i : Image) (client : ℕ) (request : Request) (heard : StoreReply) → is_frameless (transition i (Line client Alone request heard)).effect ≡ true
 lines_frameless i client request heard =
     let line : Event = Line client Alone request heard in
-    line_frameless (overview i) (part_at (place_at i line) i.parts) i.shared.library (sender_in i.clients line) client Alone request heard
+    line_frameless (overview i) (part_at (index_at i line) i.parts) i.shared.library (sender_in i.clients line) client Alone request heard
 
 module _ {S : Type 0} (standing : S → Standing) (failed : S → S → Call → Type 0) (before after : Chronicle) (old new : S) (seat : ℕ) (event : Event) (r : Result OutcomeData PartitionFault) where
   abbrev pub Joined : Type 0

@@ -11,8 +11,8 @@ AreFor names b =
 
 -- the names of these blanks
 abbrev pub names_in : Blanks → ℕ → ℕ
-names_in b place =
-    slice_index_or (b.first.name ∷ b.second.name ∷ b.third.name ∷ b.fourth.name ∷ b.frames.decoded.name ∷ b.frames.written.name ∷ b.frames.discarded.name ∷ []) place 0
+names_in b index =
+    slice_index_or (b.first.name ∷ b.second.name ∷ b.third.name ∷ b.fourth.name ∷ b.frames.decoded.name ∷ b.frames.written.name ∷ b.frames.discarded.name ∷ []) index 0
 
 -- blanks of four seats have one part each
 abbrev pub HasSeatsOfOnePart : Blanks → Type 0

@@ -14,8 +14,8 @@ event_of (news.Comes client) = Connect client
 event_of (news.Goes client) = Disconnect client
 event_of news.AsksToScan = ScanQuestion
 event_of (news.Scanned songs second) = ScanResult songs second
-event_of (news.Wants place owes) = Want place owes
-event_of (news.Failed place number partner) = Failed place number partner
+event_of (news.Wants index owes) = Want index owes
+event_of (news.Failed index number partner) = Failed index number partner
 
 -- the client that goes at an event, if one goes
 abbrev pub gone_at : Event → Option ℕ

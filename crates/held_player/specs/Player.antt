@@ -30,7 +30,7 @@ KeepsFrames before after = after.present.shared.books ≡ before.present.shared.
 -- What an event brings to the books: the decoder's is of frames decoded, an output's turn of frames written and
 -- discarded, and no other brings any.
 abbrev pub Brings : Event → FrameBooks → FrameBooks → Type 0
-Brings (Have place number frames) old new = (sum old.decoded ≤ sum new.decoded) × (new.written ≡ old.written) × (new.discarded ≡ old.discarded)
+Brings (Have index number frames) old new = (sum old.decoded ≤ sum new.decoded) × (new.written ≡ old.written) × (new.discarded ≡ old.discarded)
 Brings (OutputTurn output written discarded failed) old new = CountsOn old new × (new.decoded ≡ old.decoded)
 Brings _ old new = new ≡ old
 

@@ -164,16 +164,16 @@ RefusesSomewhere seat event fault = (past : Chronicle) × MayFind seat past × I
 -- what the player of one thread tells of frames that were decoded, and that the share of decoded frames grows
 -- by what all outputs are given
 abbrev pub FeedsSomewhere : SeatCount → ℕ → ℕ → ℕ → OutcomeData → ℕ → ℕ → Type 0
-FeedsSomewhere seat place number frames told_of share_before share_after =
-    (past : Chronicle) × MayFind seat past × (told_of ≡ told past.present (Have place number frames))
-    × (share_after + sum past.present.shared.books.decoded ≡ share_before + sum (next_image seat.number past.present (Have place number frames)).shared.books.decoded)
+FeedsSomewhere seat index number frames told_of share_before share_after =
+    (past : Chronicle) × MayFind seat past × (told_of ≡ told past.present (Have index number frames))
+    × (share_after + sum past.present.shared.books.decoded ≡ share_before + sum (next_image seat.number past.present (Have index number frames)).shared.books.decoded)
 
 abbrev pub FeedsShare : SeatCount → ℕ → ℕ → ℕ → ℕ → ℕ → OutcomeData → Type 0
-FeedsShare seat place number frames share_before share_after told = FeedsSomewhere seat place number frames told share_before share_after
+FeedsShare seat index number frames share_before share_after told = FeedsSomewhere seat index number frames told share_before share_after
 
 -- the same of the share itself
 abbrev pub Feeds : {D : Type 0} → SeatCount → ℕ → ℕ → ℕ → Share D → Share D → OutcomeData → Type 0
-Feeds seat place number frames old new told = FeedsShare seat place number frames old.amount new.amount told
+Feeds seat index number frames old new told = FeedsShare seat index number frames old.amount new.amount told
 
 module _ {S : Type 0} (standing : S → Standing) (failed : S → S → Call → Type 0) where
   -- What an event leaves that was refused: before it was begun, for want of memory, all is as it was; else

@@ -34,8 +34,8 @@ impl News {
             News::Goes(client) => Event::Disconnect(client),
             News::AsksToScan => Event::ScanQuestion,
             News::Scanned(songs, second) => Event::ScanResult(songs, second),
-            News::Wants(place, owes) => Event::Want(place, owes),
-            News::Failed(place, number, partner) => Event::Failed(place, number, partner),
+            News::Wants(index, owes) => Event::Want(index, owes),
+            News::Failed(index, number, partner) => Event::Failed(index, number, partner),
         }
     }
 }

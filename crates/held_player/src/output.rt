@@ -34,7 +34,7 @@ impl<L: Ledgers> Held<L> {
     pub fn have(
         &mut self,
         seat: &mut Seat<L>,
-        place: u8,
+        index: u8,
         number: u64,
         frames: u64,
         share: &mut Share<Decoded<L>>,
@@ -42,9 +42,9 @@ impl<L: Ledgers> Held<L> {
         requires { 0 < share.old.parts }
         ensures found { IsCounted seat.old self.old.player }
         ensures legal { IsPast self.old.player }
-        ensures told { IfOk result (IsToldAs self.old (Have place number frames)) }
-        ensures player { IfOk result (JoinsFed self.old self.new seat.old (Have place number frames)) }
-        ensures within { OnOk result (IsWithinLimits self.old seat.old (Have place number frames)) }
+        ensures told { IfOk result (IsToldAs self.old (Have index number frames)) }
+        ensures player { IfOk result (JoinsFed self.old self.new seat.old (Have index number frames)) }
+        ensures within { OnOk result (IsWithinLimits self.old seat.old (Have index number frames)) }
         ensures waiting { IfOk result (λ told. self.new.waiting ≡ self.old.waiting ++ told.notices) }
         ensures kept { OnErr result (self.new.waiting ≡ self.old.waiting) }
         ensures made { OnOk result (seat.new ≡ after_events seat.old 1) }
@@ -56,12 +56,12 @@ impl<L: Ledgers> Held<L> {
         ensures share { GrowsAsDecoded share.old.amount share.new.amount self.old.books self.new.books }
         ensures parts { share.new.parts ≡ share.old.parts }
         ensures same { OnErr result ((self.new.books ≡ self.old.books) × (share.new ≡ share.old)) }
-        ensures refused { IfErr result (IsEventRefused self.old seat.old (Have place number frames)) }
+        ensures refused { IfErr result (IsEventRefused self.old seat.old (Have index number frames)) }
         ensures unchanged { OnErr result (IsUnchangedOrFolded self.old.player self.new.player) }
     {
         let told = self
             .core
-            .take_step(seat, Event::Have(place, number, frames))?;
+            .take_step(seat, Event::Have(index, number, frames))?;
         let decoded = self.core.counted.decoded();
         self.books.decoded.raise_to(share, &decoded);
         Ok(told)

@@ -11,7 +11,7 @@ ghost use Rattle.held_player.specs.News.{event_of};
 ghost use Rattle.held_player.specs.Player.{LeavesShelf};
 ghost use Rattle.counted_player.specs.Seats.{IsUnused, after_events};
 ghost use Rattle.held_player.specs.Settling.{ClosesBooks};
-ghost use Rattle.counted_player.specs.Counts.{ArePlacesSomewhere, HasScanSomewhere, IsFresh};
+ghost use Rattle.counted_player.specs.Counts.{ArePresentPartitionsSomewhere, HasScanSomewhere, IsFresh};
 ghost use Rattle.counted_player.specs.Counts.{IsByPlaying, IsSongSomewhere, has_scan};
 ghost use Rattle.held_player.specs.Views.{AnswersCaller, Feeds, RefusesSomewhere, StopsCaller};
 ghost use Rattle.held_player.specs.Views.{TellsSomewhere, turn_of};
@@ -205,20 +205,20 @@ impl<L: Ledgers> House<L> {
         &self,
         rt: &impl Wait,
         seat: &mut Seat<L>,
-        place: u8,
+        index: u8,
         number: u64,
         frames: u64,
         share: &mut Share<Decoded<L>>,
     ) -> Result<Reported, PartitionFault>
         requires { 0 < share.old.parts }
         ensures made { OnOk result (seat.new ≡ after_events seat.old 1) }
-        ensures refused { IfErr result (RefusesSomewhere seat.old (Have place number frames)) }
-        ensures somewhere { IfOk result (Feeds seat.old place number frames share.old share.new) }
+        ensures refused { IfErr result (RefusesSomewhere seat.old (Have index number frames)) }
+        ensures somewhere { IfOk result (Feeds seat.old index number frames share.old share.new) }
         ensures parts { share.new.parts ≡ share.old.parts }
         ensures fault { OnErr result ((seat.new ≡ seat.old) × (share.new ≡ share.old)) }
     {
         let (mut held, before) = self.take(rt);
-        let told = held.have(seat, place, number, frames, share);
+        let told = held.have(seat, index, number, frames, share);
         self.leave(held, before);
         told
     }
@@ -291,10 +291,10 @@ impl<L: Ledgers> House<L> {
     ///
     /// A hint: the answer may be older than what the caller did since. Each partition is then asked for a job
     /// by an event, which is answered of the present.
-    pub fn places(&self, rt: &impl Wait) -> [bool; 16]
-        ensures { ArePlacesSomewhere result }
+    pub fn present_partitions(&self, rt: &impl Wait) -> [bool; 16]
+        ensures { ArePresentPartitionsSomewhere result }
     {
-        self.lock(rt).player().places()
+        self.lock(rt).player().present_partitions()
     }
 
     /// The song of the entry that has this id in the present queue of the partition of a number. It is no
@@ -302,10 +302,10 @@ impl<L: Ledgers> House<L> {
     ///
     /// A hint: the answer may be older than what the caller did since. But an id is given once, so that an
     /// older answer names the same song, or none.
-    pub fn song(&self, rt: &impl Wait, place: u8, id: u32) -> Result<Option<SharedSong>, AllocError>
-        ensures { IfOk result (IsSongSomewhere place id) }
+    pub fn song(&self, rt: &impl Wait, index: u8, id: u32) -> Result<Option<SharedSong>, AllocError>
+        ensures { IfOk result (IsSongSomewhere index id) }
     {
-        self.lock(rt).player().song(place, id)
+        self.lock(rt).player().song(index, id)
     }
 
     /// Whether the daemon has ended. It is no event.

@@ -11,7 +11,7 @@ use std::thread;
 use std::thread::Threads;
 use std::time::Clock;
 use test_houses::{adds_a_song, comes};
-use test_texts::Told;
+use test_texts::Recorder;
 
 /// A client comes, and adds a song a hundred times.
 fn adds<L: Ledgers>(
@@ -80,16 +80,16 @@ pub(crate) fn race<L: Ledgers + Send + Sync, R: Threads + Wait + Clock + Sync>(
     rt: &R,
     alloc: Global,
     house: &House<L>,
-    told: &mut Told,
+    recorder: &mut Recorder,
 ) {
     match both_add(rt, alloc, house) {
-        Ok((first, second)) => told.add(format_args!("events made: {first} and {second}\n")),
-        Err(_) => told.fail(),
+        Ok((first, second)) => recorder.add(format_args!("events made: {first} and {second}\n")),
+        Err(_) => recorder.fail(),
     }
-    alone(rt, alloc, house, "comes 3\n3 status", told);
+    alone(rt, alloc, house, "comes 3\n3 status", recorder);
     let fourth = house.seat(rt).is_ok();
     let fifth = house.seat(rt).is_ok();
-    told.add(format_args!("a fourth seat: {fourth}, a fifth: {fifth}\n"));
+    recorder.add(format_args!("a fourth seat: {fourth}, a fifth: {fifth}\n"));
 }
 
 /// What is told of them.

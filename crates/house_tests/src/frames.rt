@@ -16,7 +16,7 @@ use std::alloc::{AllocError, Global};
 use std::sync::Wait;
 use std::sync::ledger::Share;
 use std::time::Clock;
-use test_texts::Told;
+use test_texts::Recorder;
 
 /// A song plays, and the decoder wants a job.
 const STEPS: &str = "comes 1
@@ -30,13 +30,13 @@ fn has<L: Ledgers>(
     house: &House<L>,
     seat: &mut Seat<L>,
     share: &mut Share<Decoded<L>>,
-    told: &mut Told,
+    recorder: &mut Recorder,
 )
     requires { 0 < share.old.parts }
     ensures { share.new.parts ≡ share.old.parts }
 {
     let reported = house.have(rt, seat, 0, 1, 1024, share);
-    add_report(&reported, told);
+    add_report(&reported, recorder);
 }
 
 /// An output has its turn.
@@ -47,13 +47,13 @@ fn turns<L: Ledgers>(
     shares: &mut OutputShares<Written<L>, Discarded<L>>,
     output: usize,
     fates: Fates,
-    told: &mut Told,
+    recorder: &mut Recorder,
 )
     requires { (0 < shares.old.written.parts) × (0 < shares.old.discarded.parts) }
     ensures { KeepsParts shares.old shares.new }
 {
     let reported = house.turn(rt, seat, output, fates, false, shares);
-    add_report(&reported, told);
+    add_report(&reported, recorder);
 }
 
 /// Fills the hand and writes it out at a cut.
@@ -81,7 +81,7 @@ fn writes_twice<L: Ledgers>(
     seat: &mut Seat<L>,
     shares: &mut OutputShares<Written<L>, Discarded<L>>,
     drainer: &mut Drainer,
-    told: &mut Told,
+    recorder: &mut Recorder,
 )
     requires { (0 < shares.old.written.parts) × (0 < shares.old.discarded.parts) }
     ensures parts { KeepsParts shares.old shares.new }
@@ -89,19 +89,19 @@ fn writes_twice<L: Ledgers>(
 {
     let mut out = FailAt::new(Vec::new(alloc), FailurePoint::Never);
     writes_out(drainer, &mut out, 1);
-    turns(rt, house, seat, shares, 0, drainer.fates(), told);
+    turns(rt, house, seat, shares, 0, drainer.fates(), recorder);
     drainer.reported();
     writes_out(drainer, &mut out, 2);
 }
 
 /// The ends of a ring of which 512 frames were written and told of, and 512 more were discarded since.
-fn ends_told<L: Ledgers>(
+fn ends_observed<L: Ledgers>(
     rt: &impl Wait,
     alloc: Global,
     house: &House<L>,
     seat: &mut Seat<L>,
     shares: &mut OutputShares<Written<L>, Discarded<L>>,
-    told: &mut Told,
+    recorder: &mut Recorder,
 ) -> Result<EndedRing, PartitionFault>
     requires { (0 < shares.old.written.parts) × (0 < shares.old.discarded.parts) }
     ensures { KeepsParts shares.old shares.new }
@@ -115,7 +115,7 @@ fn ends_told<L: Ledgers>(
         },
     );
     let _pushed = feeder.push();
-    writes_twice(rt, alloc, house, seat, shares, &mut drainer, told);
+    writes_twice(rt, alloc, house, seat, shares, &mut drainer, recorder);
     Ok(EndedRing {
         end: feeder.finish(),
         drainer,
@@ -143,14 +143,14 @@ fn two_rings<L: Ledgers>(
 }
 
 /// Adds what outputs are settled with: of each its frames decoded, written, discarded and left.
-fn add_settled<L: Ledgers>(settlements: &[Settlement<L>], told: &mut Told) {
+fn add_settled<L: Ledgers>(settlements: &[Settlement<L>], recorder: &mut Recorder) {
     for settlement in settlements {
         match &settlement.result {
-            Ok(s) => told.add(format_args!(
+            Ok(s) => recorder.add(format_args!(
                 "decoded {}, written {}, discarded {}, left {}\n",
                 s.decoded, s.written, s.discarded, s.left
             )),
-            Err(_) => told.add("not settled\n"),
+            Err(_) => recorder.add("not settled\n"),
         }
     }
 }
@@ -162,16 +162,16 @@ fn settles<L: Ledgers>(
     house: &House<L>,
     shares: CrewShares<L>,
     first: EndedRing,
-    told: &mut Told,
+    recorder: &mut Recorder,
 )
     requires { HasAllParts shares.decoded.parts shares.outputs }
 {
     let Ok((rings, room)) = two_rings::<L>(alloc, first) else {
-        told.fail();
+        recorder.fail();
         return;
     };
     let settlements = house.settle_all(rt, shares, rings, room);
-    add_settled(&settlements, told);
+    add_settled(&settlements, recorder);
 }
 
 /// A song plays, and its first frames are decoded once.
@@ -181,14 +181,14 @@ fn decoded<L: Ledgers, R: Wait + Clock>(
     house: &House<L>,
     seat: &mut Seat<L>,
     share: &mut Share<Decoded<L>>,
-    told: &mut Told,
+    recorder: &mut Recorder,
 )
     requires { 0 < share.old.parts }
     ensures { share.new.parts ≡ share.old.parts }
 {
-    session(rt, alloc, house, seat, STEPS, told);
-    has(rt, house, seat, share, told);
-    has(rt, house, seat, share, told);
+    session(rt, alloc, house, seat, STEPS, recorder);
+    has(rt, house, seat, share, recorder);
+    has(rt, house, seat, share, recorder);
 }
 
 const NOTHING: Fates = Fates {
@@ -203,14 +203,14 @@ fn written<L: Ledgers>(
     house: &House<L>,
     seat: &mut Seat<L>,
     shares: &mut OutputShares<Written<L>, Discarded<L>>,
-    told: &mut Told,
+    recorder: &mut Recorder,
 ) -> Result<EndedRing, PartitionFault>
     requires { (0 < shares.old.written.parts) × (0 < shares.old.discarded.parts) }
     ensures { KeepsParts shares.old shares.new }
 {
-    turns(rt, house, seat, shares, 5, NOTHING, told);
-    turns(rt, house, seat, shares, 0, NOTHING, told);
-    ends_told(rt, alloc, house, seat, shares, told)
+    turns(rt, house, seat, shares, 5, NOTHING, recorder);
+    turns(rt, house, seat, shares, 0, NOTHING, recorder);
+    ends_observed(rt, alloc, house, seat, shares, recorder)
 }
 
 /// A song is decoded and two outputs have their turns. The ends of the first one's ring.
@@ -219,14 +219,14 @@ fn plays<L: Ledgers, R: Wait + Clock>(
     alloc: Global,
     house: &House<L>,
     shares: &mut CrewShares<L>,
-    told: &mut Told,
+    recorder: &mut Recorder,
 ) -> Result<EndedRing, PartitionFault>
     requires { HasAllParts shares.old.decoded.parts shares.old.outputs }
     ensures { HasAllParts shares.new.decoded.parts shares.new.outputs }
 {
     let mut seat = seat_of(rt, house)?;
-    decoded(rt, alloc, house, &mut seat, &mut shares.decoded, told);
-    written(rt, alloc, house, &mut seat, &mut shares.outputs, told)
+    decoded(rt, alloc, house, &mut seat, &mut shares.decoded, recorder);
+    written(rt, alloc, house, &mut seat, &mut shares.outputs, recorder)
 }
 
 /// Adds what is told of frames, and what the outputs are settled with.
@@ -235,14 +235,14 @@ pub(crate) fn frames<L: Ledgers, R: Wait + Clock>(
     alloc: Global,
     house: &House<L>,
     shares: CrewShares<L>,
-    told: &mut Told,
+    recorder: &mut Recorder,
 )
     requires { HasAllParts shares.decoded.parts shares.outputs }
 {
     let mut shares = shares;
-    match plays(rt, alloc, house, &mut shares, told) {
-        Ok(first) => settles(rt, alloc, house, shares, first, told),
-        Err(_) => told.fail(),
+    match plays(rt, alloc, house, &mut shares, recorder) {
+        Ok(first) => settles(rt, alloc, house, shares, first, recorder),
+        Err(_) => recorder.fail(),
     }
 }
 

@@ -8,7 +8,7 @@ use std::sync::atomic::{AtomicU32, Ordering};
 use std::thread;
 use std::thread::Threads;
 use test_houses::{comes, hears, says};
-use test_texts::Told;
+use test_texts::Recorder;
 
 /// How many notices came from the outbox and how many in front of an answer, and how many more than one a
 /// change.
@@ -155,10 +155,10 @@ pub(crate) fn race<L: Ledgers + Send + Sync, R: Threads + Wait + Sync>(
     rt: &R,
     alloc: Global,
     house: &House<L>,
-    told: &mut Told,
+    recorder: &mut Recorder,
 ) {
     let (Ok(one), Ok(two)) = (seat_of(rt, house), seat_of(rt, house)) else {
-        told.fail();
+        recorder.fail();
         return;
     };
     let counts = Counts {
@@ -168,9 +168,9 @@ pub(crate) fn race<L: Ledgers + Send + Sync, R: Threads + Wait + Sync>(
     };
     let (notices, went_well) = meet(rt, house, one, two, &counts);
     if !went_well {
-        told.fail();
+        recorder.fail();
     }
-    told.add(format_args!(
+    recorder.add(format_args!(
         "by the outbox {}, in front {}, again {}\n",
         notices.by_outbox, notices.in_front, notices.again
     ));

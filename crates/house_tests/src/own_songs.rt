@@ -8,7 +8,7 @@ use std::sync::Wait;
 use std::thread;
 use std::thread::Threads;
 use test_houses::{comes, hears};
-use test_texts::Told;
+use test_texts::Recorder;
 
 /// How often a thread found its own song by the id that it was given, and these ids.
 #[derive(Drop)]
@@ -161,16 +161,16 @@ pub(crate) fn race<L: Ledgers + Send + Sync, R: Threads + Wait + Sync>(
     alloc: Global,
     house: &House<L>,
     in_list: bool,
-    told: &mut Told,
+    recorder: &mut Recorder,
 ) {
     let (Ok(one), Ok(two)) = (seat_of(rt, house), seat_of(rt, house)) else {
-        told.fail();
+        recorder.fail();
         return;
     };
     let (one, two) = look_up_at_once(rt, alloc, house, one, two, in_list);
     let once = given_once(&one.ids, &two.ids);
     let (ones, twos) = (one.times, two.times);
-    told.add(format_args!("found {ones} and {twos}, given once {once}\n"));
+    recorder.add(format_args!("found {ones} and {twos}, given once {once}\n"));
 }
 
 /// What is told of them.

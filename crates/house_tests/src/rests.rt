@@ -11,7 +11,7 @@ use std::thread;
 use std::thread::Threads;
 use std::time::{Clock, Duration};
 use test_houses::says;
-use test_texts::Told;
+use test_texts::Recorder;
 
 /// Two clients come, of whom the first waits for another volume than the one that is set at once, and the
 /// second has two songs played.
@@ -91,7 +91,7 @@ fn woken<L: Ledgers + Send + Sync, R: Threads + Wait + Clock + Sync>(
     house: &House<L>,
     waited: Waited,
     line: &str,
-    told: &mut Told,
+    recorder: &mut Recorder,
 ) {
     let number = AtomicU32::new(0);
     let begun = &number;
@@ -105,10 +105,10 @@ fn woken<L: Ledgers + Send + Sync, R: Threads + Wait + Clock + Sync>(
         },
     );
     if !acted {
-        told.fail();
+        recorder.fail();
     }
     let waits = house.outbox(rt, 1).is_some();
-    told.add(format_args!("{line}: {is_there} {waits}\n"));
+    recorder.add(format_args!("{line}: {is_there} {waits}\n"));
 }
 
 /// Waits for each change, notice or scan in turn. The first client waits for another volume.
@@ -117,18 +117,18 @@ fn wakings<L: Ledgers + Send + Sync, R: Threads + Wait + Clock + Sync>(
     alloc: Global,
     house: &House<L>,
     seat: &mut Seat<L>,
-    told: &mut Told,
+    recorder: &mut Recorder,
 ) {
-    session(rt, alloc, house, seat, "1 idle mixer", told);
+    session(rt, alloc, house, seat, "1 idle mixer", recorder);
     for wait in WAITS.lines() {
         let (what, line) = wait.split_once(": ").unwrap_or((wait, ""));
-        let count = changes(rt, house, seat, told);
+        let count = changes(rt, house, seat, recorder);
         let waited = match what {
             "a change" => Waited::Change(count),
             "a scan" => Waited::Scan,
             _ => Waited::Notice,
         };
-        woken(rt, alloc, house, waited, line, told);
+        woken(rt, alloc, house, waited, line, recorder);
     }
 }
 
@@ -138,17 +138,17 @@ pub(crate) fn rests<L: Ledgers + Send + Sync, R: Threads + Wait + Clock + Sync>(
     alloc: Global,
     house: &House<L>,
     on_threads: bool,
-    told: &mut Told,
+    recorder: &mut Recorder,
 ) {
     let Ok(mut seat) = seat_of(rt, house) else {
-        told.fail();
+        recorder.fail();
         return;
     };
-    session(rt, alloc, house, &mut seat, BEGINS, told);
+    session(rt, alloc, house, &mut seat, BEGINS, recorder);
     if on_threads {
-        wakings(rt, alloc, house, &mut seat, told);
+        wakings(rt, alloc, house, &mut seat, recorder);
     } else {
-        session(rt, alloc, house, &mut seat, SEEN, told);
+        session(rt, alloc, house, &mut seat, SEEN, recorder);
     }
 }
 

@@ -16,7 +16,7 @@ use std::test::Fail;
 use std::thread::Threads;
 use std::time::Clock;
 use test_houses::opened;
-use test_texts::{Told, wants};
+use test_texts::{Recorder, wants};
 
 /// What is done in a house.
 #[derive(Clone, Copy)]
@@ -54,11 +54,11 @@ pub(crate) fn alone<L: Ledgers, R: Wait + Clock>(
     alloc: Global,
     house: &House<L>,
     steps: &str,
-    told: &mut Told,
+    recorder: &mut Recorder,
 ) {
     match seat_of(rt, house) {
-        Ok(mut seat) => session(rt, alloc, house, &mut seat, steps, told),
-        Err(_) => told.fail(),
+        Ok(mut seat) => session(rt, alloc, house, &mut seat, steps, recorder),
+        Err(_) => recorder.fail(),
     }
 }
 
@@ -68,14 +68,14 @@ fn without_frames<L: Ledgers + Send + Sync, R: Threads + Wait + Clock + Sync>(
     alloc: Global,
     house: &House<L>,
     which: Day,
-    told: &mut Told,
+    recorder: &mut Recorder,
 ) {
     match which {
-        Day::Callers => callers::race(rt, alloc, house, told),
-        Day::Notices => notices::race(rt, alloc, house, told),
-        Day::OwnSongs(in_list) => own_songs::race(rt, alloc, house, in_list, told),
-        Day::Rests(on_threads) => rests::rests(rt, alloc, house, on_threads, told),
-        _ => alone(rt, alloc, house, days::STEPS, told),
+        Day::Callers => callers::race(rt, alloc, house, recorder),
+        Day::Notices => notices::race(rt, alloc, house, recorder),
+        Day::OwnSongs(in_list) => own_songs::race(rt, alloc, house, in_list, recorder),
+        Day::Rests(on_threads) => rests::rests(rt, alloc, house, on_threads, recorder),
+        _ => alone(rt, alloc, house, days::STEPS, recorder),
     }
 }
 
@@ -86,13 +86,13 @@ fn day_of<L: Ledgers + Send + Sync, R: Threads + Wait + Clock + Sync>(
     house: &House<L>,
     shares: CrewShares<L>,
     which: Day,
-    told: &mut Told,
+    recorder: &mut Recorder,
 )
     requires { HasAllParts shares.decoded.parts shares.outputs }
 {
     match which {
-        Day::Frames => frames::frames(rt, alloc, house, shares, told),
-        _ => without_frames(rt, alloc, house, which, told),
+        Day::Frames => frames::frames(rt, alloc, house, shares, recorder),
+        _ => without_frames(rt, alloc, house, which, recorder),
     }
 }
 
@@ -103,27 +103,27 @@ fn evening<L: Ledgers + Send + Sync, R: Threads + Wait + Clock + Sync>(
     blanks: Blanks,
     history: u32,
     which: Day,
-    told: &mut Told,
+    recorder: &mut Recorder,
 )
     requires blanks { AreFor L.names blanks }
 {
     let Ok((house, shares)) = opened::<L>(alloc, blanks, history) else {
-        told.fail();
+        recorder.fail();
         return;
     };
-    day_of(rt, alloc, &house, shares, which, told);
+    day_of(rt, alloc, &house, shares, which, recorder);
 }
 
 /// What is told of a day in a house over two songs, whose window has at most so many events.
-pub(crate) fn told<R: Threads + Wait + Clock + Sync>(
+pub(crate) fn observed<R: Threads + Wait + Clock + Sync>(
     rt: &R,
     alloc: Global,
     history: u32,
     which: Day,
 ) -> Result<String, AllocError> {
-    let mut told = Told::new(alloc);
-    evening::<Brand, R>(rt, alloc, Blanks::new(), history, which, &mut told);
-    told.into_text()
+    let mut observed = Recorder::new(alloc);
+    evening::<Brand, R>(rt, alloc, Blanks::new(), history, which, &mut observed);
+    observed.into_text()
 }
 
 /// The days, the most events of their windows, and what is told of each. A test costs a proof of all that it is
@@ -142,9 +142,9 @@ const DAYS: &[(Day, u32, &str)] = &[
 ];
 
 #[test]
-fn days_tell_what_is_wanted(rt: HostRuntime) -> Result<(), Fail> {
-    for (day, history, wanted) in DAYS {
-        wants(told(&rt, rt.alloc(), *history, *day), wanted)?;
+fn days_tell_what_is_expected(rt: HostRuntime) -> Result<(), Fail> {
+    for (day, history, expected) in DAYS {
+        wants(observed(&rt, rt.alloc(), *history, *day), expected)?;
     }
     Ok(())
 }

@@ -2,7 +2,7 @@
 //!
 //! A session is a text with a step in each line, and adds what is heard or seen at each. So few functions
 //! hold a house and a seat.
-use crate::reports::add_told;
+use crate::reports::add_observed;
 use counted_player::{Ledgers, Seat};
 use held_player::{News, Reported};
 use house::House;
@@ -12,7 +12,7 @@ use std::alloc::Global;
 use std::sync::Wait;
 use std::time::{Clock, Duration};
 use test_houses::{comes, hears, says};
-use test_texts::Told;
+use test_texts::Recorder;
 
 /// The news of a step, if it is one: a client comes or goes, a scanner asks for a scan or has found nothing, or
 /// the decoder wants a job.
@@ -28,13 +28,13 @@ fn news_of(word: &str, client: u32) -> Option<News> {
 }
 
 /// Adds what a client is told that came or went, and what is told to a part of the daemon.
-pub(crate) fn add_report(reported: &Result<Reported, PartitionFault>, told: &mut Told) {
+pub(crate) fn add_report(reported: &Result<Reported, PartitionFault>, recorder: &mut Recorder) {
     match reported {
         Ok(reported) => {
-            told.add(reported.reply().text());
-            add_told(reported.report(), told);
+            recorder.add(reported.reply().text());
+            add_observed(reported.report(), recorder);
         }
-        Err(_) => told.fail(),
+        Err(_) => recorder.fail(),
     }
 }
 
@@ -46,10 +46,10 @@ fn says_line<L: Ledgers>(
     seat: &mut Seat<L>,
     line: &str,
     in_list: bool,
-    told: &mut Told,
+    recorder: &mut Recorder,
 ) {
     let (client, line) = first_word(line);
-    told.add_made(hears(rt, alloc, house, seat, number_of(client), line, in_list));
+    recorder.add_made(hears(rt, alloc, house, seat, number_of(client), line, in_list));
 }
 
 /// The clients of two numbers and all between come and wait. Nothing is added.
@@ -59,15 +59,15 @@ fn crowds<L: Ledgers>(
     house: &House<L>,
     seat: &mut Seat<L>,
     numbers: &str,
-    told: &mut Told,
+    recorder: &mut Recorder,
 ) {
     let (first, last) = first_word(numbers);
     for client in number_of(first)..=number_of(last) {
         if comes(rt, house, seat, client).is_err() {
-            told.fail();
+            recorder.fail();
         }
         if says(rt, alloc, house, seat, client, "idle").is_err() {
-            told.fail();
+            recorder.fail();
         }
     }
 }
@@ -77,12 +77,12 @@ pub(crate) fn changes<L: Ledgers>(
     rt: &impl Wait,
     house: &House<L>,
     seat: &mut Seat<L>,
-    told: &mut Told,
+    recorder: &mut Recorder,
 ) -> u64 {
     match house.notice(rt, seat, News::AsksToScan) {
         Ok(reported) => reported.changes(),
         Err(_) => {
-            told.fail();
+            recorder.fail();
             0
         }
     }
@@ -95,33 +95,38 @@ fn rests<L: Ledgers, R: Wait + Clock>(
     house: &House<L>,
     seat: &mut Seat<L>,
     line: &str,
-    told: &mut Told,
+    recorder: &mut Recorder,
 ) {
-    let before = changes(rt, house, seat, told);
+    let before = changes(rt, house, seat, recorder);
     if says(rt, alloc, house, seat, 2, line).is_err() {
-        told.fail();
+        recorder.fail();
     }
     let most = Duration::from_millis(1);
     let is_seen = house.rest(rt, before, most, most) != before;
-    told.add(format_args!("{line}: {is_seen}\n"));
+    recorder.add(format_args!("{line}: {is_seen}\n"));
 }
 
 /// Adds for how many clients notices wait, and for whom the first does; 0 is nobody.
-fn add_addressees<L: Ledgers>(rt: &impl Wait, alloc: Global, house: &House<L>, told: &mut Told) {
+fn add_addressees<L: Ledgers>(
+    rt: &impl Wait,
+    alloc: Global,
+    house: &House<L>,
+    recorder: &mut Recorder,
+) {
     let Ok(clients) = house.addressees(rt, alloc) else {
-        told.fail();
+        recorder.fail();
         return;
     };
     let (count, first) = (clients.len(), clients.first().copied().unwrap_or(0));
-    told.add(format_args!("notices for {count}, the first is {first}\n"));
+    recorder.add(format_args!("notices for {count}, the first is {first}\n"));
 }
 
 /// Adds the URI of the song that an entry of the queue has.
-fn add_song<L: Ledgers>(rt: &impl Wait, house: &House<L>, id: u32, told: &mut Told) {
+fn add_song<L: Ledgers>(rt: &impl Wait, house: &House<L>, id: u32, recorder: &mut Recorder) {
     match house.song(rt, 0, id) {
-        Ok(Some(song)) => told.add(format_args!("{}\n", song.song().uri())),
-        Ok(None) => told.add("no song\n"),
-        Err(_) => told.fail(),
+        Ok(Some(song)) => recorder.add(format_args!("{}\n", song.song().uri())),
+        Ok(None) => recorder.add("no song\n"),
+        Err(_) => recorder.fail(),
     }
 }
 
@@ -138,16 +143,16 @@ fn shows<L: Ledgers, R: Wait + Clock>(
     alloc: Global,
     house: &House<L>,
     what: &str,
-    told: &mut Told,
+    recorder: &mut Recorder,
 ) {
     let (what, number) = first_word(what);
     match what {
-        "notices" => add_addressees(rt, alloc, house, told),
-        "song" => add_song(rt, house, number_of(number), told),
-        "outbox" => told.add(notice(house.outbox(rt, number_of(number)).is_some())),
-        "end" if house.has_ended(rt) => told.add("ended\n"),
-        "end" => told.add("goes on\n"),
-        _ => told.add(notice(house.await_notice(rt, Duration::from_millis(1)))),
+        "notices" => add_addressees(rt, alloc, house, recorder),
+        "song" => add_song(rt, house, number_of(number), recorder),
+        "outbox" => recorder.add(notice(house.outbox(rt, number_of(number)).is_some())),
+        "end" if house.has_ended(rt) => recorder.add("ended\n"),
+        "end" => recorder.add("goes on\n"),
+        _ => recorder.add(notice(house.await_notice(rt, Duration::from_millis(1)))),
     }
 }
 
@@ -160,21 +165,21 @@ fn acts<L: Ledgers, R: Wait + Clock>(
     house: &House<L>,
     seat: &mut Seat<L>,
     line: &str,
-    told: &mut Told,
+    recorder: &mut Recorder,
 ) {
     let (word, rest) = first_word(line);
     match word {
-        "crowd" => crowds(rt, alloc, house, seat, rest, told),
-        "rest" => rests(rt, alloc, house, seat, rest, told),
-        "list" => says_line(rt, alloc, house, seat, rest, true, told),
+        "crowd" => crowds(rt, alloc, house, seat, rest, recorder),
+        "rest" => rests(rt, alloc, house, seat, rest, recorder),
+        "list" => says_line(rt, alloc, house, seat, rest, true, recorder),
         "ends" => {
             if house.end(rt, seat).is_err() {
-                told.fail();
+                recorder.fail();
             }
         }
-        "made" => told.add(format_args!("events made: {}\n", seat.made())),
-        "show" => shows(rt, alloc, house, rest, told),
-        _ => says_line(rt, alloc, house, seat, line, false, told),
+        "made" => recorder.add(format_args!("events made: {}\n", seat.made())),
+        "show" => shows(rt, alloc, house, rest, recorder),
+        _ => says_line(rt, alloc, house, seat, line, false, recorder),
     }
 }
 
@@ -185,15 +190,15 @@ fn step<L: Ledgers, R: Wait + Clock>(
     house: &House<L>,
     seat: &mut Seat<L>,
     line: &str,
-    told: &mut Told,
+    recorder: &mut Recorder,
 ) {
     let (word, rest) = first_word(line);
     match news_of(word, number_of(rest)) {
         Some(news) => {
             let reported = house.notice(rt, seat, news);
-            add_report(&reported, told);
+            add_report(&reported, recorder);
         }
-        None => acts(rt, alloc, house, seat, line, told),
+        None => acts(rt, alloc, house, seat, line, recorder),
     }
 }
 
@@ -204,9 +209,9 @@ pub(crate) fn session<L: Ledgers, R: Wait + Clock>(
     house: &House<L>,
     seat: &mut Seat<L>,
     steps: &str,
-    told: &mut Told,
+    recorder: &mut Recorder,
 ) {
     for line in steps.lines() {
-        step(rt, alloc, house, seat, line, told);
+        step(rt, alloc, house, seat, line, recorder);
     }
 }

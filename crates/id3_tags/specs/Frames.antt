@@ -98,7 +98,7 @@ synchronised_after last (byte ∷ bytes) = if last == 255 && byte == 0 then sync
 abbrev pub synchronised : List ℕ → List ℕ
 synchronised bytes = synchronised_after 0 bytes
 
--- the bytes of the content from a place on, if there are so many
+-- the bytes of the content from an offset on, if there are so many
 abbrev pub content_from : Bool → Option ℕ → List ℕ → Option (List ℕ)
 content_from unsynchronised None body = None
 content_from unsynchronised (Some before) body =

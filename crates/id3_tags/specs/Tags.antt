@@ -9,16 +9,16 @@ use Rattle.id3_tags.specs.declared.tag.Version.TheVariants.{Two, Three, Four}
 abbrev pub is_set : ℕ → ℕ → Bool
 is_set flags flag = not (bit_and flags flag == 0)
 
--- the number of four digits to a base, from a place on and the highest first
+-- the number of four digits to a base, from an offset on and the highest first
 abbrev pub number_at : ℕ → List ℕ → ℕ → ℕ
 number_at base bytes at = ((slice_index bytes at * base + slice_index bytes (at + 1)) * base + slice_index bytes (at + 2)) * base + slice_index bytes (at + 3)
 
--- whether the highest bit is set in none of the four bytes from a place on
+-- whether the highest bit is set in none of the four bytes from an offset on
 abbrev pub is_syncsafe : List ℕ → ℕ → Bool
 is_syncsafe bytes at = nat_lt (slice_index bytes at) 128 && nat_lt (slice_index bytes (at + 1)) 128 && nat_lt (slice_index bytes (at + 2)) 128
     && nat_lt (slice_index bytes (at + 3)) 128
 
--- the syncsafe number from a place on, of seven bits in each byte
+-- the syncsafe number from an offset on, of seven bits in each byte
 abbrev pub syncsafe_at : List ℕ → ℕ → Option ℕ
 syncsafe_at bytes at = if is_syncsafe bytes at then Some (number_at 128 bytes at) else None
 

@@ -5,7 +5,7 @@ ghost use Rattle.std.specs.Str.{encode_utf8_all};
 ghost use Rattle.id3_tags.specs.Encodings.{encoding_of, utf8_in, characters, after_zero_byte, after_zero_unit, after_empty, counts, text_in};
 ghost use Rattle.id3_tags.specs.Texts.{text_after, content_text};
 
-use crate::tag::from_place;
+use crate::tag::from_offset;
 use crate::utf16::{ByteOrder, after_mark, order_in, utf16_in};
 use mpd_text::{Text, has_no_control, up_to_zero};
 use std::alloc::{AllocError, Global};
@@ -107,7 +107,7 @@ fn after_zero_byte(bytes: &[u8]) -> Option<&[u8]>
         (λ rest. after_zero_byte bytes.now ≡ Some rest.now) }
 {
     if bytes.starts_with(&[0]) {
-        return Some(from_place(bytes, 1));
+        return Some(from_offset(bytes, 1));
     }
     None
 }
@@ -117,7 +117,7 @@ fn after_zero_unit(bytes: &[u8]) -> Option<&[u8]>
         (λ rest. after_zero_unit bytes.now ≡ Some rest.now) }
 {
     if bytes.starts_with(&[0, 0]) {
-        return Some(from_place(bytes, 2));
+        return Some(from_offset(bytes, 2));
     }
     None
 }
@@ -139,7 +139,7 @@ fn after_empty(encoding: Encoding, bytes: &[u8]) -> Option<&[u8]>
 fn comment_in(alloc: Global, encoding: Encoding, bytes: &[u8]) -> Result<Option<Text>, AllocError>
     ensures { IfOk result (λ text. text ≡ text_after Kind.Comment encoding bytes.now) }
 {
-    match after_empty(encoding, from_place(bytes, 3)) {
+    match after_empty(encoding, from_offset(bytes, 3)) {
         Some(rest) => text_in(alloc, encoding, rest),
         None => Ok(None),
     }

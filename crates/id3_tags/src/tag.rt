@@ -27,7 +27,7 @@ pub(crate) fn is_set(flags: u8, flag: u8) -> bool
     flags & flag != 0
 }
 
-/// The number of the four bytes from a place on, the highest first.
+/// The number of the four bytes from an offset on, the highest first.
 pub(crate) fn plain_at(bytes: &[u8], at: usize) -> u32
     requires { at + 4 ≤ length bytes.now }
     ensures { result ≡ number_at 256 bytes.now at }
@@ -36,7 +36,7 @@ pub(crate) fn plain_at(bytes: &[u8], at: usize) -> u32
     (high * 256 + u32::from(bytes[at + 2])) * 256 + u32::from(bytes[at + 3])
 }
 
-/// The number of the four bytes from a place on, of seven bits each, the highest first. There is none where
+/// The number of the four bytes from an offset on, of seven bits each, the highest first. There is none where
 /// the highest bit of a byte is set.
 pub(crate) fn syncsafe_at(bytes: &[u8], at: usize) -> Option<u32>
     requires { at + 4 ≤ length bytes.now }
@@ -83,8 +83,8 @@ fn says_unsynchronised(version: Version, flags: u8) -> bool
     }
 }
 
-/// The bytes from a place on, of which there are none where it is past the end.
-pub(crate) fn from_place(bytes: &[u8], at: usize) -> &[u8]
+/// The bytes from an offset on, of which there are none where it is past the end.
+pub(crate) fn from_offset(bytes: &[u8], at: usize) -> &[u8]
     ensures { result.now ≡ drop at bytes.now }
 {
     &bytes[at.min(bytes.len())..]
@@ -107,14 +107,14 @@ fn after_extended(version: Version, body: &[u8]) -> &[u8]
             if body.len() < 4 {
                 return &[];
             }
-            from_place(body, 4 + plain_at(body, 0) as usize)
+            from_offset(body, 4 + plain_at(body, 0) as usize)
         }
         Version::Four => {
             if body.len() < 4 {
                 return &[];
             }
             match syncsafe_at(body, 0) {
-                Some(size) => from_place(body, size as usize),
+                Some(size) => from_offset(body, size as usize),
                 None => &[],
             }
         }

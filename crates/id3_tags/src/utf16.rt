@@ -4,7 +4,7 @@ ghost use Rattle.std.specs.Option.{option_map};
 ghost use Rattle.std.specs.Str.{encode_utf8_all};
 ghost use Rattle.id3_tags.specs.Encodings.{unit_of, units_in, utf16_in, order_in, after_mark, is_little, is_big};
 
-use crate::tag::from_place;
+use crate::tag::from_offset;
 use mpd_text::Text;
 use std::alloc::{AllocError, Global};
 
@@ -90,7 +90,7 @@ pub(crate) fn after_mark(bytes: &[u8]) -> &[u8]
     ensures { result.now ≡ after_mark bytes.now }
 {
     if is_little(bytes) || is_big(bytes) {
-        return from_place(bytes, 2);
+        return from_offset(bytes, 2);
     }
     bytes
 }

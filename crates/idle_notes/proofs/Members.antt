@@ -7,45 +7,45 @@ use Rattle.std.proofs.lemmas.List.Edits.{map_over_more}
 use Rattle.idle_notes.specs.declared.channels.Member.{Member}
 use Rattle.idle_notes.specs.Channels.{MemberData, data_of, member_of, changed, left}
 
-abbrev pub place : ℕ → List Member → ℕ
-place client members = position_or_len (λ (m : Member). m.client == client) members
+abbrev pub index : ℕ → List Member → ℕ
+index client members = position_or_len (λ (m : Member). m.client == client) members
 
 one : (n : ℕ) → suc n ≡ 1 + n
 one n = omega arith
 
-pub found : (client : ℕ) (ms : List Member) (d : Member) → place client ms < length ms → member_of client (map data_of ms) ≡ Some (data_of (get_or ms (place client ms) d))
+pub found : (client : ℕ) (ms : List Member) (d : Member) → index client ms < length ms → member_of client (map data_of ms) ≡ Some (data_of (get_or ms (index client ms) d))
 found client [] d h = absurd (omega arith)
 found client (x ∷ xs) d h =
-    let goes : (b : Bool) → cond (not b) (1 + place client xs) 0 < suc (length xs) → cond b (Some (data_of x)) (member_of client (map data_of xs)) ≡ Some (data_of (get_or (x ∷ xs) (cond (not b) (1 + place client xs) 0) d))
-    = λ b. elim b as (λ b. cond (not b) (1 + place client xs) 0 < suc (length xs) → cond b (Some (data_of x)) (member_of client (map data_of xs)) ≡ Some (data_of (get_or (x ∷ xs) (cond (not b) (1 + place client xs) 0) d))) [ true ↦ λ k. refl | false ↦ (let P : ℕ → Type 0 = λ j. j < suc (length xs) → member_of client (map data_of xs) ≡ Some (data_of (get_or (x ∷ xs) j d)) in subst P (one (place client xs)) (λ k. found client xs d (omega arith))) ] in
+    let goes : (b : Bool) → cond (not b) (1 + index client xs) 0 < suc (length xs) → cond b (Some (data_of x)) (member_of client (map data_of xs)) ≡ Some (data_of (get_or (x ∷ xs) (cond (not b) (1 + index client xs) 0) d))
+    = λ b. elim b as (λ b. cond (not b) (1 + index client xs) 0 < suc (length xs) → cond b (Some (data_of x)) (member_of client (map data_of xs)) ≡ Some (data_of (get_or (x ∷ xs) (cond (not b) (1 + index client xs) 0) d))) [ true ↦ λ k. refl | false ↦ (let P : ℕ → Type 0 = λ j. j < suc (length xs) → member_of client (map data_of xs) ≡ Some (data_of (get_or (x ∷ xs) j d)) in subst P (one (index client xs)) (λ k. found client xs d (omega arith))) ] in
     goes (x.client == client) h
 
-pub absent : (client : ℕ) (ms : List Member) → length ms ≤ place client ms → member_of client (map data_of ms) ≡ None
+pub absent : (client : ℕ) (ms : List Member) → length ms ≤ index client ms → member_of client (map data_of ms) ≡ None
 absent client [] h = refl
 absent client (x ∷ xs) h =
-    let goes : (b : Bool) → suc (length xs) ≤ cond (not b) (1 + place client xs) 0 → cond b (Some (data_of x)) (member_of client (map data_of xs)) ≡ None
-    = λ b. elim b as (λ b. suc (length xs) ≤ cond (not b) (1 + place client xs) 0 → cond b (Some (data_of x)) (member_of client (map data_of xs)) ≡ None) [ true ↦ λ k. absurd (omega arith) | false ↦ λ k. absent client xs (omega arith) ] in
+    let goes : (b : Bool) → suc (length xs) ≤ cond (not b) (1 + index client xs) 0 → cond b (Some (data_of x)) (member_of client (map data_of xs)) ≡ None
+    = λ b. elim b as (λ b. suc (length xs) ≤ cond (not b) (1 + index client xs) 0 → cond b (Some (data_of x)) (member_of client (map data_of xs)) ≡ None) [ true ↦ λ k. absurd (omega arith) | false ↦ λ k. absent client xs (omega arith) ] in
     goes (x.client == client) h
 
--- a change of the one at the place
-pub changes : (client : ℕ) (f : MemberData → MemberData) (ms : List Member) (m d : Member) → place client ms < length ms → data_of m ≡ f (data_of (get_or ms (place client ms) d)) → map data_of (set ms (place client ms) m) ≡ changed client f (map data_of ms)
+-- a change of the one at the index
+pub changes : (client : ℕ) (f : MemberData → MemberData) (ms : List Member) (m d : Member) → index client ms < length ms → data_of m ≡ f (data_of (get_or ms (index client ms) d)) → map data_of (set ms (index client ms) m) ≡ changed client f (map data_of ms)
 changes client f [] m d h e = refl
 changes client f (x ∷ xs) m d h e =
-    let goes : (b : Bool) → cond (not b) (1 + place client xs) 0 < suc (length xs) → data_of m ≡ f (data_of (get_or (x ∷ xs) (cond (not b) (1 + place client xs) 0) d)) → map data_of (set (x ∷ xs) (cond (not b) (1 + place client xs) 0) m) ≡ cond b (f (data_of x) ∷ map data_of xs) (data_of x ∷ changed client f (map data_of xs))
-    = λ b. elim b as (λ b. cond (not b) (1 + place client xs) 0 < suc (length xs) → data_of m ≡ f (data_of (get_or (x ∷ xs) (cond (not b) (1 + place client xs) 0) d)) → map data_of (set (x ∷ xs) (cond (not b) (1 + place client xs) 0) m) ≡ cond b (f (data_of x) ∷ map data_of xs) (data_of x ∷ changed client f (map data_of xs))) [
+    let goes : (b : Bool) → cond (not b) (1 + index client xs) 0 < suc (length xs) → data_of m ≡ f (data_of (get_or (x ∷ xs) (cond (not b) (1 + index client xs) 0) d)) → map data_of (set (x ∷ xs) (cond (not b) (1 + index client xs) 0) m) ≡ cond b (f (data_of x) ∷ map data_of xs) (data_of x ∷ changed client f (map data_of xs))
+    = λ b. elim b as (λ b. cond (not b) (1 + index client xs) 0 < suc (length xs) → data_of m ≡ f (data_of (get_or (x ∷ xs) (cond (not b) (1 + index client xs) 0) d)) → map data_of (set (x ∷ xs) (cond (not b) (1 + index client xs) 0) m) ≡ cond b (f (data_of x) ∷ map data_of xs) (data_of x ∷ changed client f (map data_of xs))) [
       | true ↦ λ k g. ap (λ (y : MemberData). y ∷ map data_of xs) g
       | false ↦ (
           let P : ℕ → Type 0 = λ j. j < suc (length xs) → data_of m ≡ f (data_of (get_or (x ∷ xs) j d)) → map data_of (set (x ∷ xs) j m) ≡ data_of x ∷ changed client f (map data_of xs) in
-          subst P (one (place client xs)) (λ k g. ap (λ (rest : List MemberData). data_of x ∷ rest) (changes client f xs m d (omega arith) g))
+          subst P (one (index client xs)) (λ k g. ap (λ (rest : List MemberData). data_of x ∷ rest) (changes client f xs m d (omega arith) g))
           )
     ] in
     goes (x.client == client) h e
 
-pub stays : (client : ℕ) (f : MemberData → MemberData) (ms : List Member) → length ms ≤ place client ms → map data_of ms ≡ changed client f (map data_of ms)
+pub stays : (client : ℕ) (f : MemberData → MemberData) (ms : List Member) → length ms ≤ index client ms → map data_of ms ≡ changed client f (map data_of ms)
 stays client f [] h = refl
 stays client f (x ∷ xs) h =
-    let goes : (b : Bool) → suc (length xs) ≤ cond (not b) (1 + place client xs) 0 → data_of x ∷ map data_of xs ≡ cond b (f (data_of x) ∷ map data_of xs) (data_of x ∷ changed client f (map data_of xs))
-    = λ b. elim b as (λ b. suc (length xs) ≤ cond (not b) (1 + place client xs) 0 → data_of x ∷ map data_of xs ≡ cond b (f (data_of x) ∷ map data_of xs) (data_of x ∷ changed client f (map data_of xs))) [ true ↦ λ k. absurd (omega arith) | false ↦ λ k. ap (λ (rest : List MemberData). data_of x ∷ rest) (stays client f xs (omega arith)) ] in
+    let goes : (b : Bool) → suc (length xs) ≤ cond (not b) (1 + index client xs) 0 → data_of x ∷ map data_of xs ≡ cond b (f (data_of x) ∷ map data_of xs) (data_of x ∷ changed client f (map data_of xs))
+    = λ b. elim b as (λ b. suc (length xs) ≤ cond (not b) (1 + index client xs) 0 → data_of x ∷ map data_of xs ≡ cond b (f (data_of x) ∷ map data_of xs) (data_of x ∷ changed client f (map data_of xs))) [ true ↦ λ k. absurd (omega arith) | false ↦ λ k. ap (λ (rest : List MemberData). data_of x ∷ rest) (stays client f xs (omega arith)) ] in
     goes (x.client == client) h
 
 pub left-data : (client : ℕ) (ms : List Member) → map data_of (filter (λ (m : Member). not (m.client == client)) ms) ≡ left client (map data_of ms)
@@ -57,17 +57,17 @@ left-data client (x ∷ xs) =
       | false ↦ ap (λ (rest : List MemberData). data_of x ∷ rest) (left-data client xs)
     ]
 
--- the same at a place that is known to be the client's
-pub found-at : (client : ℕ) (ms : List Member) (n : ℕ) (d : Member) → n ≡ place client ms → n < length ms → member_of client (map data_of ms) ≡ Some (data_of (get_or ms n d))
+-- the same at an index that is known to be the client's
+pub found-at : (client : ℕ) (ms : List Member) (n : ℕ) (d : Member) → n ≡ index client ms → n < length ms → member_of client (map data_of ms) ≡ Some (data_of (get_or ms n d))
 found-at client ms n d e h = let P : ℕ → Type 0 = λ k. k < length ms → member_of client (map data_of ms) ≡ Some (data_of (get_or ms k d)) in subst P (sym e) (found client ms d) h
 
-pub absent-at : (client : ℕ) (ms : List Member) (n : ℕ) → n ≡ place client ms → length ms ≤ n → member_of client (map data_of ms) ≡ None
+pub absent-at : (client : ℕ) (ms : List Member) (n : ℕ) → n ≡ index client ms → length ms ≤ n → member_of client (map data_of ms) ≡ None
 absent-at client ms n e h = let P : ℕ → Type 0 = λ k. length ms ≤ k → member_of client (map data_of ms) ≡ None in subst P (sym e) (absent client ms) h
 
-pub stays-at : (client : ℕ) (f : MemberData → MemberData) (ms : List Member) (n : ℕ) → n ≡ place client ms → length ms ≤ n → map data_of ms ≡ changed client f (map data_of ms)
+pub stays-at : (client : ℕ) (f : MemberData → MemberData) (ms : List Member) (n : ℕ) → n ≡ index client ms → length ms ≤ n → map data_of ms ≡ changed client f (map data_of ms)
 stays-at client f ms n e h = let P : ℕ → Type 0 = λ k. length ms ≤ k → map data_of ms ≡ changed client f (map data_of ms) in subst P (sym e) (stays client f ms) h
 
-pub changes-at : (client : ℕ) (f : MemberData → MemberData) (ms : List Member) (n : ℕ) (m d : Member) → n ≡ place client ms → n < length ms → data_of m ≡ f (data_of (get_or ms n d)) → map data_of (set ms n m) ≡ changed client f (map data_of ms)
+pub changes-at : (client : ℕ) (f : MemberData → MemberData) (ms : List Member) (n : ℕ) (m d : Member) → n ≡ index client ms → n < length ms → data_of m ≡ f (data_of (get_or ms n d)) → map data_of (set ms n m) ≡ changed client f (map data_of ms)
 changes-at client f ms n m d e h g =
     let P : ℕ → Type 0 = λ k. k < length ms → data_of m ≡ f (data_of (get_or ms k d)) → map data_of (set ms k m) ≡ changed client f (map data_of ms) in
     subst P (sym e) (changes client f ms m d) h g
@@ -80,7 +80,7 @@ one-more f xs ys i n d within inside e done =
     map-set data_of ys i n ∙ ap (λ (y : MemberData). set (map data_of ys) i y) e
     ∙ map_over_more f (map data_of xs) (map data_of ys) i (data_of (get_or ys i d)) l done (sym (get_or-map data_of ys i d (data_of (get_or ys i d)) inside))
 
--- what two lists have from a place on is the same
+-- what two lists have from an index on is the same
 pub same-here : (xs ys : List Member) (i : ℕ) (d : Member) → drop i ys ≡ drop i xs → get_or ys i d ≡ get_or xs i d
 same-here xs ys i d e =
     let a : get_or (drop i ys) 0 d ≡ get_or ys (i + 0) d = get_or-drop i ys 0 d in

@@ -36,5 +36,5 @@ abbrev pub notice_of : Pending → Option Subsystems
 notice_of p = if is_nonempty (due p) then Some (due p) else None
 
 -- a client that is told waits no more, and nothing is pending
-abbrev pub settled : Pending → Pending
-settled p = if is_nonempty (due p) then fresh else p
+abbrev pub up_to_date : Pending → Pending
+up_to_date p = if is_nonempty (due p) then fresh else p

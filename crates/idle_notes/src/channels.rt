@@ -371,19 +371,19 @@ fn find_member(members: &[Member], client: u32) -> Option<&Member>
     None
 }
 
-/// The place of a client; the number of clients where it is not there.
-fn place_of(members: &[Member], client: u32) -> usize
-    ensures place { result ≡ position_or_len (λ member. member.client == client) members.now }
+/// The index of a client; the number of clients where it is not there.
+fn index_of(members: &[Member], client: u32) -> usize
+    ensures index { result ≡ position_or_len (λ member. member.client == client) members.now }
     ensures within { result ≤ length members.now }
 {
-    let mut place = 0;
+    let mut index = 0;
     for member in members {
         if member.client == client {
-            return place;
+            return index;
         }
-        place += 1;
+        index += 1;
     }
-    place
+    index
 }
 
 /// A client that does not listen to a channel listens to it, as its last.
@@ -405,9 +405,9 @@ fn name_one(members: &mut [Member], client: u32, name: Text) -> Result<(), Alloc
     ensures ok { OnOk result (map data_of members.new ≡ changed client (with_name name) (map data_of members.old)) }
     ensures err { OnErr result (map data_of members.new ≡ map data_of members.old) }
 {
-    let place = place_of(members, client);
-    if place < members.len() {
-        return push_name(&mut members[place], name);
+    let index = index_of(members, client);
+    if index < members.len() {
+        return push_name(&mut members[index], name);
     }
     Ok(())
 }
@@ -434,9 +434,9 @@ fn new_member(alloc: Global, client: u32, name: Text) -> Result<Member, AllocErr
 fn remove_name(members: &mut [Member], client: u32, name: &str)
     ensures { map data_of members.new ≡ unsubscribed client name.now (map data_of members.old) }
 {
-    let place = place_of(members, client);
-    if place < members.len() {
-        keep_other_names(&mut members[place], name);
+    let index = index_of(members, client);
+    if index < members.len() {
+        keep_other_names(&mut members[index], name);
     }
 }
 
@@ -450,9 +450,9 @@ fn take_messages(members: &mut [Member], alloc: Global, client: u32) -> Vec<Mess
     ensures messages { result.items ≡ messages_of client (map data_of members.old) }
     ensures after { map data_of members.new ≡ emptied client (map data_of members.old) }
 {
-    let place = place_of(members, client);
-    if place < members.len() {
-        return take_all(&mut members[place], alloc);
+    let index = index_of(members, client);
+    if index < members.len() {
+        return take_all(&mut members[index], alloc);
     }
     Vec::new(alloc)
 }

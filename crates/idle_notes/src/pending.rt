@@ -1,6 +1,6 @@
 //! What is pending for one client.
 ghost use Rattle.std.specs.Prelude.{◌≡◌, is_some};
-ghost use Rattle.idle_notes.specs.Notes.{everything, fresh, noted, waits, cancelled, notice_of, settled};
+ghost use Rattle.idle_notes.specs.Notes.{everything, fresh, noted, waits, cancelled, notice_of, up_to_date};
 
 use crate::sets::Subsystems;
 
@@ -51,7 +51,7 @@ impl Pending {
     /// wait.
     pub fn wait(&mut self, named: Subsystems) -> Option<Subsystems>
         ensures notice { result ≡ notice_of (waits named self.old) }
-        ensures after { self.new ≡ settled (waits named self.old) }
+        ensures after { self.new ≡ up_to_date (waits named self.old) }
     {
         self.listen(named);
         self.notice()
@@ -68,7 +68,7 @@ impl Pending {
     /// waits no more, and nothing is pending, named or not.
     pub fn notice(&mut self) -> Option<Subsystems>
         ensures notice { result ≡ notice_of self.old }
-        ensures after { self.new ≡ settled self.old }
+        ensures after { self.new ≡ up_to_date self.old }
     {
         let Some(named) = self.waiting else {
             return None;

@@ -3,7 +3,7 @@ use Rattle.std.specs.Prelude.{ℕ, Bool, true, false, List, ◌++◌, Option, So
 
 -- what is told of the output of a number
 abbrev pub output_line : ℕ → List ℕ → List ℕ
-output_line output told = codes "output " ++ (decimal output ++ (codes ": " ++ told))
+output_line output text = codes "output " ++ (decimal output ++ (codes ": " ++ text))
 
 -- an output is off, since its path takes nothing
 abbrev pub off_text : List ℕ → List ℕ

@@ -128,13 +128,13 @@ queue_read has kept =
     let p1 : Player = record p { queue = there has kept.after.items; song = None } in
     let second = song_read has kept.song p1 refl in
     let p2 : Player = with_song (song_there has kept.song) p1 in
-    let place = placed (there has kept.before.items) (song_there has kept.song) in
+    let position = placed (there has kept.before.items) (song_there has kept.song) in
     joined has (entries_steps kept.after.items) (song_steps kept.song ++ entries_steps kept.before.items) p
     ∙ ap (read_steps has (song_steps kept.song ++ entries_steps kept.before.items)) first
     ∙ joined has (song_steps kept.song) (entries_steps kept.before.items) p1
     ∙ ap (read_steps has (entries_steps kept.before.items)) second
     ∙ entries_read has kept.before.items p2
-    ∙ ap (λ song. record p { queue = queue_of has kept; song = song }) place
+    ∙ ap (λ song. record p { queue = queue_of has kept; song = song }) position
 
 back : (has : List ℕ → Bool) (kept : Kept) (options : KeptOptions) → read_steps has (state_steps kept) (opened options) ≡ given_back has kept
 back has kept options =

@@ -3,8 +3,8 @@ use Rattle.std.proofs.Common.{◌≡◌, ◌∙◌, ℕ, List, [], ◌∷◌, �
 use Rattle.std.specs.Option.{option_and_then}
 use Rattle.std.proofs.lemmas.List.{map-append}
 use Rattle.mpd_text.specs.Answers.Number.{number_of}
-use Rattle.kept_state.specs.Heard.{HasHeard, Hears, Keeps, at_last, options_after, outputs_after, outputs_with, place_after, prioritized, songs_after, songs_with, switched, text_after}
-use Rattle.kept_state.specs.Told.{IsTold, Tellings, after_place, at_place, before_place, behind, entry_told, is_on, items, later, number_or_zero, options_told, output_told, outputs_told, place_told, playback_for, song_of, songs_told, tellings, told, told_or, told_within}
+use Rattle.kept_state.specs.Heard.{HasHeard, Hears, Keeps, at_last, options_after, outputs_after, outputs_with, position_after, prioritized, songs_after, songs_with, switched, text_after}
+use Rattle.kept_state.specs.Told.{IsTold, Tellings, after_position, at_position, before_position, behind, entry_told, is_on, items, later, number_or_zero, options_told, output_told, outputs_told, position_told, playback_for, song_of, songs_told, tellings, told, told_or, told_within}
 use Rattle.kept_state.specs.declared.answers.Heard.{Heard}
 use Rattle.kept_state.specs.declared.kept.Kept.{Kept}
 use Rattle.kept_state.specs.declared.kept.KeptOptions.{KeptOptions}
@@ -31,13 +31,13 @@ pub text_more : (key default line : List ℕ) (lines : List (List ℕ)) → text
 text_more key default line lines =
     sym (ap (λ o. unwrap_or o default) (told_more key line lines) ∙ later_or (told key lines) (behind key line) default)
 
-later_place : (earlier value : Option (List ℕ)) → place_after value (option_and_then number_of earlier) ≡ option_and_then number_of (later earlier value)
-later_place earlier None = refl
-later_place earlier (Some value) = refl
+later_position : (earlier value : Option (List ℕ)) → position_after value (option_and_then number_of earlier) ≡ option_and_then number_of (later earlier value)
+later_position earlier None = refl
+later_position earlier (Some value) = refl
 
-place_more : (line : List ℕ) (lines : List (List ℕ)) → place_after (behind (codes "song: ") line) (place_told lines) ≡ place_told (lines ++ line ∷ [])
-place_more line lines =
-    later_place (told (codes "song: ") lines) (behind (codes "song: ") line)
+position_more : (line : List ℕ) (lines : List (List ℕ)) → position_after (behind (codes "song: ") line) (position_told lines) ≡ position_told (lines ++ line ∷ [])
+position_more line lines =
+    later_position (told (codes "song: ") lines) (behind (codes "song: ") line)
     ∙ sym (ap (option_and_then number_of) (told_more (codes "song: ") line lines))
 
 options : List ℕ → List ℕ → List ℕ → List ℕ → List ℕ → List ℕ → KeptOptions
@@ -154,7 +154,7 @@ songs_more line lines =
 pub heard_more : (lines : List (List ℕ)) (line : List ℕ) (old new : Heard) → HasHeard lines old → Hears line old new → HasHeard (lines ++ line ∷ []) new
 heard_more lines line old new has hears = record {
   options = hears.options ∙ ap (options_after line) has.options ∙ options_more line lines;
-  place = hears.place ∙ ap (place_after (behind (codes "song: ") line)) has.place ∙ place_more line lines;
+  position = hears.position ∙ ap (position_after (behind (codes "song: ") line)) has.position ∙ position_more line lines;
   state = hears.state ∙ ap (text_after (codes "state: ") line) has.state ∙ text_more (codes "state: ") (codes "stop") line lines;
   elapsed = hears.elapsed ∙ ap (text_after (codes "elapsed: ") line) has.elapsed ∙ text_more (codes "elapsed: ") (codes "0") line lines;
   outputs = hears.outputs ∙ ap (outputs_with line) has.outputs ∙ outputs_more line lines;
@@ -165,12 +165,12 @@ pub kept_told : (lines : List (List ℕ)) (heard : Heard) (kept : Kept) → HasH
 kept_told lines heard kept has keeps = record {
   options = keeps.options ∙ has.options;
   outputs = keeps.outputs ∙ has.outputs;
-  before = keeps.before ∙ ap (λ place. before_place place heard.songs.items) has.place ∙ ap (before_place (place_told lines)) has.songs;
-  song = keeps.song ∙ ap (λ state. option_map (song_of (playback_for state heard.elapsed)) (at_place heard.place heard.songs.items)) has.state
-      ∙ ap (λ elapsed. option_map (song_of (playback_for (told_or (codes "state: ") (codes "stop") lines) elapsed)) (at_place heard.place heard.songs.items)) has.elapsed
-      ∙ ap (λ place. option_map (song_of (playback_for (told_or (codes "state: ") (codes "stop") lines) (told_or (codes "elapsed: ") (codes "0") lines))) (at_place place heard.songs.items)) has.place
-      ∙ ap (λ songs. option_map (song_of (playback_for (told_or (codes "state: ") (codes "stop") lines) (told_or (codes "elapsed: ") (codes "0") lines))) (at_place (place_told lines) songs)) has.songs;
-  after = keeps.after ∙ ap (λ place. after_place place heard.songs.items) has.place ∙ ap (after_place (place_told lines)) has.songs;
+  before = keeps.before ∙ ap (λ position. before_position position heard.songs.items) has.position ∙ ap (before_position (position_told lines)) has.songs;
+  song = keeps.song ∙ ap (λ state. option_map (song_of (playback_for state heard.elapsed)) (at_position heard.position heard.songs.items)) has.state
+      ∙ ap (λ elapsed. option_map (song_of (playback_for (told_or (codes "state: ") (codes "stop") lines) elapsed)) (at_position heard.position heard.songs.items)) has.elapsed
+      ∙ ap (λ position. option_map (song_of (playback_for (told_or (codes "state: ") (codes "stop") lines) (told_or (codes "elapsed: ") (codes "0") lines))) (at_position position heard.songs.items)) has.position
+      ∙ ap (λ songs. option_map (song_of (playback_for (told_or (codes "state: ") (codes "stop") lines) (told_or (codes "elapsed: ") (codes "0") lines))) (at_position (position_told lines) songs)) has.songs;
+  after = keeps.after ∙ ap (λ position. after_position position heard.songs.items) has.position ∙ ap (after_position (position_told lines)) has.songs;
 }
 
 pub kept_told_ok : {E : Type 0} (lines : List (List ℕ)) (heard : Heard) (r : Result Kept E) → HasHeard lines heard → IfOk r (Keeps heard) → IfOk r (IsTold lines)

@@ -6,12 +6,12 @@ use Rattle.kept_state.specs.declared.kept.Kept.{Kept}
 use Rattle.kept_state.specs.declared.kept.KeptEntry.{KeptEntry}
 use Rattle.kept_state.specs.declared.kept.KeptOptions.{KeptOptions}
 use Rattle.kept_state.specs.declared.kept.KeptOutput.{KeptOutput}
-use Rattle.kept_state.specs.Told.{after_place, at_place, before_place, behind, is_on, number_or_zero, options_told, outputs_told, place_told, playback_for, song_of, songs_told, told_or}
+use Rattle.kept_state.specs.Told.{after_position, at_position, before_position, behind, is_on, number_or_zero, options_told, outputs_told, position_told, playback_for, song_of, songs_told, told_or}
 
 -- these lines were heard
 pub record HasHeard (lines : List (List ℕ)) (heard : Heard) : Type 0 where
   pub options : heard.options ≡ options_told lines
-  pub place : heard.place ≡ place_told lines
+  pub position : heard.position ≡ position_told lines
   pub state : heard.state ≡ told_or (codes "state: ") (codes "stop") lines
   pub elapsed : heard.elapsed ≡ told_or (codes "elapsed: ") (codes "0") lines
   pub outputs : heard.outputs.items ≡ outputs_told lines
@@ -31,9 +31,9 @@ options_after line options = record {
   crossfade = text_after (codes "xfade: ") line options.crossfade;
 }
 
-abbrev pub place_after : Option (List ℕ) → Option ℕ → Option ℕ
-place_after None place = place
-place_after (Some text) place = number_of text
+abbrev pub position_after : Option (List ℕ) → Option ℕ → Option ℕ
+position_after None position = position
+position_after (Some text) position = number_of text
 
 -- the last item of a list is changed
 abbrev pub at_last : {A : Type 0} → (A → A) → List A → List A
@@ -70,14 +70,14 @@ songs_with line songs = songs_after (behind (codes "file: ") line) (behind (code
 pub record Keeps (heard : Heard) (kept : Kept) : Type 0 where
   pub options : kept.options ≡ heard.options
   pub outputs : kept.outputs.items ≡ heard.outputs.items
-  pub before : kept.before.items ≡ before_place heard.place heard.songs.items
-  pub song : kept.song ≡ option_map (song_of (playback_for heard.state heard.elapsed)) (at_place heard.place heard.songs.items)
-  pub after : kept.after.items ≡ after_place heard.place heard.songs.items
+  pub before : kept.before.items ≡ before_position heard.position heard.songs.items
+  pub song : kept.song ≡ option_map (song_of (playback_for heard.state heard.elapsed)) (at_position heard.position heard.songs.items)
+  pub after : kept.after.items ≡ after_position heard.position heard.songs.items
 
 -- a line was heard
 pub record Hears (line : List ℕ) (old new : Heard) : Type 0 where
   pub options : new.options ≡ options_after line old.options
-  pub place : new.place ≡ place_after (behind (codes "song: ") line) old.place
+  pub position : new.position ≡ position_after (behind (codes "song: ") line) old.position
   pub state : new.state ≡ text_after (codes "state: ") line old.state
   pub elapsed : new.elapsed ≡ text_after (codes "elapsed: ") line old.elapsed
   pub outputs : new.outputs.items ≡ outputs_with line old.outputs.items

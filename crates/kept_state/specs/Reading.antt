@@ -12,14 +12,14 @@ use Rattle.kept_state.specs.Lines.{Line as lines}
 use Rattle.kept_state.specs.Texts.{TellsSteps}
 
 -- what a player has of what a state keeps: its options, the outputs that were switched, in that order, its
--- queue, and the place of its current song there and whether that is played
+-- queue, and the position of its current song there and whether that is played
 pub record Player : Type 0 where
   pub options : KeptOptions
   pub outputs : List KeptOutput
   pub queue : List KeptEntry
   pub song : Option (ℕ × KeptPlayback)
 
--- a current song is one place further on
+-- a current song is one position further on
 abbrev pub behind_one : Option (ℕ × KeptPlayback) → Option (ℕ × KeptPlayback)
 behind_one song = option_map (λ s. (suc s.0, s.1)) song
 
@@ -90,8 +90,8 @@ entry_of (Some song) = song.entry ∷ []
 abbrev pub queue_of : (List ℕ → Bool) → Kept → List KeptEntry
 queue_of has kept = there has kept.before.items ++ (entry_of (song_there has kept.song) ++ there has kept.after.items)
 
-abbrev pub place_of : (List ℕ → Bool) → Kept → Option (ℕ × KeptPlayback)
-place_of has kept = option_map (λ song. (length (there has kept.before.items), song.playback)) (song_there has kept.song)
+abbrev pub position_of : (List ℕ → Bool) → Kept → Option (ℕ × KeptPlayback)
+position_of has kept = option_map (λ song. (length (there has kept.before.items), song.playback)) (song_there has kept.song)
 
 -- a player that has all that is kept, of the songs that there are
 abbrev pub given_back : (List ℕ → Bool) → Kept → Player
@@ -99,7 +99,7 @@ given_back has kept = record {
   options = kept.options;
   outputs = kept.outputs.items;
   queue = queue_of has kept;
-  song = place_of has kept;
+  song = position_of has kept;
 }
 
 -- a player with an empty queue

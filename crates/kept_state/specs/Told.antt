@@ -97,9 +97,9 @@ entry_told item = record { uri = item.0; priority = option_map_or number_or_zero
 abbrev pub songs_told : List (List ℕ) → List KeptEntry
 songs_told lines = map entry_told (items (tellings (codes "file: ") (codes "Prio: ") lines))
 
--- the place of the current song
-abbrev pub place_told : List (List ℕ) → Option ℕ
-place_told lines = option_and_then number_of (told (codes "song: ") lines)
+-- the position of the current song
+abbrev pub position_told : List (List ℕ) → Option ℕ
+position_told lines = option_and_then number_of (told (codes "song: ") lines)
 
 -- whether it is played, by the state and the seconds that are told
 abbrev pub playback_for : List ℕ → List ℕ → KeptPlayback
@@ -111,17 +111,17 @@ playback_for state elapsed =
 abbrev pub playback_told : List (List ℕ) → KeptPlayback
 playback_told lines = playback_for (told_or (codes "state: ") (codes "stop") lines) (told_or (codes "elapsed: ") (codes "0") lines)
 
--- the songs before a place, the one at it, and those after it; without a place all of them are before it
-abbrev pub before_place : Option ℕ → List KeptEntry → List KeptEntry
-before_place None songs = songs
-before_place (Some place) songs = take place songs
+-- the songs before a position, the one at it, and those after it; without a position all of them are before it
+abbrev pub before_position : Option ℕ → List KeptEntry → List KeptEntry
+before_position None songs = songs
+before_position (Some position) songs = take position songs
 
-abbrev pub at_place : Option ℕ → List KeptEntry → Option KeptEntry
-at_place place songs = option_and_then (slice_get songs) place
+abbrev pub at_position : Option ℕ → List KeptEntry → Option KeptEntry
+at_position position songs = option_and_then (slice_get songs) position
 
-abbrev pub after_place : Option ℕ → List KeptEntry → List KeptEntry
-after_place None songs = []
-after_place (Some place) songs = drop (suc place) songs
+abbrev pub after_position : Option ℕ → List KeptEntry → List KeptEntry
+after_position None songs = []
+after_position (Some position) songs = drop (suc position) songs
 
 abbrev pub song_of : KeptPlayback → KeptEntry → KeptSong
 song_of playback entry = record { entry = entry; playback = playback }
@@ -130,6 +130,6 @@ song_of playback entry = record { entry = entry; playback = playback }
 pub record IsTold (lines : List (List ℕ)) (kept : Kept) : Type 0 where
   pub options : kept.options ≡ options_told lines
   pub outputs : kept.outputs.items ≡ outputs_told lines
-  pub before : kept.before.items ≡ before_place (place_told lines) (songs_told lines)
-  pub song : kept.song ≡ option_map (song_of (playback_told lines)) (at_place (place_told lines) (songs_told lines))
-  pub after : kept.after.items ≡ after_place (place_told lines) (songs_told lines)
+  pub before : kept.before.items ≡ before_position (position_told lines) (songs_told lines)
+  pub song : kept.song ≡ option_map (song_of (playback_told lines)) (at_position (position_told lines) (songs_told lines))
+  pub after : kept.after.items ≡ after_position (position_told lines) (songs_told lines)

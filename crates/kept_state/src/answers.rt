@@ -2,7 +2,7 @@
 ghost use Rattle.std.specs.Prelude.{◌≡◌, [], IfOk, OnOk};
 ghost use Rattle.std.specs.Str.Lines.{lines};
 ghost use Rattle.kept_state.specs.Heard.{HasHeard, Hears, Keeps, at_last, options_after, outputs_with, prioritized, songs_with, switched, text_after};
-ghost use Rattle.kept_state.specs.Told.{IsTold, Shows, after_place, at_place, before_place, behind, number_or_zero, options_told, outputs_told, playback_for, shown_on};
+ghost use Rattle.kept_state.specs.Told.{IsTold, Shows, after_position, at_position, before_position, behind, number_or_zero, options_told, outputs_told, playback_for, shown_on};
 
 use crate::kept::{Kept, KeptEntry, KeptOptions, KeptOutput, KeptPlayback, KeptSong};
 use mpd_text::{Text, number};
@@ -12,8 +12,8 @@ use std::alloc::{AllocError, Global};
 #[derive(Drop)]
 pub(crate) struct Heard {
     options: KeptOptions,
-    /// The place of the current song in the queue, where there is one.
-    place: Option<u32>,
+    /// The position of the current song in the queue, where there is one.
+    position: Option<u32>,
     /// The state and the elapsed seconds that `status` told.
     state: Text,
     elapsed: Text,
@@ -58,7 +58,7 @@ pub(crate) fn nothing_heard(alloc: Global) -> Result<Heard, AllocError>
 {
     Ok(Heard {
         options: first_options(alloc)?,
-        place: None,
+        position: None,
         state: Text::new(alloc, "stop")?,
         elapsed: Text::new(alloc, "0")?,
         outputs: Vec::new(alloc),
@@ -87,7 +87,7 @@ pub(crate) fn hear(alloc: Global, heard: &mut Heard, line: &str) -> Result<(), A
     hear_text(alloc, &mut heard.state, "state: ", line)?;
     hear_text(alloc, &mut heard.elapsed, "elapsed: ", line)?;
     if let Some(value) = value_behind("song: ", line) {
-        heard.place = number(value);
+        heard.position = number(value);
     }
     hear_output(&mut heard.outputs, line)?;
     hear_song(alloc, &mut heard.songs, line)
@@ -182,14 +182,14 @@ pub(crate) fn kept_by(alloc: Global, heard: Heard) -> Result<Kept, AllocError>
 {
     let Heard {
         options,
-        place,
+        position,
         state,
         elapsed,
         outputs,
         songs,
     } = heard;
     let playback = playback_of(state.as_str(), elapsed);
-    let Around { before, at, after } = split_at_place(alloc, songs, place)?;
+    let Around { before, at, after } = split_at_position(alloc, songs, position)?;
     let song = match at {
         Some(entry) => Some(KeptSong { entry, playback }),
         None => None,
@@ -213,7 +213,7 @@ fn playback_of(state: &str, elapsed: Text) -> KeptPlayback
     }
 }
 
-/// The songs before a place, the one at it, and those after it.
+/// The songs before a position, the one at it, and those after it.
 #[derive(Drop)]
 struct Around {
     before: Vec<KeptEntry>,
@@ -221,21 +221,21 @@ struct Around {
     after: Vec<KeptEntry>,
 }
 
-/// The songs around a place; without a place, or behind the last one, all of them are before it.
-fn split_at_place(
+/// The songs around a position; without a position, or behind the last one, all of them are before it.
+fn split_at_position(
     alloc: Global,
     songs: Vec<KeptEntry>,
-    place: Option<u32>,
+    position: Option<u32>,
 ) -> Result<Around, AllocError>
-    ensures before { IfOk result (λ around. around.before.items ≡ before_place place songs.items) }
-    ensures at { IfOk result (λ around. around.at ≡ at_place place songs.items) }
-    ensures after { IfOk result (λ around. around.after.items ≡ after_place place songs.items) }
+    ensures before { IfOk result (λ around. around.before.items ≡ before_position position songs.items) }
+    ensures at { IfOk result (λ around. around.at ≡ at_position position songs.items) }
+    ensures after { IfOk result (λ around. around.after.items ≡ after_position position songs.items) }
 {
     let mut before = songs;
-    if let Some(place) = place {
-        let place = place as usize;
-        if place < before.len() {
-            let after = before.split_off(place + 1)?;
+    if let Some(position) = position {
+        let position = position as usize;
+        if position < before.len() {
+            let after = before.split_off(position + 1)?;
             let at = before.pop();
             return Ok(Around { before, at, after });
         }

@@ -1,4 +1,4 @@
--- Sets of the ten tags as bits: that of a tag is at its place in the order of answers.
+-- Sets of the ten tags as bits: that of a tag is at its index in the order of answers.
 use Rattle.std.specs.Prelude.{◌≡◌, ℕ, ◌^◌, ◌<◌, ◌==◌, Bool, true, not, List, filter, sum_by, bit_and, refl}
 use Rattle.std.proofs.lemmas.Bool.{eqb-true, agree_below_at}
 use Rattle.mpd_text.specs.Songs.Tags.{tag_names, tag_number}

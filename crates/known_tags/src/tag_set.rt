@@ -109,7 +109,7 @@ impl TagSet {
     }
 }
 
-/// The bit of a tag, by its place in the order.
+/// The bit of a tag, by its index in the order.
 fn bit(name: TagName) -> u16
     ensures bit { result ≡ 2 ^ tag_number name }
     ensures small { result < 1024 }

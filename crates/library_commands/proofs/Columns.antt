@@ -3,10 +3,10 @@ use Rattle.std.proofs.Common.{◌≡◌, List, [], ◌∷◌, ◌++◌, map, rev
 use Rattle.std.proofs.lemmas.List.{map-append, reverse-append}
 
 -- what is read of items that are turned round is turned round
-pub turned : {A B : Type 0} (f : A → B) (xs : List A) → map f (reverse xs) ≡ reverse (map f xs)
-turned f [] = refl
-turned f (x ∷ xs) =
+pub reversed : {A B : Type 0} (f : A → B) (xs : List A) → map f (reverse xs) ≡ reverse (map f xs)
+reversed f [] = refl
+reversed f (x ∷ xs) =
     ap (map f) (reverse-append (x ∷ []) xs)
     ∙ map-append f (reverse xs) (x ∷ [])
-    ∙ ap (λ ys. ys ++ f x ∷ []) (turned f xs)
+    ∙ ap (λ ys. ys ++ f x ∷ []) (reversed f xs)
     ∙ sym (reverse-append (f x ∷ []) (map f xs))

@@ -5,10 +5,10 @@ use Rattle.std.specs.List.{flat_map}
 use Rattle.filters.specs.Expressions.{Expression, Under}
 use Rattle.filters.specs.declared.matching.Case.{Case}
 use Rattle.filters.specs.declared.matching.Case.TheVariants.{Heeded, Ignored}
-use Rattle.command_arguments.specs.declared.forms.Place.{Place}
+use Rattle.command_arguments.specs.declared.forms.Position.{Position}
 use Rattle.command_arguments.specs.declared.forms.Uri.{Uri}
-use Rattle.command_arguments.specs.declared.wanted.Wanted.{Wanted}
-use Rattle.command_arguments.specs.declared.wanted.Wanted.TheVariants.{Meeting, Refused}
+use Rattle.command_arguments.specs.declared.criteria.Criteria.{Criteria}
+use Rattle.command_arguments.specs.declared.criteria.Criteria.TheVariants.{Meeting, Refused}
 use Rattle.command_arguments.specs.declared.forms.Window.{Window}
 use Rattle.mpd_text.specs.Answers.Answer.{pair_line}
 use Rattle.mpd_text.specs.Songs.Song.{SongData}
@@ -84,35 +84,35 @@ ordered library case e sort = sorted_by sort (found case e library.songs)
 abbrev pub selected : Library → Case → Expression → Selection → List SongData
 selected library case e selection = windowed selection.window (ordered library case e selection.sort)
 
-abbrev pub find_met : Asked → Library → Case → Selection → Wanted → CommandResult
+abbrev pub find_met : Asked → Library → Case → Selection → Criteria → CommandResult
 find_met asked library case selection (Meeting e) =
     shows asked (lines_for asked library (selected library case e selection))
 find_met asked library case selection (Refused text) = unreadable asked text
 
 -- the songs of a selection are shown
 abbrev pub find : Asked → Library → Case → Selection → CommandResult
-find asked library case selection = find_met asked library case selection selection.wanted
+find asked library case selection = find_met asked library case selection selection.criteria
 
-abbrev pub add_met : Asked → Part → Library → Case → Selection → Option Place → Wanted → CommandResult
-add_met asked part library case selection place (Meeting e) = add_songs asked part (selected library case e selection) place
-add_met asked part library case selection place (Refused text) = unreadable asked text
+abbrev pub add_met : Asked → Part → Library → Case → Selection → Option Position → Criteria → CommandResult
+add_met asked part library case selection position (Meeting e) = add_songs asked part (selected library case e selection) position
+add_met asked part library case selection position (Refused text) = unreadable asked text
 
 -- the songs of a selection are added to the queue
-abbrev pub find_add : Asked → Part → Library → Case → Selection → Option Place → CommandResult
-find_add asked part library case selection place = add_met asked part library case selection place selection.wanted
+abbrev pub find_add : Asked → Part → Library → Case → Selection → Option Position → CommandResult
+find_add asked part library case selection position = add_met asked part library case selection position selection.criteria
 
 -- songs go to the end of a stored playlist; no songs change nothing
 abbrev pub append_found : Asked → Read → List ℕ → List SongData → CommandResult
 append_found asked read name songs = if length songs == 0 then shows asked (codes "") else append asked read name songs
 
-abbrev pub append_met : Asked → Library → Read → List ℕ → Selection → Wanted → CommandResult
+abbrev pub append_met : Asked → Library → Read → List ℕ → Selection → Criteria → CommandResult
 append_met asked library read name selection (Meeting e) = append_found asked read name (selected library Ignored e selection)
 append_met asked library read name selection (Refused text) = unreadable asked text
 
 -- the songs of a selection, where case does not count, go to the end of a stored playlist
 abbrev pub search_add_list : Asked → Library → Read → List ℕ → Selection → CommandResult
 search_add_list asked library read name selection =
-    named asked name (append_met asked library read name selection selection.wanted)
+    named asked name (append_met asked library read name selection selection.criteria)
 
 -- the columns of tags that are listed and grouped by: those of the groups from the last, then that of the
 -- first tag
@@ -128,14 +128,14 @@ unfoldable pub list_texts : Asked → Library → List KnownTag → Expression �
 list_texts asked library tags e =
     shows asked (lines_of_tuples (labels_of tags) (tuples (columns_of tags) (found Heeded e library.songs)))
 
-abbrev pub list_met : Asked → Library → List KnownTag → Option Wanted → CommandResult
+abbrev pub list_met : Asked → Library → List KnownTag → Option Criteria → CommandResult
 list_met asked library tags None = list_texts asked library tags (Under [])
 list_met asked library tags (Some (Meeting e)) = list_texts asked library tags e
 list_met asked library tags (Some (Refused text)) = unreadable asked text
 
 -- the same among the songs that meet a filter, or among all
 abbrev pub list : Asked → Library → Grouping → CommandResult
-list asked library grouping = list_met asked library grouping.tags grouping.wanted
+list asked library grouping = list_met asked library grouping.tags grouping.criteria
 
 -- how many songs there are, and how many seconds they play
 abbrev pub count_lines : ℕ → List SongData → List ℕ
@@ -150,14 +150,14 @@ counts_of (Some tag) rate songs = lines_of_groups (text_of tag) (groups (read_of
 abbrev pub count_found : Asked → Library → Option KnownTag → Expression → CommandResult
 count_found asked library group e = shows asked (counts_of group library.rate (found Heeded e library.songs))
 
-abbrev pub count_met : Asked → Library → Option KnownTag → Option Wanted → CommandResult
+abbrev pub count_met : Asked → Library → Option KnownTag → Option Criteria → CommandResult
 count_met asked library group None = count_found asked library group (Under [])
 count_met asked library group (Some (Meeting e)) = count_found asked library group e
 count_met asked library group (Some (Refused text)) = unreadable asked text
 
 -- the same of the songs that meet a filter, or of all
 abbrev pub count_songs : Asked → Library → Counting → CommandResult
-count_songs asked library counting = count_met asked library counting.group counting.wanted
+count_songs asked library counting = count_met asked library counting.group counting.criteria
 
 abbrev pub no_such_directory : Asked → CommandResult
 no_such_directory asked = refusal asked NoExist (codes "no such directory")
@@ -187,8 +187,8 @@ abbrev pub show_song_or_folder : Asked → Library → Option SongData → List 
 show_song_or_folder asked library (Some song) uri = show_song asked library song
 show_song_or_folder asked library None uri = show_folder asked library uri
 
-abbrev pub list_place : Asked → Library → List ℕ → CommandResult
-list_place asked library uri = show_song_or_folder asked library (song_of library.songs uri) uri
+abbrev pub list_path : Asked → Library → List ℕ → CommandResult
+list_path asked library uri = show_song_or_folder asked library (song_of library.songs uri) uri
 
 -- what lies right in the library, and then the names of all stored playlists, in byte order
 abbrev pub list_root : Asked → Library → Read → CommandResult
@@ -204,7 +204,7 @@ shows_playlists uri everyday = everyday && length uri == 0
 -- what lies right in a folder, or in the library
 abbrev pub list_info : Asked → Library → Read → List ℕ → Bool → CommandResult
 list_info asked library read uri everyday =
-    if shows_playlists uri everyday then list_root asked library read else list_place asked library uri
+    if shows_playlists uri everyday then list_root asked library read else list_path asked library uri
 
 -- the URIs of all songs under a folder
 abbrev pub list_folder : Asked → Library → List ℕ → CommandResult
@@ -272,7 +272,7 @@ unfoldable pub result_of : Asked → Part → Library → Read → DatabaseComma
 result_of asked part library read (database.AlbumArt uri offset) = album_art asked library uri.0
 result_of asked part library read (database.Count counting) = count_songs asked library counting
 result_of asked part library read (database.Find selection) = find asked library Heeded selection
-result_of asked part library read (database.FindAdd selection place) = find_add asked part library Heeded selection place
+result_of asked part library read (database.FindAdd selection position) = find_add asked part library Heeded selection position
 result_of asked part library read (database.List grouping) = list asked library grouping
 result_of asked part library read (database.ListAll uri everyday) = list_all asked library (uri_or_all uri) everyday
 result_of asked part library read (database.ListAllInfo uri) = list_all_info asked library (uri_or_all uri)
@@ -281,6 +281,6 @@ result_of asked part library read (database.ReadComments uri) = read_nothing ask
 result_of asked part library read (database.ReadPicture uri offset) = read_nothing asked library uri.0
 result_of asked part library read (database.Rescan uri) = update asked library
 result_of asked part library read (database.Search selection) = find asked library Ignored selection
-result_of asked part library read (database.SearchAdd selection place) = find_add asked part library Ignored selection place
+result_of asked part library read (database.SearchAdd selection position) = find_add asked part library Ignored selection position
 result_of asked part library read (database.SearchAddPl name selection) = search_add_list asked library read name selection
 result_of asked part library read (database.Update uri) = update asked library

@@ -4,8 +4,8 @@ use Rattle.std.specs.Prelude.{ℕ, ◌+◌, ◌==◌, nat_lt, Bool, true, not, �
 use Rattle.std.specs.List.{remove as remove_at}
 use Rattle.std.specs.Str.{bytes_eq}
 use lib.Pointwise.{pointwise}
-use Rattle.std.specs.declared.ops.Range.{Range as Places}
-use Rattle.command_arguments.specs.declared.forms.Place.{Place}
+use Rattle.std.specs.declared.ops.Range.{Range as Positions}
+use Rattle.command_arguments.specs.declared.forms.Position.{Position}
 use Rattle.shelf.specs.declared.faults.ShelfFault.{ShelfFault}
 use Rattle.shelf.specs.declared.faults.ShelfFault.TheVariants.{NoSuchList, StoreFault}
 use Rattle.shelf.specs.declared.kinds.StickerKind.TheVariants.{Playlist as OfPlaylist}
@@ -70,20 +70,20 @@ list_playlists asked (Names names) = shows asked (playlist_lines names)
 list_playlists asked (Refused fault) = refused asked fault
 list_playlists asked _ = misread asked
 
-abbrev pub load_places : Asked → Part → Library → List (List ℕ) → Option Place → Option (Places ℕ) → CommandResult
-load_places asked part library uris place None = bad_index asked
-load_places asked part library uris place (Some r) = add_songs asked part (loaded library.songs uris r.start r.end) place
+abbrev pub load_positions : Asked → Part → Library → List (List ℕ) → Option Position → Option (Positions ℕ) → CommandResult
+load_positions asked part library uris position None = bad_index asked
+load_positions asked part library uris position (Some r) = add_songs asked part (loaded library.songs uris r.start r.end) position
 
 -- a range counts all entries of the list
-abbrev pub load_range : Asked → Part → Library → Option Range → Option Place → List (List ℕ) → CommandResult
-load_range asked part library None place uris = add_songs asked part (loaded library.songs uris 0 (length uris)) place
-load_range asked part library (Some range) place uris =
-    load_places asked part library uris place (within range (length uris))
+abbrev pub load_range : Asked → Part → Library → Option Range → Option Position → List (List ℕ) → CommandResult
+load_range asked part library None position uris = add_songs asked part (loaded library.songs uris 0 (length uris)) position
+load_range asked part library (Some range) position uris =
+    load_positions asked part library uris position (within range (length uris))
 
 -- the songs of a list that the library has are added to the queue, all together
-abbrev pub load : Asked → Part → Library → Read → List ℕ → Option Range → Option Place → CommandResult
-load asked part library read name range place =
-    named asked name (on_list asked read (load_range asked part library range place))
+abbrev pub load : Asked → Part → Library → Read → List ℕ → Option Range → Option Position → CommandResult
+load asked part library read name range position =
+    named asked name (on_list asked read (load_range asked part library range position))
 
 -- the list of the queue's songs is kept under a new name
 abbrev pub save : Asked → Part → List ℕ → CommandResult
@@ -133,16 +133,16 @@ playlist_add asked library read name uri = named asked name (append_song_or_fold
 abbrev pub playlist_clear : Asked → Read → List ℕ → CommandResult
 playlist_clear asked read name = named asked name (on_list asked read (λ uris. writes asked (Put name [] (not (length uris == 0)))))
 
--- the entry at a place leaves a list
+-- the entry at a position leaves a list
 abbrev pub playlist_delete : Asked → Read → List ℕ → ℕ → CommandResult
-playlist_delete asked read name place =
-    named asked name (on_list asked read (λ uris. if nat_lt place (length uris) then writes asked (Put name (remove_at uris place) true) else bad_index asked))
+playlist_delete asked read name position =
+    named asked name (on_list asked read (λ uris. if nat_lt position (length uris) then writes asked (Put name (remove_at uris position) true) else bad_index asked))
 
 -- whether two lists have the same URIs
 unfoldable pub same_uris : List (List ℕ) → List (List ℕ) → Bool
 same_uris = pointwise bytes_eq
 
--- the entry at a place of a list goes to another
+-- the entry at a position of a list goes to another
 abbrev pub playlist_move : Asked → Read → List ℕ → ℕ → ℕ → CommandResult
 playlist_move asked read name from to =
     named asked name (on_list asked read (λ uris.
@@ -165,10 +165,10 @@ abbrev pub question_of : PlaylistCommand → Question
 question_of playlists.ListPlaylists = AskNames
 question_of (playlists.ListPlaylist name) = asks_list name
 question_of (playlists.ListPlaylistInfo name) = asks_list name
-question_of (playlists.Load name range place) = asks_list name
+question_of (playlists.Load name range position) = asks_list name
 question_of (playlists.PlaylistAdd name uri) = asks_list name
 question_of (playlists.PlaylistClear name) = asks_list name
-question_of (playlists.PlaylistDelete name place) = asks_list name
+question_of (playlists.PlaylistDelete name position) = asks_list name
 question_of (playlists.PlaylistMove name from to) = asks_list name
 question_of (playlists.Rename name new) = asks_to_rename name new
 question_of (playlists.Rm name) = asks_stickers name
@@ -179,10 +179,10 @@ unfoldable pub result_of : Asked → Part → Library → Read → PlaylistComma
 result_of asked part library read (playlists.ListPlaylist name) = list_playlist asked read name
 result_of asked part library read (playlists.ListPlaylistInfo name) = list_playlist_info asked library read name
 result_of asked part library read playlists.ListPlaylists = list_playlists asked read
-result_of asked part library read (playlists.Load name range place) = load asked part library read name range place
+result_of asked part library read (playlists.Load name range position) = load asked part library read name range position
 result_of asked part library read (playlists.PlaylistAdd name uri) = playlist_add asked library read name uri.0
 result_of asked part library read (playlists.PlaylistClear name) = playlist_clear asked read name
-result_of asked part library read (playlists.PlaylistDelete name place) = playlist_delete asked read name place
+result_of asked part library read (playlists.PlaylistDelete name position) = playlist_delete asked read name position
 result_of asked part library read (playlists.PlaylistMove name from to) = playlist_move asked read name from to
 result_of asked part library read (playlists.Rename name new) = rename asked read name new
 result_of asked part library read (playlists.Rm name) = remove asked read name

@@ -118,8 +118,8 @@ show_found asked library (Refused fault) uri name test = refused asked fault
 show_found asked library _ uri name test = misread asked
 
 -- the URI is a song's, or a folder's
-abbrev pub is_place : Library → List ℕ → Bool
-is_place library uri = is_song library uri || is_folder uri library.songs
+abbrev pub is_song_or_folder : Library → List ℕ → Bool
+is_song_or_folder library uri = is_song library uri || is_folder uri library.songs
 
 -- what each command makes of the player: stickers are of the songs that the library has, and of the stored
 -- playlists
@@ -134,7 +134,7 @@ result_of asked library read (Delete (Playlist list) name) = delete_of_list aske
 result_of asked library read (ListStickers (Song uri)) = of_song asked library uri.0 (show_stickers asked read)
 result_of asked library read (ListStickers (Playlist list)) = named asked list (show_stickers asked read)
 result_of asked library read (Find (Song uri) name test) =
-    if is_place library uri.0 then named_sticker asked name (show_found asked library read uri.0 name test) else no_such_song asked
+    if is_song_or_folder library uri.0 then named_sticker asked name (show_found asked library read uri.0 name test) else no_such_song asked
 result_of asked library read (Find (Playlist list) name test) = find_lists asked read list name test
 
 -- unless there is no memory, the transition is what this command makes of the player
@@ -153,7 +153,7 @@ abbrev pub asks_all : Library → List ℕ → Question
 asks_all library uri = if is_song library uri then AskStickers OfSong uri else NoQuestion
 
 abbrev pub asks_found : Library → List ℕ → List ℕ → Question
-asks_found library uri name = if is_place library uri && is_sticker_name name then AskFound OfSong name else NoQuestion
+asks_found library uri name = if is_song_or_folder library uri && is_sticker_name name then AskFound OfSong name else NoQuestion
 
 -- what is asked of a stored playlist: its answer says first whether it is there
 abbrev pub asks_of_list : List ℕ → List ℕ → Question

@@ -1,6 +1,6 @@
 //! What is asked of the lent shelf.
 ghost use Rattle.library_commands.specs.Asking.{question_by};
-ghost use Rattle.transitions.specs.Shelves.{ReadsFor, TurnsByReading};
+ghost use Rattle.transitions.specs.Shelves.{ReadsFor, ChangesByReading};
 
 use crate::{database, playlists, stickers};
 use mpd_command::Command;
@@ -15,7 +15,7 @@ pub fn ask<S: Shelf>(
     shelf: &mut S,
     command: &Command,
 ) -> Result<Read, AllocError>
-    ensures turns { TurnsByReading S.standing shelf.old shelf.new result }
+    ensures changes { ChangesByReading S.standing shelf.old shelf.new result }
     ensures read { ReadsFor S.standing S.failed shelf.old shelf.new (question_by library.now command.now) result }
 {
     match command {

@@ -8,14 +8,14 @@ ghost use Rattle.mpd_text.specs.Answers.Answer.{pair_line};
 ghost use Rattle.player_state.specs.declared.effect.CommandEffect.TheVariants.{Rests};
 ghost use Rattle.player_state.specs.declared.effect.Effect.TheVariants.{ByCommand};
 ghost use Rattle.known_tags.specs.KnownTags.{read_of, text_of};
-ghost use Rattle.library_commands.specs.Database.{album_art as album_art_lem, append_found as append_found_lem, asks_names, columns_of, count_found as count_found_lem, count_songs as count_songs_lem, find as find_lem, find_add as find_add_lem, labels_of, lines_with, lines_in, lines_of_folders, lines_of_uris, list as list_lem, list_all as list_all_lem, list_all_info as list_all_info_lem, list_folder as list_folder_lem, list_folder_info as list_folder_info_lem, list_info as list_info_lem, list_place as list_place_lem, list_root as list_root_lem, list_texts as list_texts_lem, list_uris as list_uris_lem, no_such_directory as no_such_directory_lem, ordered as ordered_lem, question_of, read_nothing as read_nothing_lem, result_of, search_add_list as search_add_list_lem, selected as selected_lem, show_folder as show_folder_lem, show_song as show_song_lem, show_uri as show_uri_lem, shows_playlists as shows_playlists_lem, unreadable as unreadable_lem, update as update_lem, uri_or_all as uri_or_all_lem, windowed as windowed_lem};
-ghost use Rattle.transitions.specs.Shelves.{ReadsFor, TurnsByReading};
+ghost use Rattle.library_commands.specs.Database.{album_art as album_art_lem, append_found as append_found_lem, asks_names, columns_of, count_found as count_found_lem, count_songs as count_songs_lem, find as find_lem, find_add as find_add_lem, labels_of, lines_with, lines_in, lines_of_folders, lines_of_uris, list as list_lem, list_all as list_all_lem, list_all_info as list_all_info_lem, list_folder as list_folder_lem, list_folder_info as list_folder_info_lem, list_info as list_info_lem, list_path as list_path_lem, list_root as list_root_lem, list_texts as list_texts_lem, list_uris as list_uris_lem, no_such_directory as no_such_directory_lem, ordered as ordered_lem, question_of, read_nothing as read_nothing_lem, result_of, search_add_list as search_add_list_lem, selected as selected_lem, show_folder as show_folder_lem, show_song as show_song_lem, show_uri as show_uri_lem, shows_playlists as shows_playlists_lem, unreadable as unreadable_lem, update as update_lem, uri_or_all as uri_or_all_lem, windowed as windowed_lem};
+ghost use Rattle.transitions.specs.Shelves.{ReadsFor, ChangesByReading};
 ghost use Rattle.transitions.specs.Transitions.{IsDecidedBy};
 ghost use Rattle.player_state.specs.Fits.{Fits};
 
 use crate::playlists::{append, ask_list, ask_names, misread, refused};
 use crate::stickers::is_song;
-use command_arguments::{Place, Uri, Wanted, Window};
+use command_arguments::{Criteria, Position, Uri, Window};
 use filters::{Case, Filter, Test, Vocabulary};
 use known_tags::{KnownTag, TagSet, push_shared_with};
 use mpd_command::DatabaseCommand;
@@ -42,7 +42,7 @@ pub fn run(alloc: Global, asked: Asked, part: &Part, library: &Library, read: &R
         DatabaseCommand::AlbumArt(uri, _) => album_art(alloc, asked, library, uri),
         DatabaseCommand::Count(counting) => count(alloc, asked, library, counting),
         DatabaseCommand::Find(selection) => find(alloc, asked, library, Case::Heeded, selection),
-        DatabaseCommand::FindAdd(selection, place) => find_add(alloc, asked, part, library, Case::Heeded, selection, *place),
+        DatabaseCommand::FindAdd(selection, position) => find_add(alloc, asked, part, library, Case::Heeded, selection, *position),
         DatabaseCommand::List(grouping) => list(alloc, asked, library, grouping),
         DatabaseCommand::ListAll(uri, everyday) => list_all(alloc, asked, library, uri_or_all(uri.as_ref()), *everyday),
         DatabaseCommand::ListAllInfo(uri) => list_all_info(alloc, asked, library, uri_or_all(uri.as_ref())),
@@ -51,7 +51,7 @@ pub fn run(alloc: Global, asked: Asked, part: &Part, library: &Library, read: &R
         DatabaseCommand::ReadPicture(uri, _) => read_nothing(alloc, asked, library, uri),
         DatabaseCommand::Rescan(_) => update(alloc, asked, library),
         DatabaseCommand::Search(selection) => find(alloc, asked, library, Case::Ignored, selection),
-        DatabaseCommand::SearchAdd(selection, place) => find_add(alloc, asked, part, library, Case::Ignored, selection, *place),
+        DatabaseCommand::SearchAdd(selection, position) => find_add(alloc, asked, part, library, Case::Ignored, selection, *position),
         DatabaseCommand::SearchAddPl(name, selection) => search_add_list(alloc, asked, library, read, name, selection),
         DatabaseCommand::Update(_) => update(alloc, asked, library),
     }
@@ -66,15 +66,15 @@ fn find(
 ) -> Result<Transition, AllocError>
     ensures { IsDecidedBy result (find_lem asked library.now case selection.now) }
 {
-    match &selection.wanted {
-        Wanted::Meeting(filter) => {
+    match &selection.criteria {
+        Criteria::Meeting(filter) => {
             let songs = ordered(alloc, library, filter, case, selection.sort)?;
             let shown = windowed(&songs, selection.window);
             let mut lines = Answer::new(alloc);
             push_songs(&mut lines, library, shown, asked.tags)?;
             Transition::shows(asked, lines)
         }
-        Wanted::Refused(text) => unreadable(alloc, asked, text.as_str()),
+        Criteria::Refused(text) => unreadable(alloc, asked, text.as_str()),
     }
 }
 
@@ -114,7 +114,7 @@ fn windowed<'a, 'b>(songs: &'b [&'a SharedSong], window: Option<Window>) -> &'b 
     first(after(songs, window.start as usize), count as usize)
 }
 
-/// The songs from a place on.
+/// The songs from a position on.
 fn after<'a, 'b>(songs: &'b [&'a SharedSong], start: usize) -> &'b [&'a SharedSong]
     ensures { result.now ≡ drop start songs.now }
 {
@@ -157,17 +157,17 @@ fn find_add(
     library: &Library,
     case: Case,
     selection: &Selection,
-    place: Option<Place>,
+    position: Option<Position>,
 ) -> Result<Transition, AllocError>
-    ensures transition { IsDecidedBy result (find_add_lem asked part.now library.now case selection.now place) }
+    ensures transition { IsDecidedBy result (find_add_lem asked part.now library.now case selection.now position) }
     ensures fits { IfOk result (λ transition. Fits part.now transition.effect) }
 {
-    match &selection.wanted {
-        Wanted::Meeting(filter) => {
+    match &selection.criteria {
+        Criteria::Meeting(filter) => {
             let songs = selected(alloc, library, filter, case, selection)?;
-            add_songs(alloc, asked, part, songs, place)
+            add_songs(alloc, asked, part, songs, position)
         }
-        Wanted::Refused(text) => unreadable(alloc, asked, text.as_str()),
+        Criteria::Refused(text) => unreadable(alloc, asked, text.as_str()),
     }
 }
 
@@ -201,12 +201,12 @@ fn search_add_list(
     if !is_list_name(name.as_str()) {
         return Transition::bad_name(alloc, asked, name.as_str());
     }
-    match &selection.wanted {
-        Wanted::Meeting(filter) => {
+    match &selection.criteria {
+        Criteria::Meeting(filter) => {
             let songs = selected(alloc, library, filter, Case::Ignored, selection)?;
             append_found(alloc, asked, read, name, songs.items())
         }
-        Wanted::Refused(text) => unreadable(alloc, asked, text.as_str()),
+        Criteria::Refused(text) => unreadable(alloc, asked, text.as_str()),
     }
 }
 
@@ -237,10 +237,10 @@ fn list(
     ensures rests { IfOk result (λ transition. transition.effect ≡ ByCommand Rests) }
 {
     let tags = grouping.tags.items();
-    match &grouping.wanted {
+    match &grouping.criteria {
         None => list_texts(alloc, asked, library, tags, &all_songs(alloc)?),
-        Some(Wanted::Meeting(filter)) => list_texts(alloc, asked, library, tags, filter),
-        Some(Wanted::Refused(text)) => unreadable(alloc, asked, text.as_str()),
+        Some(Criteria::Meeting(filter)) => list_texts(alloc, asked, library, tags, filter),
+        Some(Criteria::Refused(text)) => unreadable(alloc, asked, text.as_str()),
     }
 }
 
@@ -290,7 +290,7 @@ fn tags_read(alloc: Global, tags: &[KnownTag]) -> Result<Vec<Option<TagName>>, A
 }
 
 /// The names of their columns.
-#[tactic(auto, using(crate::proofs::Columns::turned))]
+#[tactic(auto, using(crate::proofs::Columns::reversed))]
 fn labels(alloc: Global, tags: &[KnownTag]) -> Result<Vec<&'static str>, AllocError>
     ensures { IfOk result (λ labels. map (λ label. label.now) labels.items ≡ labels_of tags.now) }
 {
@@ -317,12 +317,12 @@ fn count(
 ) -> Result<Transition, AllocError>
     ensures { IsDecidedBy result (count_songs_lem asked library.now counting.now) }
 {
-    match &counting.wanted {
+    match &counting.criteria {
         None => count_found(alloc, asked, library, counting.group, &all_songs(alloc)?),
-        Some(Wanted::Meeting(filter)) => {
+        Some(Criteria::Meeting(filter)) => {
             count_found(alloc, asked, library, counting.group, filter)
         }
-        Some(Wanted::Refused(text)) => unreadable(alloc, asked, text.as_str()),
+        Some(Criteria::Refused(text)) => unreadable(alloc, asked, text.as_str()),
     }
 }
 
@@ -365,7 +365,7 @@ fn list_info(
     if shows_playlists(uri, everyday) {
         return list_root(alloc, asked, library, read);
     }
-    list_place(alloc, asked, library, uri)
+    list_path(alloc, asked, library, uri)
 }
 
 /// Whether stored playlists are shown as well: in the everyday profile, where the whole library is asked for.
@@ -396,13 +396,13 @@ fn list_root(
 }
 
 /// Shows a song, or the folders and songs right in a folder.
-fn list_place(
+fn list_path(
     alloc: Global,
     asked: Asked,
     library: &Library,
     uri: &str,
 ) -> Result<Transition, AllocError>
-    ensures { IsDecidedBy result (list_place_lem asked library.now uri.now) }
+    ensures { IsDecidedBy result (list_path_lem asked library.now uri.now) }
 {
     match library.songs.db().handle(uri) {
         Some(song) => show_song(alloc, asked, library, song),
@@ -636,7 +636,7 @@ fn update(alloc: Global, asked: Asked, library: &Library) -> Result<Transition, 
 
 /// Asks the shelf what a command asks of it.
 pub(crate) fn ask<S: Shelf>(shelf: &mut S, command: &DatabaseCommand) -> Result<Read, AllocError>
-    ensures turns { TurnsByReading S.standing shelf.old shelf.new result }
+    ensures changes { ChangesByReading S.standing shelf.old shelf.new result }
     ensures read { ReadsFor S.standing S.failed shelf.old shelf.new (question_of command.now) result }
 {
     match command {
@@ -652,7 +652,7 @@ pub(crate) fn ask<S: Shelf>(shelf: &mut S, command: &DatabaseCommand) -> Result<
 
 /// Asks for the names of all stored playlists, where they are shown.
 fn ask_playlists<S: Shelf>(shelf: &mut S, uri: &str, everyday: bool) -> Result<Read, AllocError>
-    ensures turns { TurnsByReading S.standing shelf.old shelf.new result }
+    ensures changes { ChangesByReading S.standing shelf.old shelf.new result }
     ensures read { ReadsFor S.standing S.failed shelf.old shelf.new (asks_names uri.now everyday) result }
 {
     if !shows_playlists(uri, everyday) {

@@ -6,7 +6,7 @@ ghost use Rattle.player_state.specs.declared.effect.Effect.TheVariants.{ByComman
 ghost use Rattle.player_state.specs.declared.effect.CommandEffect.TheVariants.{Rests};
 ghost use Rattle.library_commands.specs.Stickers.{asks_for_lists, asks_of_list, delete_of_list, find_lists, first_refusal as first_refusal_lem, get_of_list, is_missing as is_missing_lem, refused_for, set_of_list, show_list as show_one, show_lists as show_lists_lem, show_stickers as show_stickers_lem};
 ghost use Rattle.library_commands.specs.Playlists.{named};
-ghost use Rattle.transitions.specs.Shelves.{ReadsFor, TurnsByReading};
+ghost use Rattle.transitions.specs.Shelves.{ReadsFor, ChangesByReading};
 ghost use Rattle.transitions.specs.Transitions.{IsDecidedBy};
 
 use crate::playlists::{misread, refused};
@@ -240,7 +240,7 @@ fn show_list(
 
 /// Asks for the sticker of a stored playlist, if its name can be one's.
 pub(crate) fn ask<S: Shelf>(shelf: &mut S, list: &str, name: &str) -> Result<Read, AllocError>
-    ensures turns { TurnsByReading S.standing shelf.old shelf.new result }
+    ensures changes { ChangesByReading S.standing shelf.old shelf.new result }
     ensures read { ReadsFor S.standing S.failed shelf.old shelf.new (asks_of_list list.now name.now) result }
 {
     if !is_list_name(list) {
@@ -259,7 +259,7 @@ pub(crate) fn ask_to_find<S: Shelf>(
     list: &str,
     name: &str,
 ) -> Result<Read, AllocError>
-    ensures turns { TurnsByReading S.standing shelf.old shelf.new result }
+    ensures changes { ChangesByReading S.standing shelf.old shelf.new result }
     ensures read { ReadsFor S.standing S.failed shelf.old shelf.new (asks_for_lists list.now name.now) result }
 {
     if !list.is_empty() {

@@ -6,11 +6,11 @@ ghost use Rattle.player_state.specs.declared.effect.Effect.TheVariants.{ByComman
 ghost use Rattle.player_state.specs.declared.effect.CommandEffect.TheVariants.{Rests};
 ghost use Rattle.library_commands.specs.Playlists.{asks_list, asks_stickers, asks_to_rename, append as append_lem, append_folder as append_folder_lem, list_playlist as list_playlist_lem, list_playlist_info as list_playlist_info_lem, list_playlists as list_playlists_lem, load as load_lem, load_range as load_range_lem, misread as misread_lem, playlist_add as playlist_add_lem, playlist_clear as playlist_clear_lem, playlist_delete as playlist_delete_lem, playlist_move as playlist_move_lem, put_with as put_with_lem, question_of, refused as refused_lem, remove as remove_lem, rename as rename_lem, result_of, same_uris, save as save_lem};
 ghost use Rattle.transitions.specs.CommandResults.{writes as writes_lem};
-ghost use Rattle.transitions.specs.Shelves.{AskNames, ReadsFor, TurnsByReading};
+ghost use Rattle.transitions.specs.Shelves.{AskNames, ReadsFor, ChangesByReading};
 ghost use Rattle.transitions.specs.Transitions.{IsDecidedBy};
 ghost use Rattle.player_state.specs.Fits.{Fits};
 
-use command_arguments::{Place, Uri};
+use command_arguments::{Position, Uri};
 use mpd_command::PlaylistCommand;
 use mpd_text::{ErrorNumber, Range, Text};
 use player_state::{Library, Part};
@@ -35,10 +35,10 @@ pub fn run(alloc: Global, asked: Asked, part: &Part, library: &Library, read: &R
         PlaylistCommand::ListPlaylist(name) => list_playlist(alloc, asked, read, name),
         PlaylistCommand::ListPlaylistInfo(name) => list_playlist_info(alloc, asked, library, read, name),
         PlaylistCommand::ListPlaylists => list_playlists(alloc, asked, read),
-        PlaylistCommand::Load(name, range, place) => load(alloc, asked, part, library, read, name, *range, *place),
+        PlaylistCommand::Load(name, range, position) => load(alloc, asked, part, library, read, name, *range, *position),
         PlaylistCommand::PlaylistAdd(name, uri) => playlist_add(alloc, asked, library, read, name, uri),
         PlaylistCommand::PlaylistClear(name) => playlist_clear(alloc, asked, read, name),
-        PlaylistCommand::PlaylistDelete(name, place) => playlist_delete(alloc, asked, read, name, *place),
+        PlaylistCommand::PlaylistDelete(name, position) => playlist_delete(alloc, asked, read, name, *position),
         PlaylistCommand::PlaylistMove(name, from, to) => playlist_move(alloc, asked, read, name, *from, *to),
         PlaylistCommand::Rename(name, new) => rename(alloc, asked, read, name, new),
         PlaylistCommand::Rm(name) => remove(alloc, asked, read, name),
@@ -132,16 +132,16 @@ fn load(
     read: &Read,
     name: &Text,
     range: Option<Range>,
-    place: Option<Place>,
+    position: Option<Position>,
 ) -> Result<Transition, AllocError>
-    ensures transition { IsDecidedBy result (load_lem asked part.now library.now read.now name.now range place) }
+    ensures transition { IsDecidedBy result (load_lem asked part.now library.now read.now name.now range position) }
     ensures fits { IfOk result (λ transition. Fits part.now transition.effect) }
 {
     if !is_list_name(name.as_str()) {
         return Transition::bad_name(alloc, asked, name.as_str());
     }
     match read {
-        Read::List(uris) => load_range(alloc, asked, part, library, range, place, uris),
+        Read::List(uris) => load_range(alloc, asked, part, library, range, position, uris),
         Read::Refused(fault) => refused(alloc, asked, *fault),
         _ => misread(alloc, asked),
     }
@@ -153,22 +153,28 @@ fn load_range(
     part: &Part,
     library: &Library,
     range: Option<Range>,
-    place: Option<Place>,
+    position: Option<Position>,
     uris: &UriList,
 ) -> Result<Transition, AllocError>
-    ensures transition { IsDecidedBy result (load_range_lem asked part.now library.now range place uris.now) }
+    ensures transition { IsDecidedBy result (load_range_lem asked part.now library.now range position uris.now) }
     ensures fits { IfOk result (λ transition. Fits part.now transition.effect) }
 {
     let all = uris.len();
-    let places = match range {
+    let positions = match range {
         None => 0..all,
         Some(range) => match range.within(all) {
-            Some(places) => places,
+            Some(positions) => positions,
             None => return Transition::bad_index(alloc, asked),
         },
     };
-    let songs = loaded(alloc, library.songs.db(), uris, places.start, places.end)?;
-    add_songs(alloc, asked, part, shares(alloc, &songs)?, place)
+    let songs = loaded(
+        alloc,
+        library.songs.db(),
+        uris,
+        positions.start,
+        positions.end,
+    )?;
+    add_songs(alloc, asked, part, shares(alloc, &songs)?, position)
 }
 
 fn save(alloc: Global, asked: Asked, part: &Part, name: &Text) -> Result<Transition, AllocError>
@@ -339,19 +345,19 @@ fn playlist_delete(
     asked: Asked,
     read: &Read,
     name: &Text,
-    place: u32,
+    position: u32,
 ) -> Result<Transition, AllocError>
-    ensures { IsDecidedBy result (playlist_delete_lem asked read.now name.now place) }
+    ensures { IsDecidedBy result (playlist_delete_lem asked read.now name.now position) }
 {
     if !is_list_name(name.as_str()) {
         return Transition::bad_name(alloc, asked, name.as_str());
     }
     match read {
         Read::List(uris) => {
-            if place as usize >= uris.len() {
+            if position as usize >= uris.len() {
                 return Transition::bad_index(alloc, asked);
             }
-            let rest = without(alloc, uris, place as usize)?;
+            let rest = without(alloc, uris, position as usize)?;
             put(alloc, asked, name, rest, true)
         }
         Read::Refused(fault) => refused(alloc, asked, *fault),
@@ -395,7 +401,7 @@ fn differ(uris: &UriList, others: &UriList) -> bool
 
 /// Asks the shelf what a command asks of it.
 pub(crate) fn ask<S: Shelf>(shelf: &mut S, command: &PlaylistCommand) -> Result<Read, AllocError>
-    ensures turns { TurnsByReading S.standing shelf.old shelf.new result }
+    ensures changes { ChangesByReading S.standing shelf.old shelf.new result }
     ensures read { ReadsFor S.standing S.failed shelf.old shelf.new (question_of command.now) result }
 {
     match command {
@@ -415,7 +421,7 @@ pub(crate) fn ask<S: Shelf>(shelf: &mut S, command: &PlaylistCommand) -> Result<
 
 /// Asks for the names of all lists.
 pub(crate) fn ask_names<S: Shelf>(shelf: &mut S) -> Result<Read, AllocError>
-    ensures turns { TurnsByReading S.standing shelf.old shelf.new result }
+    ensures changes { ChangesByReading S.standing shelf.old shelf.new result }
     ensures read { ReadsFor S.standing S.failed shelf.old shelf.new AskNames result }
 {
     match shelf.lists() {
@@ -427,7 +433,7 @@ pub(crate) fn ask_names<S: Shelf>(shelf: &mut S) -> Result<Read, AllocError>
 
 /// Asks for a list, if the name can be one's.
 pub(crate) fn ask_list<S: Shelf>(shelf: &mut S, name: &str) -> Result<Read, AllocError>
-    ensures turns { TurnsByReading S.standing shelf.old shelf.new result }
+    ensures changes { ChangesByReading S.standing shelf.old shelf.new result }
     ensures read { ReadsFor S.standing S.failed shelf.old shelf.new (asks_list name.now) result }
 {
     if !is_list_name(name) {
@@ -442,7 +448,7 @@ pub(crate) fn ask_list<S: Shelf>(shelf: &mut S, name: &str) -> Result<Read, Allo
 
 /// Asks for the stickers of a list, if the name can be one's.
 pub(crate) fn ask_stickers<S: Shelf>(shelf: &mut S, name: &str) -> Result<Read, AllocError>
-    ensures turns { TurnsByReading S.standing shelf.old shelf.new result }
+    ensures changes { ChangesByReading S.standing shelf.old shelf.new result }
     ensures read { ReadsFor S.standing S.failed shelf.old shelf.new (asks_stickers name.now) result }
 {
     if !is_list_name(name) {
@@ -457,7 +463,7 @@ pub(crate) fn ask_stickers<S: Shelf>(shelf: &mut S, name: &str) -> Result<Read, 
 
 /// The same, if the new name can be one's too.
 fn ask_to_rename<S: Shelf>(shelf: &mut S, name: &str, new: &str) -> Result<Read, AllocError>
-    ensures turns { TurnsByReading S.standing shelf.old shelf.new result }
+    ensures changes { ChangesByReading S.standing shelf.old shelf.new result }
     ensures read { ReadsFor S.standing S.failed shelf.old shelf.new (asks_to_rename name.now new.now) result }
 {
     if !is_list_name(new) {

@@ -6,10 +6,10 @@ ghost use Rattle.player_state.specs.declared.effect.Effect.TheVariants.{ByComman
 ghost use Rattle.player_state.specs.declared.effect.CommandEffect.TheVariants.{Rests};
 ghost use Rattle.mpd_command.specs.declared.sticker.StickerCommand.TheVariants.{Delete, Get, List as ListStickers, Set};
 ghost use Rattle.mpd_command.specs.declared.sticker.Target.TheVariants.{Song};
-ghost use Rattle.library_commands.specs.Stickers.{FindsSongs, Runs, asks_all, asks_found, asks_sticker, is_place as is_place_lem, is_song as is_song_lem, question_of, set_value as set_value_lem, show_stickers as show_stickers_lem, show_value as show_value_lem};
+ghost use Rattle.library_commands.specs.Stickers.{FindsSongs, Runs, asks_all, asks_found, asks_sticker, is_song_or_folder as is_song_or_folder_lem, is_song as is_song_lem, question_of, set_value as set_value_lem, show_stickers as show_stickers_lem, show_value as show_value_lem};
 ghost use Rattle.transitions.specs.CommandResults.{writes as writes_lem};
 ghost use Rattle.transitions.specs.Transitions.{IsDecidedBy};
-ghost use Rattle.transitions.specs.Shelves.{ReadsFor, TurnsByReading};
+ghost use Rattle.transitions.specs.Shelves.{ReadsFor, ChangesByReading};
 
 use crate::playlist_stickers;
 use crate::playlists::{ask_stickers, misread, refused};
@@ -75,8 +75,8 @@ pub(crate) fn is_song(library: &Library, uri: &str) -> bool
 }
 
 /// Whether a URI is that of a song of the library, or of a folder.
-pub(crate) fn is_place(library: &Library, uri: &str) -> bool
-    ensures { result ≡ is_place_lem library.now uri.now }
+pub(crate) fn is_song_or_folder(library: &Library, uri: &str) -> bool
+    ensures { result ≡ is_song_or_folder_lem library.now uri.now }
 {
     is_song(library, uri) || is_folder(library.songs.db(), uri)
 }
@@ -251,7 +251,7 @@ fn find_stickers(
     ensures transition { FindsSongs result asked library.now read.now uri.now name.now (option_copied test.entry) }
     ensures rests { IfOk result (λ transition. transition.effect ≡ ByCommand Rests) }
 {
-    if !is_place(library, uri.0.as_str()) {
+    if !is_song_or_folder(library, uri.0.as_str()) {
         return Transition::no_such_song(alloc, asked);
     }
     if !is_sticker_name(name.as_str()) {
@@ -282,7 +282,7 @@ pub(crate) fn ask<S: Shelf>(
     shelf: &mut S,
     command: &StickerCommand,
 ) -> Result<Read, AllocError>
-    ensures turns { TurnsByReading S.standing shelf.old shelf.new result }
+    ensures changes { ChangesByReading S.standing shelf.old shelf.new result }
     ensures read { ReadsFor S.standing S.failed shelf.old shelf.new (question_of library.now command.now) result }
 {
     match command {
@@ -315,7 +315,7 @@ fn ask_sticker<S: Shelf>(
     uri: &str,
     name: &str,
 ) -> Result<Read, AllocError>
-    ensures turns { TurnsByReading S.standing shelf.old shelf.new result }
+    ensures changes { ChangesByReading S.standing shelf.old shelf.new result }
     ensures read { ReadsFor S.standing S.failed shelf.old shelf.new (asks_sticker library.now uri.now name.now) result }
 {
     if !is_song(library, uri) || !is_sticker_name(name) {
@@ -330,7 +330,7 @@ fn ask_sticker<S: Shelf>(
 
 /// Asks for all stickers of a song of the library.
 fn ask_all<S: Shelf>(library: &Library, shelf: &mut S, uri: &str) -> Result<Read, AllocError>
-    ensures turns { TurnsByReading S.standing shelf.old shelf.new result }
+    ensures changes { ChangesByReading S.standing shelf.old shelf.new result }
     ensures read { ReadsFor S.standing S.failed shelf.old shelf.new (asks_all library.now uri.now) result }
 {
     if !is_song(library, uri) {
@@ -350,10 +350,10 @@ fn ask_found<S: Shelf>(
     uri: &str,
     name: &str,
 ) -> Result<Read, AllocError>
-    ensures turns { TurnsByReading S.standing shelf.old shelf.new result }
+    ensures changes { ChangesByReading S.standing shelf.old shelf.new result }
     ensures read { ReadsFor S.standing S.failed shelf.old shelf.new (asks_found library.now uri.now name.now) result }
 {
-    if !is_place(library, uri) || !is_sticker_name(name) {
+    if !is_song_or_folder(library, uri) || !is_sticker_name(name) {
         return Ok(Read::Nothing);
     }
     match shelf.find_stickers(StickerKind::Song, name) {

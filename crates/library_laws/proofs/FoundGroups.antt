@@ -16,8 +16,8 @@ use Rattle.song_search.specs.Answers.{found}
 use Rattle.song_groups.specs.Columns.{has_text, text_in, texts_in, with_text}
 use Rattle.song_groups.specs.Counts.{group_lines, group_of, lines_of_groups}
 use Rattle.song_groups.proofs.Rows.{each_one}
-use Rattle.command_arguments.specs.declared.wanted.Wanted.{Wanted}
-use Rattle.command_arguments.specs.declared.wanted.Wanted.TheVariants.{Meeting, Refused}
+use Rattle.command_arguments.specs.declared.criteria.Criteria.{Criteria}
+use Rattle.command_arguments.specs.declared.criteria.Criteria.TheVariants.{Meeting, Refused}
 use Rattle.player_state.specs.declared.state.Library.{Library}
 use Rattle.transitions.specs.CommandResults.{shows}
 use Rattle.transitions.specs.declared.asked.Asked.{Asked}
@@ -26,7 +26,7 @@ use Rattle.library_laws.specs.Found.{CanBeRead, Picks}
 use Rattle.library_laws.specs.Grouped.{AreGroupsOf, CountsTheFoundByText, Group, lines_of_group}
 use Rattle.library_laws.specs.Listed.{SomeHas}
 use Rattle.library_laws.proofs.FoundTexts.{either, here, nowhere, there}
-use Rattle.library_laws.proofs.PickedSongs.{expression_of, picks, wanted-is}
+use Rattle.library_laws.proofs.PickedSongs.{expression_of, picks, criteria-is}
 
 -- the groups of songs
 group-at : Option TagName → List SongData → List ℕ → Group
@@ -75,8 +75,8 @@ groups-of tag songs =
       each = All-map P (group-at tag songs) texts (All-from_recursion Q texts (each_one Q (picked-each tag songs) texts));
     }
 
-counted : (asked : Asked) (library : Library) (tag : KnownTag) (wanted : Option Wanted) → CanBeRead wanted
-    → count_met asked library (Some tag) wanted ≡ shows asked (counts_of (Some tag) library.rate (found Heeded (expression_of wanted) library.songs))
+counted : (asked : Asked) (library : Library) (tag : KnownTag) (criteria : Option Criteria) → CanBeRead criteria
+    → count_met asked library (Some tag) criteria ≡ shows asked (counts_of (Some tag) library.rate (found Heeded (expression_of criteria) library.songs))
 counted asked library tag None can = refl
 counted asked library tag (Some (Meeting e)) can = refl
 counted asked library tag (Some (Refused text)) can = absurd can
@@ -87,8 +87,8 @@ found_songs_are_counted_by_text asked part library read counting tag songs group
     let texts : List (List ℕ) = ascending (texts_in (read_of tag) songs) in (
       map (group-at (read_of tag) songs) texts,
       groups-of (read_of tag) songs,
-      ap (λ (group : Option KnownTag). count_met asked library group counting.wanted) grouped
-          ∙ counted asked library tag counting.wanted can
-          ∙ ap (λ (them : List SongData). shows asked (counts_of (Some tag) library.rate them)) (sym (wanted-is counting.wanted library.songs songs can picks))
+      ap (λ (group : Option KnownTag). count_met asked library group counting.criteria) grouped
+          ∙ counted asked library tag counting.criteria can
+          ∙ ap (λ (them : List SongData). shows asked (counts_of (Some tag) library.rate them)) (sym (criteria-is counting.criteria library.songs songs can picks))
           ∙ ap (shows asked) (lines-are (read_of tag) library.rate (text_of tag) songs texts),
     )

@@ -16,8 +16,8 @@ use Rattle.song_search.specs.Answers.{found, tag_texts}
 use Rattle.song_groups.specs.Columns.{text_in}
 use Rattle.song_groups.specs.Tuples.{has_last, lines_of_tuples, tuple_of, tuples}
 use Rattle.song_groups.proofs.TupleLists.{tuples-have}
-use Rattle.command_arguments.specs.declared.wanted.Wanted.{Wanted}
-use Rattle.command_arguments.specs.declared.wanted.Wanted.TheVariants.{Meeting, Refused}
+use Rattle.command_arguments.specs.declared.criteria.Criteria.{Criteria}
+use Rattle.command_arguments.specs.declared.criteria.Criteria.TheVariants.{Meeting, Refused}
 use Rattle.player_state.specs.declared.state.Library.{Library}
 use Rattle.transitions.specs.CommandResults.{shows}
 use Rattle.transitions.specs.declared.asked.Asked.{Asked}
@@ -25,7 +25,7 @@ use Rattle.library_commands.specs.Database.{list_met, list_texts, result_of}
 use Rattle.command_laws.proofs.OneColumn.{column-lines}
 use Rattle.library_laws.specs.Found.{CanBeRead}
 use Rattle.library_laws.specs.Listed.{AreTextsOf, ListsTheFound}
-use Rattle.library_laws.proofs.PickedSongs.{expression_of, wanted-is}
+use Rattle.library_laws.proofs.PickedSongs.{expression_of, criteria-is}
 
 -- what a list contains
 pub here : {X : Type 0} (x y : X) (xs : List X) → x ≡ y → Contains (x ∷ xs) y
@@ -34,12 +34,12 @@ here x y xs e = (0, omega arith, e)
 pub there : {X : Type 0} (x y : X) (xs : List X) → Contains xs y → Contains (x ∷ xs) y
 there x y xs c = (suc c.0, (let low : c.0 < length xs = c.1 in omega arith), c.2)
 
-at-place : {X : Type 0} (x y : X) (xs : List X) (place : ℕ) → place < suc (length xs) → get_or (x ∷ xs) place y ≡ y → (x ≡ y) ⊎ Contains xs y
-at-place x y xs zero low e = inl e
-at-place x y xs (suc place) low e = inr (place, omega arith, e)
+at-index : {X : Type 0} (x y : X) (xs : List X) (index : ℕ) → index < suc (length xs) → get_or (x ∷ xs) index y ≡ y → (x ≡ y) ⊎ Contains xs y
+at-index x y xs zero low e = inl e
+at-index x y xs (suc index) low e = inr (index, omega arith, e)
 
 pub either : {X : Type 0} (x y : X) (xs : List X) → Contains (x ∷ xs) y → (x ≡ y) ⊎ Contains xs y
-either x y xs c = at-place x y xs c.0 c.1 c.2
+either x y xs c = at-index x y xs c.0 c.1 c.2
 
 pub nowhere : {X : Type 0} (y : X) → Contains [] y → ⊥
 nowhere y c = let low : c.0 < 0 = c.1 in absurd (omega arith)
@@ -142,7 +142,7 @@ lists : (tag : Option TagName) (label : List ℕ) (songs : List SongData) → Li
 lists None label songs = ([], no-texts songs, ap (lines_of_tuples (label ∷ [])) (no-tuples songs))
 lists (Some name) label songs = (ascending (tag_texts name songs), texts-of-tag name songs, column-lines label name songs)
 
-list-by : (asked : Asked) (library : Library) (tag : KnownTag) (wanted : Option Wanted) → CanBeRead wanted → list_met asked library (tag ∷ []) wanted ≡ list_texts asked library (tag ∷ []) (expression_of wanted)
+list-by : (asked : Asked) (library : Library) (tag : KnownTag) (criteria : Option Criteria) → CanBeRead criteria → list_met asked library (tag ∷ []) criteria ≡ list_texts asked library (tag ∷ []) (expression_of criteria)
 list-by asked library tag None can = refl
 list-by asked library tag (Some (Meeting e)) can = refl
 list-by asked library tag (Some (Refused text)) can = absurd can
@@ -150,13 +150,13 @@ list-by asked library tag (Some (Refused text)) can = absurd can
 pub found_texts_are_listed : ListsTheFound
 unfolding result_of list_texts
 found_texts_are_listed asked part library read grouping tag songs one can picks =
-    let met : List SongData = found Heeded (expression_of grouping.wanted) library.songs in
-    let is : songs ≡ met = wanted-is grouping.wanted library.songs songs can picks in
+    let met : List SongData = found Heeded (expression_of grouping.criteria) library.songs in
+    let is : songs ≡ met = criteria-is grouping.criteria library.songs songs can picks in
     let all : Lists (read_of tag) (text_of tag) songs = lists (read_of tag) (text_of tag) songs in (
       all.0,
       all.1,
-      ap (λ (tags : List KnownTag). list_met asked library tags grouping.wanted) one
-          ∙ list-by asked library tag grouping.wanted can
+      ap (λ (tags : List KnownTag). list_met asked library tags grouping.criteria) one
+          ∙ list-by asked library tag grouping.criteria can
           ∙ ap (λ (them : List SongData). shows asked (lines_of_tuples (text_of tag ∷ []) (tuples (read_of tag ∷ []) them))) (sym is)
           ∙ ap (shows asked) all.2,
     )

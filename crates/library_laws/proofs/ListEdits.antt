@@ -8,7 +8,7 @@ use Rattle.mpd_text.specs.Songs.Song.{SongData}
 use Rattle.mpd_text.specs.declared.answers.answer.ErrorNumber.TheVariants.{PlaylistMax}
 use Rattle.filters.specs.Expressions.{Expression}
 use Rattle.filters.specs.declared.matching.Case.TheVariants.{Ignored}
-use Rattle.command_arguments.specs.declared.wanted.Wanted.TheVariants.{Meeting}
+use Rattle.command_arguments.specs.declared.criteria.Criteria.TheVariants.{Meeting}
 use Rattle.selections.specs.declared.asked.Selection.{Selection}
 use Rattle.shelf.specs.Maps.{Maps, is_list_name}
 use Rattle.shelf.specs.declared.faults.ShelfFault.TheVariants.{NoSuchList}
@@ -38,24 +38,24 @@ is-below a b h = grind (arith, nat_tests)
 size : (front back : List (List ℕ)) (uri : List ℕ) → length (front ++ uri ∷ back) ≡ suc (length front + length back)
 size front back uri = let e : length (front ++ uri ∷ back) ≡ length front + suc (length back) = length-append front (uri ∷ back) in omega arith
 
--- the entry at a place, and the list without it
-at-place : (front back : List (List ℕ)) (uri : List ℕ) → get_or (front ++ uri ∷ back) (length front) [] ≡ uri
-at-place [] back uri = refl
-at-place (x ∷ front) back uri = at-place front back uri
+-- the entry at a position, and the list without it
+at-position : (front back : List (List ℕ)) (uri : List ℕ) → get_or (front ++ uri ∷ back) (length front) [] ≡ uri
+at-position [] back uri = refl
+at-position (x ∷ front) back uri = at-position front back uri
 
-behind-place : (front back : List (List ℕ)) (uri : List ℕ) → drop (suc (length front)) (front ++ uri ∷ back) ≡ back
-behind-place [] back uri = refl
-behind-place (x ∷ front) back uri = behind-place front back uri
+behind-position : (front back : List (List ℕ)) (uri : List ℕ) → drop (suc (length front)) (front ++ uri ∷ back) ≡ back
+behind-position [] back uri = refl
+behind-position (x ∷ front) back uri = behind-position front back uri
 
 without : (front back : List (List ℕ)) (uri : List ℕ) → remove (front ++ uri ∷ back) (length front) ≡ front ++ back
-without front back uri = λ i. take_at front (uri ∷ back) (length front) refl i ++ behind-place front back uri i
+without front back uri = λ i. take_at front (uri ∷ back) (length front) refl i ++ behind-position front back uri i
 
 within : (before behind : List (List ℕ)) (uri : List ℕ) → insert (before ++ behind) (length before) uri ≡ before ++ uri ∷ behind
 within before behind uri = λ i. take_at before behind (length before) refl i ++ uri ∷ drop_at before behind (length before) refl i
 
 moves : (front back before behind : List (List ℕ)) (uri : List ℕ) → front ++ back ≡ before ++ behind → moved (front ++ uri ∷ back) (length front) (length before) ≡ before ++ uri ∷ behind
 moves front back before behind uri same =
-    ap (λ (it : List ℕ). insert (remove (front ++ uri ∷ back) (length front)) (length before) it) (at-place front back uri)
+    ap (λ (it : List ℕ). insert (remove (front ++ uri ∷ back) (length front)) (length before) it) (at-position front back uri)
     ∙ ap (λ (rest : List (List ℕ)). insert rest (length before) uri) (without front back uri ∙ same)
     ∙ within before behind uri
 
@@ -104,27 +104,27 @@ puts asked name uris songs changes h = ap (λ b. cond b (refusal asked PlaylistM
 some-songs : (n : ℕ) → (suc n == 0) ≡ false
 some-songs n = grind (arith, nat_tests)
 
-joins : (asked : Asked) (part : Part) (library : Library) (maps : Maps) (name : List ℕ) (selection : Selection) (e : Expression) (song : SongData) (songs : List SongData) (old : Option (List (List ℕ))) → maps.lists name ≡ old → is_list_name name ≡ true → selection.wanted ≡ Meeting e
+joins : (asked : Asked) (part : Part) (library : Library) (maps : Maps) (name : List ℕ) (selection : Selection) (e : Expression) (song : SongData) (songs : List SongData) (old : Option (List (List ℕ))) → maps.lists name ≡ old → is_list_name name ≡ true → selection.criteria ≡ Meeting e
     → AreSelected library Ignored e selection (song ∷ songs) → length (uris_or_none old) + length (song ∷ songs) ≤ 16384
     → Leaves maps (asks_library asked part library (SearchAddPl name selection)) (SetsList name (Some (uris_or_none old ++ map (λ (it : SongData). it.uri) (song ∷ songs))) maps)
 unfolding database_result
-joins asked part library maps name selection e song songs (Some uris) there named wanted are room read h =
+joins asked part library maps name selection e song songs (Some uris) there named criteria are room read h =
     let uris_then : List (List ℕ) = uris ++ map (λ (it : SongData). it.uri) (song ∷ songs) in
     writes-done asked maps (SetsList name (Some uris_then) maps) (Put name uris_then true) (database_result asked part library read (SearchAddPl name selection))
     (ap (λ (r : Read). database_result asked part library r (SearchAddPl name selection)) (asked-list maps name uris read named there h)
-    ∙ by-name asked name (append_met asked library (reads.List uris) name selection selection.wanted) named
-    ∙ ap (append_met asked library (reads.List uris) name selection) wanted
+    ∙ by-name asked name (append_met asked library (reads.List uris) name selection selection.criteria) named
+    ∙ ap (append_met asked library (reads.List uris) name selection) criteria
     ∙ ap (append_found asked (reads.List uris) name) (sym (selected-is library Ignored e selection (song ∷ songs) are))
     ∙ ap (λ b. cond b (shows asked (codes "")) (put_with asked name uris (song ∷ songs) (not b))) (some-songs (length songs))
     ∙ puts asked name uris (song ∷ songs) true room)
     (put-granted name named)
     (sets-list maps name (Some uris_then))
-joins asked part library maps name selection e song songs None free named wanted are room read h =
+joins asked part library maps name selection e song songs None free named criteria are room read h =
     let uris_then : List (List ℕ) = map (λ (it : SongData). it.uri) (song ∷ songs) in
     writes-done asked maps (SetsList name (Some uris_then) maps) (Put name uris_then true) (database_result asked part library read (SearchAddPl name selection))
     (ap (λ (r : Read). database_result asked part library r (SearchAddPl name selection)) (asked-missing maps name read named free h)
-    ∙ by-name asked name (append_met asked library (reads.Refused NoSuchList) name selection selection.wanted) named
-    ∙ ap (append_met asked library (reads.Refused NoSuchList) name selection) wanted
+    ∙ by-name asked name (append_met asked library (reads.Refused NoSuchList) name selection selection.criteria) named
+    ∙ ap (append_met asked library (reads.Refused NoSuchList) name selection) criteria
     ∙ ap (append_found asked (reads.Refused NoSuchList) name) (sym (selected-is library Ignored e selection (song ∷ songs) are))
     ∙ ap (λ b. cond b (shows asked (codes "")) (put_with asked name [] (song ∷ songs) true)) (some-songs (length songs))
     ∙ puts asked name [] (song ∷ songs) true room)
@@ -132,5 +132,5 @@ joins asked part library maps name selection e song songs None free named wanted
     (sets-list maps name (Some uris_then))
 
 pub found_songs_join_lists : FoundSongsJoinLists
-found_songs_join_lists asked part library maps name selection e song songs named wanted are room =
-    joins asked part library maps name selection e song songs (maps.lists name) refl named wanted are room
+found_songs_join_lists asked part library maps name selection e song songs named criteria are room =
+    joins asked part library maps name selection e song songs (maps.lists name) refl named criteria are room

@@ -15,13 +15,13 @@ use Rattle.song_search.specs.Truth.{meets}
 use Rattle.song_search.proofs.Truths.{meets-Decides}
 use Rattle.song_groups.proofs.Orders.{one_order}
 use Rattle.command_arguments.specs.declared.forms.Window.{Window}
-use Rattle.command_arguments.specs.declared.wanted.Wanted.{Wanted}
-use Rattle.command_arguments.specs.declared.wanted.Wanted.TheVariants.{Meeting, Refused}
+use Rattle.command_arguments.specs.declared.criteria.Criteria.{Criteria}
+use Rattle.command_arguments.specs.declared.criteria.Criteria.TheVariants.{Meeting, Refused}
 use Rattle.selections.specs.declared.asked.Selection.{Selection}
 use Rattle.selections.specs.declared.sort_by.SortBy.{SortBy}
 use Rattle.player_state.specs.declared.state.Library.{Library}
 use Rattle.library_commands.specs.Database.{selected, sorted_by, windowed}
-use Rattle.library_laws.specs.Found.{AreInOrder, AreSelected, CanBeRead, IsWindow, Picks, SongsArePicked, Wants}
+use Rattle.library_laws.specs.Found.{AreInOrder, AreSelected, CanBeRead, IsWindow, Picks, SongsArePicked, MeetsCriteria}
 use Rattle.library_laws.specs.Found.Picks.{none, picked, passed}
 
 is-false : (b : Bool) → (b ≡ true → ⊥) → b ≡ false
@@ -55,34 +55,34 @@ pub found-is : (case : Case) (e : Expression) (songs met : List SongData) → Pi
 found-is case e songs met h = picked-is (Holds case e) (meets case e) (meets-Decides case e) h
 
 -- the expression that a filter is; without one that which each song meets
-abbrev pub expression_of : Option Wanted → Expression
+abbrev pub expression_of : Option Criteria → Expression
 expression_of None = Under []
 expression_of (Some (Meeting e)) = e
 expression_of (Some (Refused text)) = Under []
 
-pub wanted-is : (wanted : Option Wanted) (songs met : List SongData) → CanBeRead wanted → Picks (Wants wanted) songs met → met ≡ found Heeded (expression_of wanted) songs
-wanted-is None songs met can h = picked-is (λ song. Unit {0}) (meets Heeded (Under [])) (meets-Decides Heeded (Under [])) h
-wanted-is (Some (Meeting e)) songs met can h = found-is Heeded e songs met h
-wanted-is (Some (Refused text)) songs met can h = absurd can
+pub criteria-is : (criteria : Option Criteria) (songs met : List SongData) → CanBeRead criteria → Picks (MeetsCriteria criteria) songs met → met ≡ found Heeded (expression_of criteria) songs
+criteria-is None songs met can h = picked-is (λ song. Unit {0}) (meets Heeded (Under [])) (meets-Decides Heeded (Under [])) h
+criteria-is (Some (Meeting e)) songs met can h = found-is Heeded e songs met h
+criteria-is (Some (Refused text)) songs met can h = absurd can
 
 -- the songs in their order
 in-order : (sort : Option SortBy) (met songs : List SongData) → AreInOrder sort met songs → songs ≡ sorted_by sort met
 in-order None met songs h = h
 in-order (Some by) met songs h = one_order (read_of by.tag) by.falling met songs h
 
--- two lists with the same song at each place
-same-places : (xs ys : List SongData) → ((place : ℕ) → slice_get xs place ≡ slice_get ys place) → xs ≡ ys
-same-places [] [] h = refl
-same-places [] (y ∷ ys) h = absurd (cc (h 0))
-same-places (x ∷ xs) [] h = absurd (cc (h 0))
-same-places (x ∷ xs) (y ∷ ys) h =
+-- two lists with the same song at each index
+same-indices : (xs ys : List SongData) → ((index : ℕ) → slice_get xs index ≡ slice_get ys index) → xs ≡ ys
+same-indices [] [] h = refl
+same-indices [] (y ∷ ys) h = absurd (cc (h 0))
+same-indices (x ∷ xs) [] h = absurd (cc (h 0))
+same-indices (x ∷ xs) (y ∷ ys) h =
     let first : Some x ≡ Some y = h 0 in
     let one : x ≡ y = cc in
-    let rest : xs ≡ ys = same-places xs ys (λ place. h (suc place)) in
+    let rest : xs ≡ ys = same-indices xs ys (λ index. h (suc index)) in
     λ i. one i ∷ rest i
 
-below-none : (place : ℕ) → nat_lt place 0 ≡ false
-below-none place = grind (arith, nat_tests)
+below-none : (index : ℕ) → nat_lt index 0 ≡ false
+below-none index = grind (arith, nat_tests)
 
 first-below : (n : ℕ) → nat_lt 0 (suc n) ≡ true
 first-below n = grind (arith, nat_tests)
@@ -97,28 +97,28 @@ nothing-either : (b : Bool) → nothing ≡ cond b nothing nothing
 nothing-either true = refl
 nothing-either false = refl
 
-taken : (n : ℕ) (xs : List SongData) (place : ℕ) → slice_get (take n xs) place ≡ cond (nat_lt place n) (slice_get xs place) None
-taken zero xs place = ap (λ b. cond b (slice_get xs place) None) (sym (below-none place))
-taken (suc n) [] place = nothing-either (nat_lt place (suc n))
+taken : (n : ℕ) (xs : List SongData) (index : ℕ) → slice_get (take n xs) index ≡ cond (nat_lt index n) (slice_get xs index) None
+taken zero xs index = ap (λ b. cond b (slice_get xs index) None) (sym (below-none index))
+taken (suc n) [] index = nothing-either (nat_lt index (suc n))
 taken (suc n) (x ∷ xs) zero = ap (λ b. cond b (Some x) None) (sym (first-below n))
-taken (suc n) (x ∷ xs) (suc place) = taken n xs place ∙ ap (λ b. cond b (slice_get xs place) None) (sym (next-below place n))
+taken (suc n) (x ∷ xs) (suc index) = taken n xs index ∙ ap (λ b. cond b (slice_get xs index) None) (sym (next-below index n))
 
-dropped : (start : ℕ) (xs : List SongData) (place : ℕ) → slice_get (drop start xs) place ≡ slice_get xs (start + place)
-dropped zero xs place = let is : place ≡ 0 + place = omega arith in ap (slice_get xs) is
-dropped (suc start) [] place = refl
-dropped (suc start) (x ∷ xs) place = let is : suc (start + place) ≡ suc start + place = omega arith in dropped start xs place ∙ ap (slice_get (x ∷ xs)) is
+dropped : (start : ℕ) (xs : List SongData) (index : ℕ) → slice_get (drop start xs) index ≡ slice_get xs (start + index)
+dropped zero xs index = let is : index ≡ 0 + index = omega arith in ap (slice_get xs) is
+dropped (suc start) [] index = refl
+dropped (suc start) (x ∷ xs) index = let is : suc (start + index) ≡ suc start + index = omega arith in dropped start xs index ∙ ap (slice_get (x ∷ xs)) is
 
-shifted : (start end place : ℕ) → nat_lt place (end - start) ≡ nat_lt (start + place) end
-shifted start end place = grind (arith, nat_tests)
+shifted : (start end index : ℕ) → nat_lt index (end - start) ≡ nat_lt (start + index) end
+shifted start end index = grind (arith, nat_tests)
 
 in-window : (window : Option Window) (songs shown : List SongData) → IsWindow window songs shown → shown ≡ windowed window songs
 in-window None songs shown h = h
 in-window (Some window) songs shown h =
-    same-places shown (take (window.end - window.start) (drop window.start songs)) (λ place.
-    h place
-    ∙ sym (taken (window.end - window.start) (drop window.start songs) place
-    ∙ ap (λ b. cond b (slice_get (drop window.start songs) place) None) (shifted window.start window.end place)
-    ∙ ap (λ (o : Option SongData). cond (nat_lt (window.start + place) window.end) o None) (dropped window.start songs place)))
+    same-indices shown (take (window.end - window.start) (drop window.start songs)) (λ index.
+    h index
+    ∙ sym (taken (window.end - window.start) (drop window.start songs) index
+    ∙ ap (λ b. cond b (slice_get (drop window.start songs) index) None) (shifted window.start window.end index)
+    ∙ ap (λ (o : Option SongData). cond (nat_lt (window.start + index) window.end) o None) (dropped window.start songs index)))
 
 pub selected-is : (library : Library) (case : Case) (e : Expression) (selection : Selection) (songs : List SongData) → AreSelected library case e selection songs → songs ≡ selected library case e selection
 selected-is library case e selection songs h =

@@ -190,11 +190,11 @@ lists_are_cleared asked part library maps name uris named there read h =
     (sets-list maps name (Some []))
 
 -- playlistadd
-has-place : (uris : List (List ℕ)) → length uris + 1 ≤ 16384 → nat_lt 16384 (length uris + 1) ≡ false
-has-place uris h = grind (arith, nat_tests)
+has-room : (uris : List (List ℕ)) → length uris + 1 ≤ 16384 → nat_lt 16384 (length uris + 1) ≡ false
+has-room uris h = grind (arith, nat_tests)
 
 puts : (asked : Asked) (name : List ℕ) (uris : List (List ℕ)) (song : SongData) (changes : Bool) → length uris + 1 ≤ 16384 → put_with asked name uris (song ∷ []) changes ≡ writes asked (Put name (uris ++ song.uri ∷ []) changes)
-puts asked name uris song changes h = ap (λ b. cond b (refusal asked PlaylistMax (codes "playlist is full")) (writes asked (Put name (uris ++ song.uri ∷ []) changes))) (has-place uris h)
+puts asked name uris song changes h = ap (λ b. cond b (refusal asked PlaylistMax (codes "playlist is full")) (writes asked (Put name (uris ++ song.uri ∷ []) changes))) (has-room uris h)
 
 adds-to : (asked : Asked) (part : Part) (library : Library) (maps : Maps) (name : List ℕ) (uri : Uri) (song : SongData) (old : Option (List (List ℕ))) → maps.lists name ≡ old → is_list_name name ≡ true → song_of library.songs uri.0 ≡ Some song → length (uris_or_none old) + 1 ≤ 16384
     → Leaves maps (asks asked part library (PlaylistAdd name uri)) (SetsList name (Some (uris_or_none old ++ song.uri ∷ [])) maps)

@@ -4,8 +4,8 @@ use Rattle.std.specs.Prelude.{◌≡◌, ℕ, ◌+◌, ◌≤◌, List, ◌++◌
 use Rattle.mpd_text.specs.Songs.Song.{SongData}
 use Rattle.song_queue.specs.declared.entry.Entry.{Entry}
 use Rattle.song_queue.specs.State.{position_of, queue_of}
-use Rattle.command_arguments.specs.declared.forms.Place.{Place}
-use Rattle.command_arguments.specs.declared.forms.Place.TheVariants.{At, After, Before}
+use Rattle.command_arguments.specs.declared.forms.Position.{Position}
+use Rattle.command_arguments.specs.declared.forms.Position.TheVariants.{At, After, Before}
 use Rattle.player_state.specs.Effects.{part_after}
 use Rattle.player_state.specs.declared.effect.Effect.TheVariants.{ByCommand}
 use Rattle.player_state.specs.declared.scan.ScanMove.TheVariants.{Stay}
@@ -22,16 +22,16 @@ entries_in part = queue_of part.queue
 abbrev pub songs_in : Part → List SongData
 songs_in part = map (λ (entry : Entry). entry.song) (entries_in part)
 
--- the place of the queue that is named: its end, a place by its number, or one counted from the current song
-abbrev pub IsPlace : Part → Option Place → ℕ → Type 0
-IsPlace part None place = place ≡ length (entries_in part)
-IsPlace part (Some (At number)) place = (place ≡ number) × (number ≤ length (entries_in part))
-IsPlace part (Some (After steps)) place =
+-- the position of the queue that is named: its end, a position by its number, or one counted from the current song
+abbrev pub IsPosition : Part → Option Position → ℕ → Type 0
+IsPosition part None position = position ≡ length (entries_in part)
+IsPosition part (Some (At number)) position = (position ≡ number) × (number ≤ length (entries_in part))
+IsPosition part (Some (After steps)) position =
     (id : ℕ) × (current : ℕ) × (part.player.current ≡ Some id) × (position_of part.queue id ≡ Some current)
-    × (place ≡ current + 1 + steps) × (place ≤ length (entries_in part))
-IsPlace part (Some (Before steps)) place =
+    × (position ≡ current + 1 + steps) × (position ≤ length (entries_in part))
+IsPosition part (Some (Before steps)) position =
     (id : ℕ) × (current : ℕ) × (part.player.current ≡ Some id) × (position_of part.queue id ≡ Some current)
-    × (place + steps ≡ current)
+    × (position + steps ≡ current)
 
 -- so many songs find room in the queue, and each an id
 abbrev pub HasRoom : Part → ℕ → Type 0
@@ -42,12 +42,12 @@ HasRoom part songs =
 abbrev pub entries_after : Part → CommandResult → List Entry
 entries_after part result = entries_in (part_after 0 part (ByCommand result.effect))
 
--- the command is answered `OK`, and the songs are in the queue from this place on, in their order, between the
+-- the command is answered `OK`, and the songs are in the queue from this position on, in their order, between the
 -- entries that were there; no scan begins, and nothing is written to the shelf
-pub record IsAdded (asked : Asked) (part : Part) (place : ℕ) (songs : List SongData) (result : CommandResult) : Type 0 where
+pub record IsAdded (asked : Asked) (part : Part) (position : ℕ) (songs : List SongData) (result : CommandResult) : Type 0 where
   pub answer : result.answer ≡ succeeds asked.stand (codes "")
   pub new : List Entry
   pub songs_are : map (λ (entry : Entry). entry.song) new ≡ songs
-  pub queue : entries_after part result ≡ take place (entries_in part) ++ new ++ drop place (entries_in part)
+  pub queue : entries_after part result ≡ take position (entries_in part) ++ new ++ drop position (entries_in part)
   pub scan : result.scan ≡ Stay
   pub written : result.written ≡ Nothing

@@ -11,10 +11,10 @@ use Rattle.filters.specs.Truth.{Holds}
 use Rattle.filters.specs.declared.matching.Case.{Case}
 use Rattle.filters.specs.declared.matching.Case.TheVariants.{Heeded, Ignored}
 use Rattle.song_groups.specs.Order.{IsStablyOrdered}
-use Rattle.command_arguments.specs.declared.forms.Place.{Place}
+use Rattle.command_arguments.specs.declared.forms.Position.{Position}
 use Rattle.command_arguments.specs.declared.forms.Window.{Window}
-use Rattle.command_arguments.specs.declared.wanted.Wanted.{Wanted}
-use Rattle.command_arguments.specs.declared.wanted.Wanted.TheVariants.{Meeting, Refused}
+use Rattle.command_arguments.specs.declared.criteria.Criteria.{Criteria}
+use Rattle.command_arguments.specs.declared.criteria.Criteria.TheVariants.{Meeting, Refused}
 use Rattle.selections.specs.declared.asked.Counting.{Counting}
 use Rattle.selections.specs.declared.asked.Selection.{Selection}
 use Rattle.selections.specs.declared.sort_by.SortBy.{SortBy}
@@ -26,7 +26,7 @@ use Rattle.transitions.specs.declared.shelf_calls.Read.{Read}
 use Rattle.mpd_command.specs.declared.database.DatabaseCommand.{DatabaseCommand}
 use Rattle.mpd_command.specs.declared.database.DatabaseCommand.TheVariants.{Count, Find, FindAdd, Search, SearchAdd}
 use Rattle.library_commands.specs.Database.{result_of}
-use Rattle.library_laws.specs.Added.{HasRoom, IsAdded, IsPlace}
+use Rattle.library_laws.specs.Added.{HasRoom, IsAdded, IsPosition}
 
 -- songs are those of others of which this holds, in the order that these have
 pub data Picks (Passes : SongData → Type 0) : List SongData → List SongData → Type 0 where
@@ -37,12 +37,12 @@ pub data Picks (Passes : SongData → Type 0) : List SongData → List SongData 
       → Picks Passes (song ∷ songs) rest
 
 -- what a filter asks of a song, where the filter can be read; without one each song is asked for
-abbrev pub Wants : Option Wanted → SongData → Type 0
-Wants None song = Unit {0}
-Wants (Some (Meeting e)) song = Holds Heeded e song
-Wants (Some (Refused text)) song = ⊥
+abbrev pub MeetsCriteria : Option Criteria → SongData → Type 0
+MeetsCriteria None song = Unit {0}
+MeetsCriteria (Some (Meeting e)) song = Holds Heeded e song
+MeetsCriteria (Some (Refused text)) song = ⊥
 
-abbrev pub CanBeRead : Option Wanted → Type 0
+abbrev pub CanBeRead : Option Criteria → Type 0
 CanBeRead None = Unit {0}
 CanBeRead (Some (Meeting e)) = Unit {0}
 CanBeRead (Some (Refused text)) = ⊥
@@ -52,13 +52,13 @@ abbrev pub AreInOrder : Option SortBy → List SongData → List SongData → Ty
 AreInOrder None met songs = songs ≡ met
 AreInOrder (Some by) met songs = IsStablyOrdered (read_of by.tag) by.falling met songs
 
--- the song at each place of a window, up to its end; without a window all of them
+-- the song at each index of a window, up to its end; without a window all of them
 abbrev pub IsWindow : Option Window → List SongData → List SongData → Type 0
 IsWindow None songs shown = shown ≡ songs
 IsWindow (Some window) songs shown =
-    (place : ℕ)
-    → slice_get shown place
-    ≡ (if nat_lt (window.start + place) window.end then slice_get songs (window.start + place) else None)
+    (index : ℕ)
+    → slice_get shown index
+    ≡ (if nat_lt (window.start + index) window.end then slice_get songs (window.start + index) else None)
 
 -- the songs of a selection: those that meet the filter, in its order, as far as its window shows them
 pub record AreSelected (library : Library) (case : Case) (e : Expression) (selection : Selection) (songs : List SongData) : Type 0 where
@@ -73,9 +73,9 @@ abbrev pub finding : Case → Selection → DatabaseCommand
 finding Heeded selection = Find selection
 finding Ignored selection = Search selection
 
-abbrev pub adding : Case → Selection → Option Place → DatabaseCommand
-adding Heeded selection place = FindAdd selection place
-adding Ignored selection place = SearchAdd selection place
+abbrev pub adding : Case → Selection → Option Position → DatabaseCommand
+adding Heeded selection position = FindAdd selection position
+adding Ignored selection position = SearchAdd selection position
 
 -- the lines of songs, as the client that asks is shown them
 abbrev pub lines_of : Asked → Library → List SongData → List ℕ
@@ -85,17 +85,17 @@ lines_of asked library songs = flat_map (song_lines_with asked.tags library.rate
 pub record FindsAndAddsTheSame : Type 0 where
   pub shown : (asked : Asked) (part : Part) (library : Library) (read : Read)
       → (case : Case) (selection : Selection) (e : Expression) (songs : List SongData)
-      → selection.wanted ≡ Meeting e
+      → selection.criteria ≡ Meeting e
       → AreSelected library case e selection songs
       → result_of asked part library read (finding case selection) ≡ shows asked (lines_of asked library songs)
   pub added : (asked : Asked) (part : Part) (library : Library) (read : Read)
       → (case : Case) (selection : Selection) (e : Expression) (songs : List SongData)
-      → (named : Option Place) (place : ℕ)
-      → selection.wanted ≡ Meeting e
+      → (named : Option Position) (position : ℕ)
+      → selection.criteria ≡ Meeting e
       → AreSelected library case e selection songs
-      → IsPlace part named place
+      → IsPosition part named position
       → HasRoom part (length songs)
-      → IsAdded asked part place songs (result_of asked part library read (adding case selection named))
+      → IsAdded asked part position songs (result_of asked part library read (adding case selection named))
 
 -- how long songs play together, in whole seconds: the durations that are shown of them, added and cut
 abbrev pub seconds_of : ℕ → List SongData → ℕ
@@ -111,8 +111,8 @@ abbrev pub CountsTheFound : Type 0
 CountsTheFound =
     (asked : Asked) (part : Part) (library : Library) (read : Read) (counting : Counting) (songs : List SongData)
     → counting.group ≡ None
-    → CanBeRead counting.wanted
-    → Picks (Wants counting.wanted) library.songs songs
+    → CanBeRead counting.criteria
+    → Picks (MeetsCriteria counting.criteria) library.songs songs
     → result_of asked part library read (Count counting) ≡ shows asked (count_lines library.rate songs)
 
 -- of each library and each filter there are such songs

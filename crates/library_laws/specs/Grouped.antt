@@ -18,7 +18,7 @@ use Rattle.transitions.specs.declared.asked.Asked.{Asked}
 use Rattle.transitions.specs.declared.shelf_calls.Read.{Read}
 use Rattle.mpd_command.specs.declared.database.DatabaseCommand.TheVariants.{Count}
 use Rattle.library_commands.specs.Database.{result_of}
-use Rattle.library_laws.specs.Found.{CanBeRead, Picks, Wants, count_lines}
+use Rattle.library_laws.specs.Found.{CanBeRead, Picks, MeetsCriteria, count_lines}
 use Rattle.library_laws.specs.Listed.{SomeHas}
 
 -- a text and songs
@@ -43,8 +43,8 @@ CountsTheFoundByText =
     (asked : Asked) (part : Part) (library : Library) (read : Read) (counting : Counting)
     → (tag : KnownTag) (songs : List SongData)
     → counting.group ≡ Some tag
-    → CanBeRead counting.wanted
-    → Picks (Wants counting.wanted) library.songs songs
+    → CanBeRead counting.criteria
+    → Picks (MeetsCriteria counting.criteria) library.songs songs
     → (groups : List Group) × AreGroupsOf (read_of tag) songs groups
     × (result_of asked part library read (Count counting)
     ≡ shows asked (flat_map (lines_of_group library.rate (text_of tag)) groups))

@@ -18,7 +18,7 @@ use Rattle.transitions.specs.declared.asked.Asked.{Asked}
 use Rattle.transitions.specs.declared.shelf_calls.Read.{Read}
 use Rattle.mpd_command.specs.declared.database.DatabaseCommand.TheVariants.{List as ListTags}
 use Rattle.library_commands.specs.Database.{result_of}
-use Rattle.library_laws.specs.Found.{CanBeRead, Picks, Wants}
+use Rattle.library_laws.specs.Found.{CanBeRead, Picks, MeetsCriteria}
 
 -- some song has this text of a tag
 abbrev pub SomeHas : Option TagName → List SongData → List ℕ → Type 0
@@ -35,7 +35,7 @@ ListsTheFound =
     (asked : Asked) (part : Part) (library : Library) (read : Read) (grouping : Grouping)
     → (tag : KnownTag) (songs : List SongData)
     → grouping.tags ≡ tag ∷ []
-    → CanBeRead grouping.wanted
-    → Picks (Wants grouping.wanted) library.songs songs
+    → CanBeRead grouping.criteria
+    → Picks (MeetsCriteria grouping.criteria) library.songs songs
     → (texts : List (List ℕ)) × AreTextsOf (read_of tag) songs texts
     × (result_of asked part library read (ListTags grouping) ≡ shows asked (flat_map (pair_line (text_of tag)) texts))

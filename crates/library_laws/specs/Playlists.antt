@@ -10,7 +10,7 @@ use Rattle.song_db.specs.Library.{song_of}
 use Rattle.song_queue.specs.State.{queue_of}
 use Rattle.filters.specs.Expressions.{Expression}
 use Rattle.filters.specs.declared.matching.Case.TheVariants.{Ignored}
-use Rattle.command_arguments.specs.declared.wanted.Wanted.TheVariants.{Meeting}
+use Rattle.command_arguments.specs.declared.criteria.Criteria.TheVariants.{Meeting}
 use Rattle.selections.specs.declared.asked.Selection.{Selection}
 use Rattle.shelf.specs.Maps.{Maps, is_list_name}
 use Rattle.shelf.specs.declared.kinds.StickerKind.{StickerKind}
@@ -155,7 +155,7 @@ SongsAreAddedToLists =
     → Leaves maps (asks asked part library (PlaylistAdd name uri))
     (SetsList name (Some (uris_or_none (maps.lists name) ++ song.uri ∷ [])) maps)
 
--- `playlistdelete` takes the entry at a place out of a list: those before it and those behind it stay, in their
+-- `playlistdelete` takes the entry at a position out of a list: those before it and those behind it stay, in their
 -- order
 abbrev pub EntriesAreTakenOut : Type 0
 EntriesAreTakenOut =
@@ -165,7 +165,7 @@ EntriesAreTakenOut =
     → Leaves maps (asks asked part library (PlaylistDelete name (length front)))
     (SetsList name (Some (front ++ back)) maps)
 
--- `playlistmove` puts the entry at a place at another among the others, which stay in their order
+-- `playlistmove` puts the entry at a position at another among the others, which stay in their order
 abbrev pub EntriesAreMoved : Type 0
 EntriesAreMoved =
     (asked : Asked) (part : Part) (library : Library) (maps : Maps)
@@ -183,7 +183,7 @@ FoundSongsJoinLists =
     (asked : Asked) (part : Part) (library : Library) (maps : Maps) (name : List ℕ)
     → (selection : Selection) (e : Expression) (song : SongData) (songs : List SongData)
     → is_list_name name ≡ true
-    → selection.wanted ≡ Meeting e
+    → selection.criteria ≡ Meeting e
     → AreSelected library Ignored e selection (song ∷ songs)
     → length (uris_or_none (maps.lists name)) + length (song ∷ songs) ≤ 16384
     → Leaves maps (asks_library asked part library (SearchAddPl name selection))

@@ -17,7 +17,7 @@ pub fn lists_are_kept_whole()
 {}
 
 /// `playlistadd` and `searchaddpl` make a list longer by a song or by those that `search` shows, `playlistdelete`
-/// takes one entry out and `playlistmove` puts it at another place; the other entries stay in their order, and all
+/// takes one entry out and `playlistmove` puts it at another position; the other entries stay in their order, and all
 /// other lists as they were.
 pub fn entries_stay_in_order()
     ensures added { SongsAreAddedToLists }

@@ -141,7 +141,7 @@ listed tree everyday rate at uri old new holds is adds =
       names = adds.names ∙ ap (λ n. n + length (kept_in tree everyday rate uri)) holds.names ∙ ap (λ n. length (flat_map (told_in tree) (take at old.folders.items)) + n) (length-map (told_in tree uri) (kept_of_entry tree everyday rate uri)) ∙ counted_more tree (take at old.folders.items) uri;
     })
 
--- the folder of a place has too much with those before it
+-- the folder of an index has too much with those before it
 pub too_large : (tree : Tree) (everyday : Bool) (rate at : ℕ) (uri : List ℕ) (old : Found) → Holds tree everyday rate (take at old.folders.items) old → slice_get old.folders.items at ≡ Some uri → IsOverWith old (kept_in tree everyday rate uri) → IsTooLarge tree everyday rate
 too_large tree everyday rate at uri old holds is over = record {
   before = take at old.folders.items;

@@ -11,26 +11,26 @@ abbrev pub whole : Option (List ℕ) → ℕ → Option (List ℕ)
 whole None len = None
 whole (Some all) len = if length all == len then Some all else None
 
--- those from a place on
-abbrev pub from_place : ℕ → Option (List ℕ) → Option (List ℕ)
-from_place place None = None
-from_place place (Some all) = Some (drop place all)
+-- those from an offset on
+abbrev pub from_offset : ℕ → Option (List ℕ) → Option (List ℕ)
+from_offset offset None = None
+from_offset offset (Some all) = Some (drop offset all)
 
--- bytes that were read stand in the file at a place
+-- bytes that were read stand in the file at an offset
 abbrev pub StandAt : Option (List ℕ) → ℕ → List ℕ → Type 0
-StandAt file place bytes = (all : List ℕ) → file ≡ Some all → take (length bytes) (drop place all) ≡ bytes
+StandAt file offset bytes = (all : List ℕ) → file ≡ Some all → take (length bytes) (drop offset all) ≡ bytes
 
--- how many of so many bytes, which were read at a place, are still to be given from another place on
+-- how many of so many bytes, which were read at an offset, are still to be given from another offset on
 abbrev pub left : ℕ → ℕ → ℕ → ℕ
-left place start filled = if nat_le start place then start + filled - place else 0
+left offset start filled = if nat_le start offset then start + filled - offset else 0
 
--- no byte stands from a place on
+-- no byte stands from an offset on
 abbrev pub IsPastEnd : Option (List ℕ) → ℕ → Type 0
-IsPastEnd file place = (all : List ℕ) → file ≡ Some all → drop place all ≡ []
+IsPastEnd file offset = (all : List ℕ) → file ≡ Some all → drop offset all ≡ []
 
--- no byte stands from a place on, where the file is as long as was told
+-- no byte stands from an offset on, where the file is as long as was told
 abbrev pub IsEnd : Option (List ℕ) → ℕ → ℕ → Type 0
-IsEnd file len place = (all : List ℕ) → file ≡ Some all → length all ≡ len → drop place all ≡ []
+IsEnd file len offset = (all : List ℕ) → file ≡ Some all → length all ≡ len → drop offset all ≡ []
 
 -- an error comes only where a call of the file failed
 abbrev pub ErrorHasCause : {X : Type 0} → CallCounts → CallCounts → Result X Error → Type 0

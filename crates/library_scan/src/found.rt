@@ -105,7 +105,7 @@ impl Found {
         Ok(())
     }
 
-    /// The folder of a place, in the order in which they were found.
+    /// The folder of an index, in the order in which they were found.
     pub(crate) fn folder(&self, alloc: Global, at: usize) -> Result<Option<Text>, AllocError>
         ensures { IfOk result (λ folder. folder ≡ slice_get self.now.folders.items at) }
     {

@@ -3,7 +3,7 @@ ghost use Rattle.std.specs.Prelude.{None, ◌≡◌, ◌≤◌, ◌<◌, ◌++�
 ghost use Rattle.std.specs.Io.{ReadsAtMost};
 ghost use Rattle.std.specs.Io.KnownBytes.{ReadConsumes};
 ghost use Rattle.counted_devices.specs.CallCounts.{NoFewer, CountsCall, one_call, count_up};
-ghost use Rattle.library_scan.specs.Windows.{whole, from_place, left, ErrorHasCause, FailsAs, StandAt, with_calls};
+ghost use Rattle.library_scan.specs.Windows.{whole, from_offset, left, ErrorHasCause, FailsAs, StandAt, with_calls};
 
 use counted_devices::{Failing, Media, Source};
 use std::io;
@@ -20,7 +20,7 @@ pub struct Windowed<M: Media> {
     file: M,
     len: u64,
     calls: u64,
-    place: u64,
+    offset: u64,
     start: u64,
     filled: usize,
     bytes: [u8; 4_096],
@@ -43,7 +43,7 @@ impl<M: Media> Windowed<M> {
             file,
             len,
             calls: 0,
-            place: 0,
+            offset: 0,
             start: 0,
             filled: 0,
             bytes: [0; WIDTH],
@@ -61,48 +61,48 @@ impl<M: Media> Windowed<M> {
     fn count_call(&mut self)
         ensures file { self.new.file ≡ self.old.file }
         ensures len { self.new.len ≡ self.old.len }
-        ensures place { self.new.place ≡ self.old.place }
+        ensures offset { self.new.offset ≡ self.old.offset }
         ensures calls { self.new.calls ≡ count_up self.old.calls }
     {
         self.calls = self.calls.saturating_add(1);
     }
 
-    /// The bytes from the place on that were read already.
+    /// The bytes from the offset on that were read already.
     fn ahead(&self) -> &[u8]
-        ensures stand { StandAt (M.all_bytes self.now.file) self.now.place result.now }
-        ensures len { length result.now ≡ left self.now.place self.now.start self.now.filled }
+        ensures stand { StandAt (M.all_bytes self.now.file) self.now.offset result.now }
+        ensures len { length result.now ≡ left self.now.offset self.now.start self.now.filled }
     {
-        match self.place.checked_sub(self.start) {
+        match self.offset.checked_sub(self.start) {
             Some(gone) if gone < self.filled as u64 => &self.bytes[gone as usize..self.filled],
             _ => &[],
         }
     }
 
-    /// Reads the bytes from the place on, as many as one read gives.
+    /// Reads the bytes from the offset on, as many as one read gives.
     fn refill(&mut self) -> io::Result<()>
         ensures file { M.all_bytes self.new.file ≡ M.all_bytes self.old.file }
         ensures len { self.new.len ≡ self.old.len }
-        ensures place { self.new.place ≡ self.old.place }
+        ensures offset { self.new.offset ≡ self.old.offset }
         ensures calls { self.new.calls ≡ self.old.calls }
-        ensures read { OnOk result (self.new.start ≡ self.old.place) }
+        ensures read { OnOk result (self.new.start ≡ self.old.offset) }
         ensures ends { OnOk result (self.new.filled ≡ 0 → IsPastFileEnd self.old) }
         ensures fails { FailsAs (M.call_counts self.old.file) (M.call_counts self.new.file) result }
         ensures failed { ErrorHasCause (M.call_counts self.old.file) (M.call_counts self.new.file) result }
         ensures calm { NoFewer (M.call_counts self.old.file) (M.call_counts self.new.file) }
     {
         self.filled = 0;
-        self.file.seek_to(self.place)?;
+        self.file.seek_to(self.offset)?;
         let n = self.file.read_here(&mut self.bytes)?;
-        self.start = self.place;
+        self.start = self.offset;
         self.filled = n;
         Ok(())
     }
 
-    /// Reads bytes from the place on, where none were read yet and some are left.
+    /// Reads bytes from the offset on, where none were read yet and some are left.
     fn make_ready(&mut self) -> io::Result<()>
         ensures file { M.all_bytes self.new.file ≡ M.all_bytes self.old.file }
         ensures len { self.new.len ≡ self.old.len }
-        ensures place { self.new.place ≡ self.old.place }
+        ensures offset { self.new.offset ≡ self.old.offset }
         ensures calls { self.new.calls ≡ self.old.calls }
         ensures ends { OnOk result (left_in self.new ≡ 0 → IsAtFileEnd self.old) }
         ensures fails { FailsAs (M.call_counts self.old.file) (M.call_counts self.new.file) result }
@@ -112,26 +112,26 @@ impl<M: Media> Windowed<M> {
         if !self.ahead().is_empty() {
             return Ok(());
         }
-        if self.place >= self.len {
+        if self.offset >= self.len {
             return Ok(());
         }
         self.refill()
     }
 
-    /// Gives bytes from the place on that were read already, as many as there is room for.
+    /// Gives bytes from the offset on that were read already, as many as there is room for.
     fn give(&mut self, buf: &mut [u8]) -> usize
-        ensures count { result ≡ min (left self.old.place self.old.start self.old.filled) (length buf.old) }
-        ensures stand { StandAt (M.all_bytes self.old.file) self.old.place (take result buf.new) }
+        ensures count { result ≡ min (left self.old.offset self.old.start self.old.filled) (length buf.old) }
+        ensures stand { StandAt (M.all_bytes self.old.file) self.old.offset (take result buf.new) }
         ensures file { self.new.file ≡ self.old.file }
         ensures len { self.new.len ≡ self.old.len }
         ensures calls { self.new.calls ≡ self.old.calls }
-        ensures place { self.new.place ≡ min (self.old.place + result) (2 ^ 64 - 1) }
-        ensures later { self.old.place ≤ self.new.place }
+        ensures offset { self.new.offset ≡ min (self.old.offset + result) (2 ^ 64 - 1) }
+        ensures later { self.old.offset ≤ self.new.offset }
     {
         let ahead = self.ahead();
         let n = ahead.len().min(buf.len());
         buf[..n].copy_from_slice(&ahead[..n]);
-        self.place = self.place.saturating_add(n as u64);
+        self.offset = self.offset.saturating_add(n as u64);
         n
     }
 }
@@ -156,7 +156,7 @@ impl<M: Media> Failing for Windowed<M> {
 impl<M: Media> Read for Windowed<M> {
     ghost use Rattle.library_scan.specs.Views.{rest_in, whole_in};
 
-    ghost remaining = { λ w. from_place w.place (whole (M.all_bytes w.file) w.len) };
+    ghost remaining = { λ w. from_offset w.offset (whole (M.all_bytes w.file) w.len) };
 
     fn read(&mut self, buf: &mut [u8]) -> io::Result<usize>
         ensures bound { ReadsAtMost result buf.new }
@@ -183,15 +183,15 @@ impl<M: Media> Source for Windowed<M> {
 impl<M: Media> Media for Windowed<M> {
     ghost all_bytes = { λ w. whole (M.all_bytes w.file) w.len };
 
-    fn seek_to(&mut self, place: u64) -> io::Result<()> {
+    fn seek_to(&mut self, offset: u64) -> io::Result<()> {
         self.count_call();
-        self.place = place;
+        self.offset = offset;
         Ok(())
     }
 
     fn seek_to_end(&mut self) -> io::Result<u64> {
         self.count_call();
-        self.place = self.len;
+        self.offset = self.len;
         Ok(self.len)
     }
 

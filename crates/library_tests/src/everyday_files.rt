@@ -2,14 +2,14 @@
 use crate::wave_files::{START, digits, tell_tags_of};
 use std::alloc::{AllocError, Global};
 use std::test::Fail;
-use test_texts::{Told, wants};
+use test_texts::{Recorder, wants};
 
 /// The tags of a file whose format these digits follow, each after a bar, or that there are none.
-fn tags_told(alloc: Global, rest: &str, everyday: bool) -> Result<String, AllocError> {
+fn tags_observed(alloc: Global, rest: &str, everyday: bool) -> Result<String, AllocError> {
     let file = digits(alloc, &[(START, 1), (rest, 1)])?;
-    let mut told = Told::new(alloc);
-    tell_tags_of(&mut told, alloc, file.as_str(), everyday);
-    let text = told.into_text()?;
+    let mut recorder = Recorder::new(alloc);
+    tell_tags_of(&mut recorder, alloc, file.as_str(), everyday);
+    let text = recorder.into_text()?;
     if text.is_empty() {
         return String::from_str(alloc, "none");
     }
@@ -18,24 +18,24 @@ fn tags_told(alloc: Global, rest: &str, everyday: bool) -> Result<String, AllocE
 
 /// Adds a line of a table again, with the tags that the file on its left side has in the base profile and in
 /// the everyday profile.
-fn tell_line(told: &mut Told, alloc: Global, line: &str) {
+fn tell_line(recorder: &mut Recorder, alloc: Global, line: &str) {
     let Some((rest, _)) = line.split_once(" => ") else {
-        return told.add(format_args!("{line}\n"));
+        return recorder.add(format_args!("{line}\n"));
     };
-    told.add(format_args!("{rest} => "));
-    told.add_made(tags_told(alloc, rest, false));
-    told.add(" / ");
-    told.add_made(tags_told(alloc, rest, true));
-    told.add("\n");
+    recorder.add(format_args!("{rest} => "));
+    recorder.add_made(tags_observed(alloc, rest, false));
+    recorder.add(" / ");
+    recorder.add_made(tags_observed(alloc, rest, true));
+    recorder.add("\n");
 }
 
 /// The lines of a table again, with the tags of the files on their left sides.
-fn told_of(alloc: Global, table: &str) -> Result<String, AllocError> {
-    let mut told = Told::new(alloc);
+fn observed_of(alloc: Global, table: &str) -> Result<String, AllocError> {
+    let mut recorder = Recorder::new(alloc);
     for line in table.lines() {
-        tell_line(&mut told, alloc, line);
+        tell_line(&mut recorder, alloc, line);
     }
-    told.into_text()
+    recorder.into_text()
 }
 
 /// Files, a line for each: what follows the format, in hexadecimal digits; the tags of the base profile; and
@@ -79,14 +79,14 @@ const FILES: &str = "# `ITRK`, `IPRT` and `IMUS`
 
 /// How long the only text of a file is, with the bar and its name before it, or that there is none. The text is
 /// made of two parts, each so many times.
-fn length_told(
+fn length_observed(
     alloc: Global,
     list: &'static str,
     parts: [(&'static str, usize); 2],
 ) -> Result<String, AllocError> {
     let [first, second] = parts;
     let file = digits(alloc, &[("64617461 00000000", 1), (list, 1), first, second])?;
-    let tags = tags_told(alloc, file.as_str(), true)?;
+    let tags = tags_observed(alloc, file.as_str(), true)?;
     let len = tags.len();
     format!(in alloc; "{len}\n")
 }
@@ -134,16 +134,16 @@ const LENGTHS: [(&str, [(&str, usize); 2]); 8] = [
 
 const LENGTHS_TELL: &str = "1032\n4\n1031\n4\n1032\n4\n1032\n4\n";
 
-fn lengths_told(alloc: Global) -> Result<String, AllocError> {
-    let mut told = Told::new(alloc);
+fn lengths_observed(alloc: Global) -> Result<String, AllocError> {
+    let mut recorder = Recorder::new(alloc);
     for (list, parts) in LENGTHS {
-        told.add_made(length_told(alloc, list, parts));
+        recorder.add_made(length_observed(alloc, list, parts));
     }
-    told.into_text()
+    recorder.into_text()
 }
 
 #[test]
 fn tags_of_both_profiles(rt: HostRuntime) -> Result<(), Fail> {
-    wants(told_of(rt.alloc(), FILES), FILES)?;
-    wants(lengths_told(rt.alloc()), LENGTHS_TELL)
+    wants(observed_of(rt.alloc(), FILES), FILES)?;
+    wants(lengths_observed(rt.alloc()), LENGTHS_TELL)
 }

@@ -4,7 +4,7 @@ use mpd_text::{TagName, Text};
 use std::alloc::{AllocError, Global};
 use std::test::Fail;
 use test_songs::{Tags, repeated_song};
-use test_texts::{Told, wants};
+use test_texts::{Recorder, wants};
 
 /// A song: its URI, its tags, and how often the URI and each text are repeated.
 type Given = (&'static str, Tags, usize);
@@ -59,21 +59,21 @@ const LONG_SONG: &[Given] = &[(
 )];
 
 /// Adds the URI of a song that meets a filter, and a space. What is repeated is added once.
-fn tell_song(told: &mut Told, alloc: Global, given: &Given, filter: &Filter, case: Case) {
+fn tell_song(recorder: &mut Recorder, alloc: Global, given: &Given, filter: &Filter, case: Case) {
     let (uri, tags, times) = *given;
     let Ok(song) = repeated_song(alloc, uri, tags, times, 8_000) else {
-        return told.fail();
+        return recorder.fail();
     };
     match filter.matches(&song, case) {
-        Ok(true) => told.add(format_args!("{uri} ")),
+        Ok(true) => recorder.add(format_args!("{uri} ")),
         Ok(false) => {}
-        Err(_) => told.fail(),
+        Err(_) => recorder.fail(),
     }
 }
 
 /// Adds the songs that meet a filter, or its fault.
 fn tell_found(
-    told: &mut Told,
+    recorder: &mut Recorder,
     alloc: Global,
     songs: &[Given],
     filter: Result<Filter, FilterFault>,
@@ -82,35 +82,35 @@ fn tell_found(
     match filter {
         Ok(filter) => {
             for given in songs {
-                tell_song(told, alloc, given, &filter, case);
+                tell_song(recorder, alloc, given, &filter, case);
             }
         }
-        Err(FilterFault::Syntax(at)) => told.add(format_args!("bad filter at byte {at}")),
+        Err(FilterFault::Syntax(at)) => recorder.add(format_args!("bad filter at byte {at}")),
         Err(FilterFault::UnknownTag(word)) => {
-            told.add(format_args!("unknown tag {}", word.as_str()));
+            recorder.add(format_args!("unknown tag {}", word.as_str()));
         }
-        Err(FilterFault::TooDeep) => told.add("filter too deep"),
-        Err(FilterFault::NoMemory) => told.add("no memory"),
+        Err(FilterFault::TooDeep) => recorder.add("filter too deep"),
+        Err(FilterFault::NoMemory) => recorder.add("no memory"),
     }
 }
 
 /// The lines of a table again, with what is found among songs by the filters on their left sides.
-fn told_of(
+fn observed_of(
     alloc: Global,
     songs: &[Given],
     table: &str,
     vocabulary: Vocabulary,
     case: Case,
 ) -> Result<String, AllocError> {
-    let mut told = Told::new(alloc);
+    let mut recorder = Recorder::new(alloc);
     for line in table.lines() {
         let (text, _) = line.split_once(" => ").unwrap_or((line, ""));
-        told.add(format_args!("{text} => "));
+        recorder.add(format_args!("{text} => "));
         let filter = Filter::parse(alloc, text, vocabulary);
-        tell_found(&mut told, alloc, songs, filter, case);
-        told.add("\n");
+        tell_found(&mut recorder, alloc, songs, filter, case);
+        recorder.add("\n");
     }
-    told.into_text()
+    recorder.into_text()
 }
 
 const FAULTS: &str = " => bad filter at byte 0
@@ -269,19 +269,23 @@ fn pairs(alloc: Global, words: &[(&str, &str)], times: usize) -> Result<Vec<Pair
 }
 
 /// What is found by pairs, with a bar after each.
-fn told_of_pairs(alloc: Global, songs: &[Given], all: &[Compared]) -> Result<String, AllocError> {
-    let mut told = Told::new(alloc);
+fn observed_of_pairs(
+    alloc: Global,
+    songs: &[Given],
+    all: &[Compared],
+) -> Result<String, AllocError> {
+    let mut recorder = Recorder::new(alloc);
     for (words, times, test, vocabulary, case) in all {
         match pairs(alloc, words, *times) {
             Ok(pairs) => {
                 let filter = Filter::of_pairs(alloc, pairs.as_slice(), *test, *vocabulary);
-                tell_found(&mut told, alloc, songs, filter, *case);
+                tell_found(&mut recorder, alloc, songs, filter, *case);
             }
-            Err(_) => told.fail(),
+            Err(_) => recorder.fail(),
         }
-        told.add("|");
+        recorder.add("|");
     }
-    told.into_text()
+    recorder.into_text()
 }
 
 const PAIRS: &[Compared] = &[
@@ -403,24 +407,31 @@ const LONG: &[(&str, &str, usize, Case)] = &[
 ];
 
 /// Adds whether the long song meets a comparison with a text that is repeated so many times.
-fn tell_long(told: &mut Told, alloc: Global, with: &str, text: &str, times: usize, case: Case) {
+fn tell_long(
+    recorder: &mut Recorder,
+    alloc: Global,
+    with: &str,
+    text: &str,
+    times: usize,
+    case: Case,
+) {
     let Ok(text) = text.repeat(alloc, times) else {
-        return told.fail();
+        return recorder.fail();
     };
     let Ok(filter) = format!(in alloc; "({with} '{text}')") else {
-        return told.fail();
+        return recorder.fail();
     };
     let filter = Filter::parse(alloc, filter.as_str(), Vocabulary::Base);
-    tell_found(told, alloc, LONG_SONG, filter, case);
-    told.add("|");
+    tell_found(recorder, alloc, LONG_SONG, filter, case);
+    recorder.add("|");
 }
 
-fn told_of_long(alloc: Global) -> Result<String, AllocError> {
-    let mut told = Told::new(alloc);
+fn observed_of_long(alloc: Global) -> Result<String, AllocError> {
+    let mut recorder = Recorder::new(alloc);
     for (with, text, times, case) in LONG {
-        tell_long(&mut told, alloc, with, text, *times, *case);
+        tell_long(&mut recorder, alloc, with, text, *times, *case);
     }
-    told.into_text()
+    recorder.into_text()
 }
 
 #[test]
@@ -428,10 +439,10 @@ fn songs_that_meet_filters(rt: HostRuntime) -> Result<(), Fail> {
     one_answer();
     let alloc = rt.alloc();
     for (songs, table, vocabulary, case) in TABLES {
-        wants(told_of(alloc, songs, table, *vocabulary, *case), table)?;
+        wants(observed_of(alloc, songs, table, *vocabulary, *case), table)?;
     }
-    for (songs, pairs, wanted) in ALL_PAIRS {
-        wants(told_of_pairs(alloc, songs, pairs), wanted)?;
+    for (songs, pairs, expected) in ALL_PAIRS {
+        wants(observed_of_pairs(alloc, songs, pairs), expected)?;
     }
-    wants(told_of_long(alloc), "dd ||dd ||dd ||dd |dd |dd |")
+    wants(observed_of_long(alloc), "dd ||dd ||dd ||dd |dd |dd |")
 }

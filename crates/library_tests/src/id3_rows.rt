@@ -4,37 +4,37 @@ use id3_tags::{Id3Texts, frames_are_those_of_the_bytes, texts_of, windows_1252};
 use mpd_text::Text;
 use std::alloc::{AllocError, Global};
 use std::test::Fail;
-use test_texts::{Told, wants};
+use test_texts::{Recorder, wants};
 
 /// Adds a name and its text after a bar, where there is a text.
-fn tell_text(told: &mut Told, name: &str, text: &Option<Text>) {
+fn tell_text(recorder: &mut Recorder, name: &str, text: &Option<Text>) {
     if let Some(text) = text {
-        told.add(format_args!("|{name} {}", text.as_str()));
+        recorder.add(format_args!("|{name} {}", text.as_str()));
     }
 }
 
 /// Adds the ten texts, each after its name.
-fn tell_texts(told: &mut Told, texts: &Id3Texts) {
-    tell_text(told, "Title", &texts.title);
-    tell_text(told, "Artist", &texts.artist);
-    tell_text(told, "Album", &texts.album);
-    tell_text(told, "AlbumArtist", &texts.album_artist);
-    tell_text(told, "Track", &texts.track);
-    tell_text(told, "Disc", &texts.disc);
-    tell_text(told, "Date", &texts.date);
-    tell_text(told, "Genre", &texts.genre);
-    tell_text(told, "Composer", &texts.composer);
-    tell_text(told, "Comment", &texts.comment);
+fn tell_texts(recorder: &mut Recorder, texts: &Id3Texts) {
+    tell_text(recorder, "Title", &texts.title);
+    tell_text(recorder, "Artist", &texts.artist);
+    tell_text(recorder, "Album", &texts.album);
+    tell_text(recorder, "AlbumArtist", &texts.album_artist);
+    tell_text(recorder, "Track", &texts.track);
+    tell_text(recorder, "Disc", &texts.disc);
+    tell_text(recorder, "Date", &texts.date);
+    tell_text(recorder, "Genre", &texts.genre);
+    tell_text(recorder, "Composer", &texts.composer);
+    tell_text(recorder, "Comment", &texts.comment);
 }
 
 /// What a chunk of these digits gives: its texts, or that there are none.
-fn told_texts(alloc: Global, digits: &str) -> Result<String, AllocError> {
-    let mut told = Told::new(alloc);
+fn observed_texts(alloc: Global, digits: &str) -> Result<String, AllocError> {
+    let mut recorder = Recorder::new(alloc);
     tell_texts(
-        &mut told,
+        &mut recorder,
         &texts_of(alloc, bytes(alloc, digits)?.as_slice())?,
     );
-    let text = told.into_text()?;
+    let text = recorder.into_text()?;
     if text.is_empty() {
         return String::from_str(alloc, "none");
     }
@@ -42,7 +42,7 @@ fn told_texts(alloc: Global, digits: &str) -> Result<String, AllocError> {
 }
 
 /// What bytes of these digits spell in Windows-1252, or that they spell nothing.
-fn told_windows(alloc: Global, digits: &str) -> Result<String, AllocError> {
+fn observed_windows(alloc: Global, digits: &str) -> Result<String, AllocError> {
     match windows_1252(alloc, bytes(alloc, digits)?.as_slice())? {
         Some(text) => Ok(text.into_string()),
         None => String::from_str(alloc, "none"),
@@ -57,25 +57,25 @@ enum Table {
 }
 
 /// Adds a line of a table again, with what the digits on its left side give.
-fn tell_line(told: &mut Told, alloc: Global, table: Table, line: &str) {
+fn tell_line(recorder: &mut Recorder, alloc: Global, table: Table, line: &str) {
     let Some((digits, _)) = line.split_once(" => ") else {
-        return told.add(format_args!("{line}\n"));
+        return recorder.add(format_args!("{line}\n"));
     };
-    told.add(format_args!("{digits} => "));
-    told.add_made(match table {
-        Table::Tags => told_texts(alloc, digits),
-        Table::Windows => told_windows(alloc, digits),
+    recorder.add(format_args!("{digits} => "));
+    recorder.add_made(match table {
+        Table::Tags => observed_texts(alloc, digits),
+        Table::Windows => observed_windows(alloc, digits),
     });
-    told.add("\n");
+    recorder.add("\n");
 }
 
 /// The lines of a table again, with what the digits on their left sides give.
-fn told_of(alloc: Global, table: Table, lines: &str) -> Result<String, AllocError> {
-    let mut told = Told::new(alloc);
+fn observed_of(alloc: Global, table: Table, lines: &str) -> Result<String, AllocError> {
+    let mut recorder = Recorder::new(alloc);
     for line in lines.lines() {
-        tell_line(&mut told, alloc, table, line);
+        tell_line(&mut recorder, alloc, table, line);
     }
-    told.into_text()
+    recorder.into_text()
 }
 
 /// Contents of chunks, a line for each: the bytes in hexadecimal digits, and the texts that they give. A line
@@ -229,7 +229,7 @@ fn title_len(
 
 /// The lengths of titles of 1,024 letters and of 1,025, of 512 characters of two bytes and of 513, and of 341
 /// characters of three bytes and of 342.
-fn lengths_told(alloc: Global) -> Result<String, AllocError> {
+fn lengths_observed(alloc: Global) -> Result<String, AllocError> {
     let ascii = title_len(
         alloc,
         "4944330400000000080b 54495432000008010000 00",
@@ -274,7 +274,7 @@ fn lengths_told(alloc: Global) -> Result<String, AllocError> {
 fn tags_and_texts(rt: HostRuntime) -> Result<(), Fail> {
     let alloc = rt.alloc();
     frames_are_those_of_the_bytes();
-    wants(told_of(alloc, Table::Tags, TAGS), TAGS)?;
-    wants(told_of(alloc, Table::Windows, WINDOWS), WINDOWS)?;
-    wants(lengths_told(alloc), "1024 0 1024 0 1023 0")
+    wants(observed_of(alloc, Table::Tags, TAGS), TAGS)?;
+    wants(observed_of(alloc, Table::Windows, WINDOWS), WINDOWS)?;
+    wants(lengths_observed(alloc), "1024 0 1024 0 1023 0")
 }

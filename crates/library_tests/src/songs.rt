@@ -4,7 +4,7 @@ use song_db::{Db, SharedSong};
 use std::alloc::{AllocError, Global};
 use std::test::Fail;
 use test_songs::{Tags, repeated_song};
-use test_texts::{Told, wants, wants_made};
+use test_texts::{Recorder, wants, wants_made};
 
 /// The lines that a clone shows whose first handle is gone.
 fn kept(alloc: Global, uri: &str, given: Tags, times: usize) -> Result<String, AllocError> {
@@ -64,49 +64,49 @@ fn songs(alloc: Global, given: &[(u64, &str)], times: usize) -> Result<Vec<Song>
 }
 
 /// Adds the frames of the song of a URI, and the same of a handle that is shared.
-fn tell_frames(told: &mut Told, db: &Db, uri: &str) {
+fn tell_frames(recorder: &mut Recorder, db: &Db, uri: &str) {
     match db.get(uri) {
-        Some(song) => told.add(format_args!("{} ", song.frames())),
-        None => told.add("none "),
+        Some(song) => recorder.add(format_args!("{} ", song.frames())),
+        None => recorder.add("none "),
     }
     match db.share(uri) {
-        Ok(Some(shared)) => told.add(format_args!("{} ", shared.song().frames())),
-        Ok(None) => told.add("none "),
-        Err(_) => told.fail(),
+        Ok(Some(shared)) => recorder.add(format_args!("{} ", shared.song().frames())),
+        Ok(None) => recorder.add("none "),
+        Err(_) => recorder.fail(),
     }
 }
 
 /// Adds how many songs there are, the URIs of the first four, where there are so many, and the frames of
 /// these URIs.
-fn tell(told: &mut Told, db: &Db, uris: &[&str]) {
-    told.add(format_args!("{}: ", db.len()));
+fn tell(recorder: &mut Recorder, db: &Db, uris: &[&str]) {
+    recorder.add(format_args!("{}: ", db.len()));
     for shared in db.songs().get(..4).unwrap_or(&[]) {
-        told.add(format_args!("{} ", shared.song().uri()));
+        recorder.add(format_args!("{} ", shared.song().uri()));
     }
     for uri in uris {
-        tell_frames(told, db, uri);
+        tell_frames(recorder, db, uri);
     }
-    told.add("\n");
+    recorder.add("\n");
 }
 
-/// What is told of the library of these songs, and of its image once the library is gone; or why they are none.
-fn told_of(
+/// What is observed of the library of these songs, and of its image once the library is gone; or why they are none.
+fn observed_of(
     alloc: Global,
     songs: Result<Vec<Song>, AllocError>,
     uris: &[&str],
 ) -> Result<String, AllocError> {
     let songs = songs?;
-    let mut told = Told::new(alloc);
+    let mut recorder = Recorder::new(alloc);
     match Db::of_songs(alloc, songs) {
         Ok(db) => {
-            tell(&mut told, &db, uris);
+            tell(&mut recorder, &db, uris);
             let image = db.image()?;
             drop(db);
-            tell(&mut told, &image, uris);
+            tell(&mut recorder, &image, uris);
         }
-        Err(fault) => told.add(format_args!("{fault:?}")),
+        Err(fault) => recorder.add(format_args!("{fault:?}")),
     }
-    told.into_text()
+    recorder.into_text()
 }
 
 const FOUR: &[(u64, &str)] = &[
@@ -122,7 +122,7 @@ const TWO_OF_ONE_URI: &[(u64, &str)] = &[(1, "a.wav"), (2, "b.wav"), (3, "a.wav"
 fn longest_uri(alloc: Global) -> Result<String, AllocError> {
     let longest = "u".repeat(alloc, 1_024)?;
     let shorter = longest.as_str().get(1..).unwrap_or("");
-    told_of(
+    observed_of(
         alloc,
         songs(alloc, &[(8, "u")], 1_024),
         &[longest.as_str(), shorter],
@@ -139,8 +139,8 @@ fn add_numbered(songs: &mut Vec<Song>, alloc: Global, number: u64) -> Result<(),
 /// in byte order.
 fn numbered(alloc: Global, count: u64) -> Result<Vec<Song>, AllocError> {
     let mut songs = Vec::new(alloc);
-    for place in 0..count {
-        add_numbered(&mut songs, alloc, 100_000u64.saturating_sub(place))?;
+    for index in 0..count {
+        add_numbered(&mut songs, alloc, 100_000u64.saturating_sub(index))?;
     }
     Ok(songs)
 }
@@ -153,22 +153,22 @@ fn libraries_and_their_images(rt: HostRuntime) -> Result<(), Fail> {
     let alloc = rt.alloc();
     let uris = &["a.wav", "A.wav", "a.wa", "b.wav", "c.wav"];
     wants(
-        told_of(alloc, songs(alloc, FOUR, 1), uris),
+        observed_of(alloc, songs(alloc, FOUR, 1), uris),
         "4: B.wav a.wav a/z.wav b.wav 24000 24000 none none none none 8000 8000 none none \n\
          4: B.wav a.wav a/z.wav b.wav 24000 24000 none none none none 8000 8000 none none \n",
     )?;
     wants(
-        told_of(alloc, songs(alloc, TWO_OF_ONE_URI, 1), &[]),
+        observed_of(alloc, songs(alloc, TWO_OF_ONE_URI, 1), &[]),
         "TwiceNamed",
     )?;
     wants(longest_uri(alloc), "1: 8 8 none none \n1: 8 8 none none \n")?;
     wants(
-        told_of(alloc, numbered(alloc, 100_000), NUMBERED_URIS),
+        observed_of(alloc, numbered(alloc, 100_000), NUMBERED_URIS),
         "100000: 000001 000002 000003 000004 1 1 100000 100000 none none \n\
          100000: 000001 000002 000003 000004 1 1 100000 100000 none none \n",
     )?;
     wants(
-        told_of(alloc, numbered(alloc, 100_001), NUMBERED_URIS),
+        observed_of(alloc, numbered(alloc, 100_001), NUMBERED_URIS),
         "TooMany",
     )
 }

@@ -5,7 +5,7 @@ use std::alloc::{AllocError, Global};
 use std::fs;
 use std::io::Cursor;
 use std::test::Fail;
-use test_texts::{Told, wants, wants_made};
+use test_texts::{Recorder, wants, wants_made};
 use wave::{Head, Reader, chunks_are_those_of_the_bytes, read_head};
 
 /// 24 bits, one channel, a title, and a data size past the file's end.
@@ -58,31 +58,36 @@ fn device(alloc: Global, digits: &str, point: FailurePoint) -> Result<FailAt, Al
 type Range = (u64, usize);
 
 /// Adds the frames that are read of each range, or the fault's name.
-fn tell_ranges<M: Media>(told: &mut Told, alloc: Global, reader: &mut Reader<M>, ranges: &[Range]) {
-    for (place, most) in ranges {
-        match reader.frames_at(alloc, *place, *most) {
-            Ok(frames) => told.add(format_args!(" {frames:?}")),
-            Err(fault) => told.add(format_args!(" {fault:?}")),
+fn tell_ranges<M: Media>(
+    recorder: &mut Recorder,
+    alloc: Global,
+    reader: &mut Reader<M>,
+    ranges: &[Range],
+) {
+    for (offset, most) in ranges {
+        match reader.frames_at(alloc, *offset, *most) {
+            Ok(frames) => recorder.add(format_args!(" {frames:?}")),
+            Err(fault) => recorder.add(format_args!(" {fault:?}")),
         }
     }
 }
 
 /// Adds channels, bits and frames, and each tag after a bar.
-fn tell_head(told: &mut Told, head: &Head) {
+fn tell_head(recorder: &mut Recorder, head: &Head) {
     let (channels, bits, frames) = (head.channels(), head.bits(), head.frames());
-    told.add(format_args!("{channels} {bits} {frames}"));
-    tell_tags(told, head);
+    recorder.add(format_args!("{channels} {bits} {frames}"));
+    tell_tags(recorder, head);
 }
 
-fn tell_tags(told: &mut Told, head: &Head) {
+fn tell_tags(recorder: &mut Recorder, head: &Head) {
     for tag in head.tags() {
-        told.add(format_args!("|{} {}", tag.name().text(), tag.text()));
+        recorder.add(format_args!("|{} {}", tag.name().text(), tag.text()));
     }
 }
 
 /// Adds the head of a file and some frames, or the fault's name.
 fn tell_file<M: Media + Drop>(
-    told: &mut Told,
+    recorder: &mut Recorder,
     alloc: Global,
     media: M,
     rate: u32,
@@ -92,34 +97,34 @@ fn tell_file<M: Media + Drop>(
     match read_head(alloc, &mut media, rate, false) {
         Ok(head) => {
             let mut reader = Reader::new(media, head);
-            tell_head(told, reader.head());
-            tell_ranges(told, alloc, &mut reader, ranges);
+            tell_head(recorder, reader.head());
+            tell_ranges(recorder, alloc, &mut reader, ranges);
         }
-        Err(fault) => told.add(format_args!("{fault:?}")),
+        Err(fault) => recorder.add(format_args!("{fault:?}")),
     }
 }
 
 /// Adds a line of a table again, with what is read of the file on its left side.
-fn tell_line(told: &mut Told, alloc: Global, line: &str) {
+fn tell_line(recorder: &mut Recorder, alloc: Global, line: &str) {
     let Some((file, _)) = line.split_once(" => ") else {
-        return told.add(format_args!("{line}\n"));
+        return recorder.add(format_args!("{line}\n"));
     };
-    told.add(format_args!("{file} => "));
+    recorder.add(format_args!("{file} => "));
     let (rate, digits) = file.split_once(": ").unwrap_or(("", file));
     match device(alloc, digits, FailurePoint::Never) {
-        Ok(media) => tell_file(told, alloc, media, number(rate).unwrap_or(0), &[(0, 5)]),
-        Err(_) => told.fail(),
+        Ok(media) => tell_file(recorder, alloc, media, number(rate).unwrap_or(0), &[(0, 5)]),
+        Err(_) => recorder.fail(),
     }
-    told.add("\n");
+    recorder.add("\n");
 }
 
 /// The lines of a table again, with what is read of the files on their left sides.
-fn told_of(alloc: Global, table: &str) -> Result<String, AllocError> {
-    let mut told = Told::new(alloc);
+fn observed_of(alloc: Global, table: &str) -> Result<String, AllocError> {
+    let mut recorder = Recorder::new(alloc);
     for line in table.lines() {
-        tell_line(&mut told, alloc, line);
+        tell_line(&mut recorder, alloc, line);
     }
-    told.into_text()
+    recorder.into_text()
 }
 
 /// Files, a line for each: the rate, the bytes in hexadecimal digits, and what is read of them. A line with
@@ -198,17 +203,17 @@ const REAL: &str = "# sox -D -t raw -r 8000 -e signed -b 16 -c 2 IN OUT.wav
 
 /// What is read of the first file on a device in memory, on one of unknown bytes, and on one whose first call
 /// would block.
-fn devices_told(alloc: Global) -> Result<String, AllocError> {
-    let mut told = Told::new(alloc);
+fn devices_observed(alloc: Global) -> Result<String, AllocError> {
+    let mut recorder = Recorder::new(alloc);
     let in_memory = device(alloc, FIRST, FailurePoint::Never)?;
-    tell_file(&mut told, alloc, in_memory, 8_000, RANGES);
-    told.add("\n");
+    tell_file(&mut recorder, alloc, in_memory, 8_000, RANGES);
+    recorder.add("\n");
     let unknown = Counting::new(Cursor::new(bytes(alloc, FIRST)?));
-    tell_file(&mut told, alloc, unknown, 8_000, &[(0, 5)]);
-    told.add("\n");
+    tell_file(&mut recorder, alloc, unknown, 8_000, &[(0, 5)]);
+    recorder.add("\n");
     let blocked = FailAt::would_block(bytes(alloc, FIRST)?, FailurePoint::Call(1));
-    tell_file(&mut told, alloc, blocked, 8_000, &[(0, 5)]);
-    told.into_text()
+    tell_file(&mut recorder, alloc, blocked, 8_000, &[(0, 5)]);
+    recorder.into_text()
 }
 
 const RANGES: &[Range] = &[
@@ -227,10 +232,10 @@ const HIGH: &str = "1 24 2|Title Hi [[1, 1], [-1, -1]]";
 #[test]
 fn files_and_devices(rt: HostRuntime) -> Result<(), Fail> {
     chunks_are_those_of_the_bytes();
-    wants(told_of(rt.alloc(), FILES), FILES)?;
-    wants(told_of(rt.alloc(), REAL), REAL)?;
+    wants(observed_of(rt.alloc(), FILES), FILES)?;
+    wants(observed_of(rt.alloc(), REAL), REAL)?;
     wants(
-        devices_told(rt.alloc()),
+        devices_observed(rt.alloc()),
         "1 24 2|Title Hi [[1, 1]] [[-1, -1]] [[-1, -1]] [] [] [[1, 1], [-1, -1]] []\n\
          1 24 2|Title Hi [[1, 1], [-1, -1]]\nReadFault",
     )?;
@@ -238,15 +243,15 @@ fn files_and_devices(rt: HostRuntime) -> Result<(), Fail> {
     let bytes = bytes(rt.alloc(), FIRST).expect(&rt, "no memory");
     fs::write(&rt, name, bytes.as_slice()).expect(&rt, "no file");
     let media = Counting::new(fs::open(&rt, name).expect(&rt, "no file"));
-    let mut told = Told::new(rt.alloc());
-    tell_file(&mut told, rt.alloc(), media, 8_000, &[(0, 5)]);
+    let mut recorder = Recorder::new(rt.alloc());
+    tell_file(&mut recorder, rt.alloc(), media, 8_000, &[(0, 5)]);
     fs::remove_file(&rt, name).expect(&rt, "no file");
-    wants(told.into_text(), HIGH)
+    wants(recorder.into_text(), HIGH)
 }
 
 /// Digits that are each of some others, so many times.
 pub(crate) fn digits(alloc: Global, parts: &[(&str, usize)]) -> Result<String, AllocError> {
-    let mut digits = Told::new(alloc);
+    let mut digits = Recorder::new(alloc);
     for (part, times) in parts {
         digits.add_made(part.repeat(alloc, *times));
     }
@@ -254,19 +259,19 @@ pub(crate) fn digits(alloc: Global, parts: &[(&str, usize)]) -> Result<String, A
 }
 
 /// Adds each tag after a bar, of a file of these digits in the everyday profile or in the base profile.
-pub(crate) fn tell_tags_of(told: &mut Told, alloc: Global, digits: &str, everyday: bool) {
+pub(crate) fn tell_tags_of(recorder: &mut Recorder, alloc: Global, digits: &str, everyday: bool) {
     let Ok(mut media) = device(alloc, digits, FailurePoint::Never) else {
-        return told.fail();
+        return recorder.fail();
     };
     match read_head(alloc, &mut media, 8_000, everyday) {
-        Ok(head) => tell_tags(told, &head),
-        Err(fault) => told.add(format_args!("{fault:?}")),
+        Ok(head) => tell_tags(recorder, &head),
+        Err(fault) => recorder.add(format_args!("{fault:?}")),
     }
 }
 
 /// Where the samples of a file begin, how long a frame is, how many frames and tags there are, and how many
 /// calls the reading of its head took.
-fn places_told(
+fn offset_observed(
     alloc: Global,
     parts: &[(&str, usize)],
     everyday: bool,
@@ -274,9 +279,9 @@ fn places_told(
     let mut media = device(alloc, digits(alloc, parts)?.as_str(), FailurePoint::Never)?;
     match read_head(alloc, &mut media, 8_000, everyday) {
         Ok(head) => {
-            let (place, block, frames) = (head.place(), head.layout().block(), head.frames());
+            let (offset, block, frames) = (head.offset(), head.layout().block(), head.frames());
             let (tags, calls) = (head.into_tags().len(), media.calls());
-            format!(in alloc; "{place} {block} {frames} {tags} {calls}")
+            format!(in alloc; "{offset} {block} {frames} {tags} {calls}")
         }
         Err(fault) => format!(in alloc; "{fault:?}"),
     }
@@ -303,14 +308,14 @@ const TOO_LONG_TEXT: &[(&str, usize)] = &[
 
 /// How many frames a file has; of a block of 1,024, how many calls its reading took, and whether its samples
 /// are all 1 and -1.
-fn block_told(alloc: Global, reader: Reader<FailAt>) -> Result<String, AllocError> {
+fn block_observed(alloc: Global, reader: Reader<FailAt>) -> Result<String, AllocError> {
     let mut reader = reader;
     let (all, before) = (reader.head().frames(), reader.media().calls());
     match reader.frames_at(alloc, 500, 1_024) {
         Ok(frames) => {
             let calls = reader.media().calls().wrapping_sub(before);
-            let are_wanted = frames.as_slice() == [[1, -1]; 1_024].as_slice();
-            format!(in alloc; "{all} {calls} {are_wanted}")
+            let are_expected = frames.as_slice() == [[1, -1]; 1_024].as_slice();
+            format!(in alloc; "{all} {calls} {are_expected}")
         }
         Err(fault) => format!(in alloc; "{fault:?}"),
     }
@@ -318,7 +323,7 @@ fn block_told(alloc: Global, reader: Reader<FailAt>) -> Result<String, AllocErro
 
 /// The same of a file of 24 bits and two channels, with 500 frames of 2 and -2, 1,024 of 1 and -1, and 476
 /// of 2 and -2, above low bytes of 200.
-fn block_of_file_told(alloc: Global, start: &str, rate: u32) -> Result<String, AllocError> {
+fn block_of_file_observed(alloc: Global, start: &str, rate: u32) -> Result<String, AllocError> {
     let parts = [
         (start, 1),
         ("c80200 c8feff", 500),
@@ -328,7 +333,7 @@ fn block_of_file_told(alloc: Global, start: &str, rate: u32) -> Result<String, A
     let digits = digits(alloc, &parts)?;
     let mut media = device(alloc, digits.as_str(), FailurePoint::Never)?;
     match read_head(alloc, &mut media, rate, false) {
-        Ok(head) => block_told(alloc, Reader::new(media, head)),
+        Ok(head) => block_observed(alloc, Reader::new(media, head)),
         Err(fault) => format!(in alloc; "{fault:?}"),
     }
 }
@@ -344,28 +349,28 @@ const HIGHEST: &str =
 
 /// Adds what is read twice of the frames of a file where a call fails, or the fault of its head, and how many
 /// calls failed.
-fn tell_failing(told: &mut Told, alloc: Global, digits: &str, call: u64, everyday: bool) {
+fn tell_failing(recorder: &mut Recorder, alloc: Global, digits: &str, call: u64, everyday: bool) {
     let Ok(mut media) = device(alloc, digits, FailurePoint::Call(call)) else {
-        return told.fail();
+        return recorder.fail();
     };
     match read_head(alloc, &mut media, 8_000, everyday) {
         Ok(head) => {
             let mut reader = Reader::new(media, head);
-            tell_ranges(told, alloc, &mut reader, &[(0, 2), (0, 2)]);
-            told.add(format_args!(" {}\n", reader.media().failures()));
+            tell_ranges(recorder, alloc, &mut reader, &[(0, 2), (0, 2)]);
+            recorder.add(format_args!(" {}\n", reader.media().failures()));
         }
-        Err(fault) => told.add(format_args!("{fault:?} {}\n", media.failures())),
+        Err(fault) => recorder.add(format_args!("{fault:?} {}\n", media.failures())),
     }
 }
 
 /// The same of the file with the longest text, for each of some calls.
-fn failing_told(alloc: Global, first: u64, last: u64) -> Result<String, AllocError> {
+fn failing_observed(alloc: Global, first: u64, last: u64) -> Result<String, AllocError> {
     let digits = digits(alloc, LONGEST_TEXT)?;
-    let mut told = Told::new(alloc);
+    let mut recorder = Recorder::new(alloc);
     for call in first..=last {
-        tell_failing(&mut told, alloc, digits.as_str(), call, false);
+        tell_failing(&mut recorder, alloc, digits.as_str(), call, false);
     }
-    told.into_text()
+    recorder.into_text()
 }
 
 /// A file with no samples, and an ID3v2 tag with a title after them.
@@ -376,13 +381,13 @@ const TAGGED: &[(&str, usize)] = &[
 ];
 
 /// The same of a file with an ID3v2 tag, whose tags are those of the everyday profile.
-fn failing_tag_told(alloc: Global, last: u64) -> Result<String, AllocError> {
+fn failing_tag_observed(alloc: Global, last: u64) -> Result<String, AllocError> {
     let digits = digits(alloc, TAGGED)?;
-    let mut told = Told::new(alloc);
+    let mut recorder = Recorder::new(alloc);
     for call in 1..=last {
-        tell_failing(&mut told, alloc, digits.as_str(), call, true);
+        tell_failing(&mut recorder, alloc, digits.as_str(), call, true);
     }
-    told.into_text()
+    recorder.into_text()
 }
 
 // The calls of a head are the file's size, and a seek and a read for each of eleven: the first twelve bytes,
@@ -393,25 +398,31 @@ fn failing_tag_told(alloc: Global, last: u64) -> Result<String, AllocError> {
 // frames, at the lowest and the highest rate, are one seek and one read. Then each call fails in turn: the 23 of
 // the head, the two of the frames, and the 25 of the head with the tag.
 #[test]
-fn places_and_calls(rt: HostRuntime) -> Result<(), Fail> {
+fn offsets_and_calls(rt: HostRuntime) -> Result<(), Fail> {
     let alloc = rt.alloc();
-    wants(places_told(alloc, LONGEST_TEXT, false), "1088 3 2 1 23")?;
-    wants(places_told(alloc, LONGEST_TEXT, true), "1088 3 2 1 29")?;
-    wants(places_told(alloc, TOO_LONG_TEXT, false), "1090 3 2 0 23")?;
-    wants(places_told(alloc, TOO_LONG_TEXT, true), "1090 3 2 0 29")?;
-    wants(places_told(alloc, TAGGED, true), "44 3 0 1 25")?;
-    wants(block_of_file_told(alloc, LOWEST, 8_000), "2000 2 true")?;
-    wants(block_of_file_told(alloc, HIGHEST, 192_000), "2000 2 true")?;
+    wants(offset_observed(alloc, LONGEST_TEXT, false), "1088 3 2 1 23")?;
+    wants(offset_observed(alloc, LONGEST_TEXT, true), "1088 3 2 1 29")?;
+    wants(
+        offset_observed(alloc, TOO_LONG_TEXT, false),
+        "1090 3 2 0 23",
+    )?;
+    wants(offset_observed(alloc, TOO_LONG_TEXT, true), "1090 3 2 0 29")?;
+    wants(offset_observed(alloc, TAGGED, true), "44 3 0 1 25")?;
+    wants(block_of_file_observed(alloc, LOWEST, 8_000), "2000 2 true")?;
+    wants(
+        block_of_file_observed(alloc, HIGHEST, 192_000),
+        "2000 2 true",
+    )?;
     wants_made(
-        failing_told(alloc, 1, 23),
+        failing_observed(alloc, 1, 23),
         "ReadFault 1\n".repeat(alloc, 23),
     )?;
     wants_made(
-        failing_tag_told(alloc, 25),
+        failing_tag_observed(alloc, 25),
         "ReadFault 1\n".repeat(alloc, 25),
     )?;
     wants(
-        failing_told(alloc, 24, 25),
+        failing_observed(alloc, 24, 25),
         " ReadFault [[1, 1], [-1, -1]] 1\n ReadFault [[1, 1], [-1, -1]] 1\n",
     )
 }

@@ -23,27 +23,27 @@ use Rattle.mpd_command.specs.Status.{rows as status_rows}
 use Rattle.mpd_command.specs.Stickers.{rows as stickers_rows}
 use Rattle.mpd_command.specs.declared.command_set.CommandSet.{CommandSet}
 use Rattle.mpd_command.specs.declared.name.Name.{Name}
-use Rattle.mpd_command.proofs.Places.{first_within, said_between, same_position}
+use Rattle.mpd_command.proofs.Indices.{first_within, said_between, same_position}
 
 -- from its letter's start on, and before the next letter's
 abbrev StandsAt : List ℕ → List ℕ → ℕ → Type 0
-StandsAt heads name place = (get_or heads (letter_of name) 0 ≤ place) × (place < get_or heads (letter_of name + 1) 0)
+StandsAt heads name index = (get_or heads (letter_of name) 0 ≤ index) × (index < get_or heads (letter_of name + 1) 0)
 
--- whether each name stands so, where the first is at this place
+-- whether each name stands so, where the first is at this index
 abbrev stand : List ℕ → ℕ → List (List ℕ) → Bool
-stand heads place [] = true
-stand heads place (name ∷ names) = (leb (get_or heads (letter_of name) 0) place && ltb place (get_or heads (letter_of name + 1) 0)) && stand heads (place + 1) names
+stand heads index [] = true
+stand heads index (name ∷ names) = (leb (get_or heads (letter_of name) 0) index && ltb index (get_or heads (letter_of name + 1) 0)) && stand heads (index + 1) names
 
-stand-at : (heads : List ℕ) (names : List (List ℕ)) (place i : ℕ) → stand heads place names ≡ true → i < length names → StandsAt heads (get_or names i []) (place + i)
-stand-at heads [] place i all low = absurd (omega arith)
-stand-at heads (name ∷ names) place zero all low =
-    let here : (leb (get_or heads (letter_of name) 0) place && ltb place (get_or heads (letter_of name + 1) 0)) ≡ true = first_so _ _ all in
-    let from : get_or heads (letter_of name) 0 ≤ place = leb-true _ _ (first_so _ _ here) in
-    let before : place < get_or heads (letter_of name + 1) 0 = ltb-true _ _ (second_so _ _ here) in
+stand-at : (heads : List ℕ) (names : List (List ℕ)) (index i : ℕ) → stand heads index names ≡ true → i < length names → StandsAt heads (get_or names i []) (index + i)
+stand-at heads [] index i all low = absurd (omega arith)
+stand-at heads (name ∷ names) index zero all low =
+    let here : (leb (get_or heads (letter_of name) 0) index && ltb index (get_or heads (letter_of name + 1) 0)) ≡ true = first_so _ _ all in
+    let from : get_or heads (letter_of name) 0 ≤ index = leb-true _ _ (first_so _ _ here) in
+    let before : index < get_or heads (letter_of name + 1) 0 = ltb-true _ _ (second_so _ _ here) in
     (omega arith, omega arith)
-stand-at heads (name ∷ names) place (suc i) all low =
-    let same : (place + 1) + i ≡ place + suc i = omega arith in
-    subst (StandsAt heads (get_or names i [])) same (stand-at heads names (place + 1) i (second_so _ _ all) (omega arith))
+stand-at heads (name ∷ names) index (suc i) all low =
+    let same : (index + 1) + i ≡ index + suc i = omega arith in
+    subst (StandsAt heads (get_or names i [])) same (stand-at heads names (index + 1) i (second_so _ _ all) (omega arith))
 
 all-stand : stand starts 0 all_names ≡ true
 unfolding all_names connection_rows rows_from_notcommands database_rows rows_from_listall rows_from_rescan messages_rows options_rows rows_from_replay_gain_mode outputs_rows partitions_rows playback_rows rows_from_seek playlists_rows rows_from_playlistadd queue_rows rows_from_playlist rows_from_prio status_rows stickers_rows starts
@@ -66,7 +66,7 @@ same_word name word = (bytes_eq-Decides name word).0
 
 -- a word is the first of its letter's names that it is the first of all names
 pub found-by_letter : (word : List ℕ)
-    → option_map (λ place. get_or starts (letter_of word) 0 + place) (position (λ name. bytes_eq name word) (slice_range all_names (get_or starts (letter_of word) 0) (get_or starts (letter_of word + 1) 0)))
+    → option_map (λ index. get_or starts (letter_of word) 0 + index) (position (λ name. bytes_eq name word) (slice_range all_names (get_or starts (letter_of word) 0) (get_or starts (letter_of word + 1) 0)))
     ≡ position (λ name. bytes_eq name word) all_names
 found-by_letter word =
     first_within (λ name. bytes_eq name word) all_names (get_or starts (letter_of word) 0) (get_or starts (letter_of word + 1) 0)
@@ -78,12 +78,12 @@ found-by_letter word =
 -- among the texts between two letters' starts a word is found where it is among all
 module _ (texts : List (Bor (List ℕ))) (word : List ℕ) (letter start end : ℕ) (same : map (λ text. text.now) texts ≡ all_names) (begins : letter ≡ letter_of word) (from : start ≡ get_or starts letter 0) (before : end ≡ get_or starts (letter + 1) 0) where
   pub found-between : (part : List (Bor (List ℕ))) → part ≡ slice_range texts start end
-      → option_map (λ place. start + place) (position (λ text. bytes_eq text.now word) part) ≡ position (λ name. bytes_eq name word) all_names
+      → option_map (λ index. start + index) (position (λ text. bytes_eq text.now word) part) ≡ position (λ name. bytes_eq name word) all_names
   found-between part is =
       let said : map (λ text. text.now) part ≡ slice_range all_names start end = ap (map (λ text. text.now)) is ∙ said_between texts all_names start end same in
       let first : start ≡ get_or starts (letter_of word) 0 = from ∙ ap (λ (k : ℕ). get_or starts k 0) begins in
       let last : end ≡ get_or starts (letter_of word + 1) 0 = before ∙ ap (λ (k : ℕ). get_or starts (k + 1) 0) begins in
-      ap (option_map (λ place. start + place)) (same_position part (slice_range all_names start end) word said)
+      ap (option_map (λ index. start + index)) (same_position part (slice_range all_names start end) word said)
       ∙ rw (first, last) (found-by_letter word)
 
   -- where they are no part of all texts, the word is no name
@@ -95,13 +95,13 @@ module _ (texts : List (Bor (List ℕ))) (word : List ℕ) (letter start end : �
       absurd (omega arith)
 
 -- the text of the name that a word is, is the word
-placed : (found : Option ℕ) (name : Name) → option_map (λ place. record { place = place }) found ≡ Some name → found ≡ Some name.place
+placed : (found : Option ℕ) (name : Name) → option_map (λ index. record { index = index }) found ≡ Some name → found ≡ Some name.index
 placed None name same = cc
-placed (Some place) name same = cc
+placed (Some index) name same = cc
 
 pub text-of_word : (word : List ℕ) (name : Name) → name_of word ≡ Some name → text_of name ≡ word
 unfolding name_of
-text-of_word word name same = same_word _ _ (position-Some (λ other. bytes_eq other word) all_names name.place [] (placed _ name same)).1
+text-of_word word name same = same_word _ _ (position-Some (λ other. bytes_eq other word) all_names name.index [] (placed _ name same)).1
 
 -- each name that the everyday profile adds is one of all names
 added-named : list_all (λ name. is_some (position (λ other. bytes_eq other name) all_names)) everyday_names ≡ true
@@ -116,9 +116,9 @@ each-added test (name ∷ names) word all any = by (each-added test names word (
     by rest true same any = let P : List ℕ → Type 0 = λ other. test other ≡ true in subst P (same_word name word same) (first_so _ _ all)
     by rest false other any = rest any
 
-unnamed : (found : Option ℕ) → option_map {U = Name} (λ place. record { place = place }) found ≡ None → is_some found ≡ false
+unnamed : (found : Option ℕ) → option_map {U = Name} (λ index. record { index = index }) found ≡ None → is_some found ≡ false
 unnamed None same = refl
-unnamed (Some place) same = cc
+unnamed (Some index) same = cc
 
 pub not-added : (word : List ℕ) → name_of word ≡ None → is_added_name word ≡ false
 unfolding name_of

@@ -58,7 +58,7 @@ is_added_name name = list_any (λ other. bytes_eq other name) everyday_names
 unfoldable pub starts : List ℕ
 starts = map (λ letter. prefix_len (λ name. comes_before name (letter ∷ [])) all_names) (codes "abcdefghijklmnopqrstuvwxyz{")
 
--- the letter that a word begins with, by its place from `a` on
+-- the letter that a word begins with, by its index from `a` on
 abbrev pub letter_of : List ℕ → ℕ
 letter_of word = slice_index word 0 - 97
 
@@ -68,11 +68,11 @@ is_there name set = set.everyday || not (is_added_name name)
 
 -- the text of a name
 abbrev pub text_of : Name → List ℕ
-text_of name = slice_index_or all_names name.place (codes "")
+text_of name = slice_index_or all_names name.index (codes "")
 
 -- the name that a word is, whether there is such a command or not
 unfoldable pub name_of : List ℕ → Option Name
-name_of word = option_map (λ place. record { place = place }) (position (λ name. bytes_eq name word) all_names)
+name_of word = option_map (λ index. record { index = index }) (position (λ name. bytes_eq name word) all_names)
 
 -- whether the command of this name may not be run: the settings have to allow `kill` (this profile's)
 abbrev pub is_forbidden : List ℕ → CommandSet → Bool

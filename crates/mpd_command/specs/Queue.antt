@@ -3,9 +3,9 @@ use Rattle.std.specs.Prelude.{ℕ, Bool, List, [], ◌∷◌, Option, None, Resu
 use Rattle.filters.specs.declared.expression.Test.TheVariants.{Equals, Contains}
 use Rattle.mpd_text.specs.Answers.Number.{number_of}
 use Rattle.mpd_text.specs.Answers.Range.{range_of}
-use Rattle.command_arguments.specs.Forms.{uri_of, byte_of, place_of}
+use Rattle.command_arguments.specs.Forms.{uri_of, byte_of, position_of}
 use Rattle.command_arguments.specs.Readers.{map_ok, one_of, one_perhaps_of}
-use Rattle.command_arguments.specs.declared.forms.Place.{Place}
+use Rattle.command_arguments.specs.declared.forms.Position.{Position}
 use Rattle.command_arguments.specs.declared.forms.Uri.{Uri}
 use Rattle.command_arguments.specs.declared.readers.Misread.{Misread}
 use Rattle.mpd_command.specs.Tables.{Arguments, Row, filter, none, one, perhaps, two, one_perhaps, one_many}
@@ -13,13 +13,13 @@ use Rattle.mpd_command.specs.declared.command_set.CommandSet.{CommandSet}
 use Rattle.mpd_command.specs.declared.queue.QueueCommand.{QueueCommand}
 use Rattle.mpd_command.specs.declared.queue.QueueCommand.TheVariants as queue
 
--- a URI, and in the everyday profile perhaps a place
-abbrev pub uri_perhaps_place_of : Bool → List (List ℕ) → Result (Uri × Option Place) Misread
-uri_perhaps_place_of everyday words =
-    if everyday then one_perhaps_of uri_of place_of words else map_ok (λ uri. (uri, None)) (one_of uri_of words)
+-- a URI, and in the everyday profile perhaps a position
+abbrev pub uri_perhaps_position_of : Bool → List (List ℕ) → Result (Uri × Option Position) Misread
+uri_perhaps_position_of everyday words =
+    if everyday then one_perhaps_of uri_of position_of words else map_ok (λ uri. (uri, None)) (one_of uri_of words)
 
-abbrev pub uri_perhaps_place : {A : Type 0} → Bool → (Uri → Option Place → A) → Arguments A
-uri_perhaps_place everyday f words = map_ok (λ p. f p.0 p.1) (uri_perhaps_place_of everyday words)
+abbrev pub uri_perhaps_position : {A : Type 0} → Bool → (Uri → Option Position → A) → Arguments A
+uri_perhaps_position everyday f words = map_ok (λ p. f p.0 p.1) (uri_perhaps_position_of everyday words)
 
 -- the rows from `prio` on
 unfoldable pub rows_from_prio : List (Row QueueCommand)
@@ -45,8 +45,8 @@ rows_from_playlist =
 
 unfoldable pub rows : CommandSet → List (Row QueueCommand)
 rows set =
-    (codes "add", uri_perhaps_place set.everyday queue.Add)
-    ∷ (codes "addid", one_perhaps uri_of place_of queue.AddId)
+    (codes "add", uri_perhaps_position set.everyday queue.Add)
+    ∷ (codes "addid", one_perhaps uri_of position_of queue.AddId)
     ∷ (codes "clear", none queue.Clear)
     ∷ (codes "delete", one range_of queue.Delete)
     ∷ (codes "deleteid", one number_of queue.DeleteId)

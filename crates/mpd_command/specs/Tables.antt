@@ -3,10 +3,10 @@ use Rattle.std.specs.Prelude.{ℕ, Bool, List, [], ◌∷◌, Option, Some, None
 use Rattle.std.specs.Str.{bytes_eq}
 use Rattle.filters.specs.declared.expression.Test.{Test}
 use Rattle.command_arguments.specs.Readers.{map_ok, none_of, one_of, perhaps_of, two_of, three_of, one_perhaps_of, one_many_of}
-use Rattle.command_arguments.specs.declared.forms.Place.{Place}
+use Rattle.command_arguments.specs.declared.forms.Position.{Position}
 use Rattle.command_arguments.specs.declared.readers.Misread.{Misread}
-use Rattle.command_arguments.specs.Wanted.{filter_of}
-use Rattle.command_arguments.specs.declared.wanted.Wanted.{Wanted}
+use Rattle.command_arguments.specs.Criteria.{filter_of}
+use Rattle.command_arguments.specs.declared.criteria.Criteria.{Criteria}
 use Rattle.filters.specs.declared.words.Vocabulary.TheVariants.{Known}
 use Rattle.selections.specs.Groupings.{counting_of, grouping_of}
 use Rattle.selections.specs.Selections.{name_selection_of, placed_selection_of, selection_of}
@@ -70,7 +70,7 @@ abbrev pub one_many : {A B C : Type 0} → (List ℕ → Option A) → (List ℕ
 one_many first second f words = map_ok (λ p. f p.0 p.1) (one_many_of first second words)
 
 -- a filter of all tags that clients know, whose pairs ask by this test
-abbrev pub filter : {A : Type 0} → Test → (Wanted → A) → Arguments A
+abbrev pub filter : {A : Type 0} → Test → (Criteria → A) → Arguments A
 filter test f words = map_ok f (filter_of Known test words)
 
 -- a filter, an order and a window
@@ -78,7 +78,7 @@ abbrev pub selection : {A : Type 0} → Bool → Test → (Selection → A) → 
 selection everyday test f words = map_ok f (selection_of everyday test words)
 
 -- the same, and where the songs go
-abbrev pub placed_selection : {A : Type 0} → Bool → Test → (Selection → Option Place → A) → Arguments A
+abbrev pub placed_selection : {A : Type 0} → Bool → Test → (Selection → Option Position → A) → Arguments A
 placed_selection everyday test f words = map_ok (λ p. f p.0 p.1) (placed_selection_of everyday test words)
 
 -- a name, and then a filter, an order and a window

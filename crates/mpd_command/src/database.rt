@@ -5,7 +5,7 @@ ghost use Rattle.mpd_command.specs.Tables.{found};
 ghost use Rattle.mpd_command.specs.Database.{rows, rows_from_listall, rows_from_rescan};
 
 use crate::command_set::CommandSet;
-use command_arguments::{Misread, Place, Uri, one, perhaps, two};
+use command_arguments::{Misread, Position, Uri, one, perhaps, two};
 use filters::Test;
 use mpd_text::Text;
 use selections::{
@@ -24,8 +24,8 @@ pub enum DatabaseCommand {
     /// the order of a tag, where one is named.
     Find(Selection),
     /// `findadd FILTER`: puts the songs that meet a filter at the end of the queue; in the everyday profile
-    /// those that `find` shows, at its end or at a place.
-    FindAdd(Selection, Option<Place>),
+    /// those that `find` shows, at its end or at a position.
+    FindAdd(Selection, Option<Position>),
     /// `list TAG [FILTER]`: the texts that a tag has among the songs that meet a filter, or among all; in the
     /// everyday profile `list TAG [FILTER] [group TAG]...`, for each text of other tags.
     List(Grouping),
@@ -46,7 +46,7 @@ pub enum DatabaseCommand {
     /// text.
     Search(Selection),
     /// `searchadd FILTER`: as `findadd`, where case does not count and a pair asks for a part of the text.
-    SearchAdd(Selection, Option<Place>),
+    SearchAdd(Selection, Option<Position>),
     /// `searchaddpl NAME FILTER`: puts the songs that `search` shows at the end of a stored playlist.
     SearchAddPl(Text, Selection),
     /// `update [URI]`: scans the library anew.
@@ -86,7 +86,7 @@ pub(crate) fn read(alloc: Global, set: CommandSet, word: &str, words: &[String])
         "albumart" => { let (uri, offset) = two(alloc, words)?; DatabaseCommand::AlbumArt(uri, offset) }
         "count" => DatabaseCommand::Count(counting(alloc, set.everyday, words)?),
         "find" => DatabaseCommand::Find(selection(alloc, set.everyday, words, Test::Equals)?),
-        "findadd" => { let (selection, place) = placed_selection(alloc, set.everyday, words, Test::Equals)?; DatabaseCommand::FindAdd(selection, place) }
+        "findadd" => { let (selection, position) = placed_selection(alloc, set.everyday, words, Test::Equals)?; DatabaseCommand::FindAdd(selection, position) }
         "list" => DatabaseCommand::List(grouping(alloc, set.everyday, words)?),
         _ => return read_from_listall(alloc, set, word, words),
     }))
@@ -117,7 +117,7 @@ fn read_from_rescan(alloc: Global, set: CommandSet, word: &str, words: &[String]
     Ok(Some(match word {
         "rescan" => DatabaseCommand::Rescan(perhaps(alloc, words)?),
         "search" => DatabaseCommand::Search(selection(alloc, set.everyday, words, Test::Contains)?),
-        "searchadd" => { let (selection, place) = placed_selection(alloc, set.everyday, words, Test::Contains)?; DatabaseCommand::SearchAdd(selection, place) }
+        "searchadd" => { let (selection, position) = placed_selection(alloc, set.everyday, words, Test::Contains)?; DatabaseCommand::SearchAdd(selection, position) }
         "searchaddpl" => { let (name, selection) = name_selection(alloc, words, Test::Contains)?; DatabaseCommand::SearchAddPl(name, selection) }
         "update" => DatabaseCommand::Update(perhaps(alloc, words)?),
         _ => return Ok(None),

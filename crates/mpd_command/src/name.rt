@@ -79,10 +79,10 @@ fn starts() -> &'static [usize]
     STARTS
 }
 
-/// The name of a command: its place among all names.
+/// The name of a command: its index among all names.
 #[derive(Clone, Copy, PartialEq, Eq)]
 pub struct Name {
-    place: usize,
+    index: usize,
 }
 
 impl Name {
@@ -93,8 +93,8 @@ impl Name {
     pub fn of_word(word: &str) -> Option<Name>
         ensures { result ≡ name_of word.now }
     {
-        match place_of(word) {
-            Some(place) => Some(Name { place }),
+        match index_of(word) {
+            Some(index) => Some(Name { index }),
             None => None,
         }
     }
@@ -103,7 +103,7 @@ impl Name {
     pub fn text(self) -> &'static str
         ensures { result.now ≡ text_of self }
     {
-        match names().get(self.place) {
+        match names().get(self.index) {
             Some(name) => *name,
             None => "",
         }
@@ -120,28 +120,28 @@ impl Name {
     fn is_added(self) -> bool
         ensures { result ≡ is_added_name (text_of self) }
     {
-        match added().get(self.place) {
+        match added().get(self.index) {
             Some(added) => *added,
             None => false,
         }
     }
 }
 
-/// The place of a word among all names. It is compared only with those that begin with its letter: each line
+/// The index of a word among all names. It is compared only with those that begin with its letter: each line
 /// of a client is looked up here.
-fn place_of(word: &str) -> Option<usize>
+fn index_of(word: &str) -> Option<usize>
     ensures { result ≡ position (λ name. bytes_eq name word.now) all_names }
 {
     let letter = letter_of(word);
     let start = start_of(letter);
     let texts = names().get(start..start_of(letter + 1))?;
-    match place_among(texts, word) {
-        Some(place) => Some(start + place),
+    match index_among(texts, word) {
+        Some(index) => Some(start + index),
         None => None,
     }
 }
 
-/// The letter that a word begins with, by its place from `a` on.
+/// The letter that a word begins with, by its index from `a` on.
 fn letter_of(word: &str) -> usize
     ensures { result ≡ letter_of_lem word.now }
 {
@@ -161,8 +161,8 @@ fn start_of(letter: usize) -> usize
     }
 }
 
-/// The place of a word among some texts.
-fn place_among(texts: &[&'static str], word: &str) -> Option<usize>
+/// The index of a word among some texts.
+fn index_among(texts: &[&'static str], word: &str) -> Option<usize>
     ensures { result ≡ position (λ text. bytes_eq text.now word.now) texts.now }
 {
     texts.iter().position(|text| *text == word)

@@ -16,13 +16,13 @@ pub enum PlaybackCommand {
     Next,
     /// `pause [0|1]`: pauses, or plays on; with no argument whichever it does not do now.
     Pause(Option<bool>),
-    /// `play [POS]`: plays the song at a place, or the current one.
+    /// `play [POS]`: plays the song at a position, or the current one.
     Play(Option<u32>),
     /// `playid [ID]`: plays the song with an id, or the current one.
     PlayId(Option<u32>),
     /// `previous`: plays the song that came before.
     Previous,
-    /// `seek POS TIME`: plays the song at a place from a time on.
+    /// `seek POS TIME`: plays the song at a position from a time on.
     Seek(u32, Millis),
     /// `seekcur [+|-]TIME`: plays the current song from a time on.
     SeekCur(Seeking),
@@ -55,7 +55,7 @@ fn read_from_seek(alloc: Global, word: &str, words: &[String]) -> Result<Option<
     ensures { Gives result (found rows_from_seek word.now (map string_bytes words.now)) }
 {
     Ok(Some(match word {
-        "seek" => { let (place, time) = two(alloc, words)?; PlaybackCommand::Seek(place, time) }
+        "seek" => { let (position, time) = two(alloc, words)?; PlaybackCommand::Seek(position, time) }
         "seekcur" => PlaybackCommand::SeekCur(one(alloc, words)?),
         "seekid" => { let (id, time) = two(alloc, words)?; PlaybackCommand::SeekId(id, time) }
         "stop" => none(words, PlaybackCommand::Stop)?,

@@ -2,10 +2,10 @@
 ghost use Rattle.std.specs.Prelude.{string_bytes, map};
 ghost use Rattle.command_arguments.specs.Readers.{Gives};
 ghost use Rattle.mpd_command.specs.Tables.{found};
-ghost use Rattle.mpd_command.specs.Playlists.{rows, rows_from_playlistadd, list_range_place_of};
+ghost use Rattle.mpd_command.specs.Playlists.{rows, rows_from_playlistadd, list_range_position_of};
 
 use crate::command_set::CommandSet;
-use command_arguments::{Misread, Place, Uri, none, one, one_perhaps, three, two};
+use command_arguments::{Misread, Position, Uri, none, one, one_perhaps, three, two};
 use mpd_text::{Range, Text};
 use std::alloc::Global;
 
@@ -18,15 +18,15 @@ pub enum PlaylistCommand {
     /// `listplaylists`: the names of the stored playlists.
     ListPlaylists,
     /// `load NAME [RANGE]`: puts the songs of a stored playlist, of a range or all, at the end of the
-    /// queue; in the everyday profile `load NAME [RANGE [POSITION]]`, at its end or at a place.
-    Load(Text, Option<Range>, Option<Place>),
+    /// queue; in the everyday profile `load NAME [RANGE [POSITION]]`, at its end or at a position.
+    Load(Text, Option<Range>, Option<Position>),
     /// `playlistadd NAME URI`: puts a song, or the songs under a folder, at the end of a stored playlist.
     PlaylistAdd(Text, Uri),
     /// `playlistclear NAME`: takes all songs out of a stored playlist.
     PlaylistClear(Text),
-    /// `playlistdelete NAME POS`: takes the song at a place out of a stored playlist.
+    /// `playlistdelete NAME POS`: takes the song at a position out of a stored playlist.
     PlaylistDelete(Text, u32),
-    /// `playlistmove NAME FROM TO`: moves the song of a stored playlist from a place, the first number, to
+    /// `playlistmove NAME FROM TO`: moves the song of a stored playlist from a position, the first number, to
     /// another.
     PlaylistMove(Text, u32, u32),
     /// `rename NAME NEW`: gives the stored playlist of the first name the second.
@@ -66,7 +66,7 @@ pub(crate) fn read(alloc: Global, set: CommandSet, word: &str, words: &[String])
         "listplaylist" => PlaylistCommand::ListPlaylist(one(alloc, words)?),
         "listplaylistinfo" => PlaylistCommand::ListPlaylistInfo(one(alloc, words)?),
         "listplaylists" => none(words, PlaylistCommand::ListPlaylists)?,
-        "load" => { let (list, range, place) = list_range_place(alloc, set.everyday, words)?; PlaylistCommand::Load(list, range, place) }
+        "load" => { let (list, range, position) = list_range_position(alloc, set.everyday, words)?; PlaylistCommand::Load(list, range, position) }
         _ => return read_from_playlistadd(alloc, word, words),
     }))
 }
@@ -80,7 +80,7 @@ fn read_from_playlistadd(alloc: Global, word: &str, words: &[String]) -> Result<
     Ok(Some(match word {
         "playlistadd" => { let (list, uri) = two(alloc, words)?; PlaylistCommand::PlaylistAdd(list, uri) }
         "playlistclear" => PlaylistCommand::PlaylistClear(one(alloc, words)?),
-        "playlistdelete" => { let (list, place) = two(alloc, words)?; PlaylistCommand::PlaylistDelete(list, place) }
+        "playlistdelete" => { let (list, position) = two(alloc, words)?; PlaylistCommand::PlaylistDelete(list, position) }
         "playlistmove" => { let (list, from, to) = three(alloc, words)?; PlaylistCommand::PlaylistMove(list, from, to) }
         "rename" => { let (list, new) = two(alloc, words)?; PlaylistCommand::Rename(list, new) }
         "rm" => PlaylistCommand::Rm(one(alloc, words)?),
@@ -89,17 +89,17 @@ fn read_from_playlistadd(alloc: Global, word: &str, words: &[String]) -> Result<
     }))
 }
 
-/// The name of a list, perhaps a range, and in the everyday profile perhaps a place after that.
-fn list_range_place(
+/// The name of a list, perhaps a range, and in the everyday profile perhaps a position after that.
+fn list_range_position(
     alloc: Global,
     everyday: bool,
     words: &[String],
-) -> Result<(Text, Option<Range>, Option<Place>), Misread>
-    ensures { Gives result (list_range_place_of everyday (map string_bytes words.now)) }
+) -> Result<(Text, Option<Range>, Option<Position>), Misread>
+    ensures { Gives result (list_range_position_of everyday (map string_bytes words.now)) }
 {
     if everyday && words.len() == 3 {
-        let (list, range, place) = three(alloc, words)?;
-        return Ok((list, Some(range), Some(place)));
+        let (list, range, position) = three(alloc, words)?;
+        return Ok((list, Some(range), Some(position)));
     }
     let (list, range) = one_perhaps(alloc, words)?;
     Ok((list, range, None))

@@ -2,11 +2,11 @@
 ghost use Rattle.std.specs.Prelude.{string_bytes, map};
 ghost use Rattle.command_arguments.specs.Readers.{Gives};
 ghost use Rattle.mpd_command.specs.Tables.{found};
-ghost use Rattle.mpd_command.specs.Queue.{rows, rows_from_playlist, rows_from_prio, uri_perhaps_place_of};
+ghost use Rattle.mpd_command.specs.Queue.{rows, rows_from_playlist, rows_from_prio, uri_perhaps_position_of};
 
 use crate::command_set::CommandSet;
 use command_arguments::{
-    Misread, Place, Uri, Wanted, filter, none, one, one_many, one_perhaps, perhaps, two,
+    Criteria, Misread, Position, Uri, filter, none, one, one_many, one_perhaps, perhaps, two,
 };
 use filters::{Test, Vocabulary};
 use mpd_text::{Range, Sequence};
@@ -15,34 +15,34 @@ use std::alloc::Global;
 /// A command of the queue.
 pub enum QueueCommand {
     /// `add URI`: puts a song of the library, or all songs under a folder, at the end of the queue; in the
-    /// everyday profile `add URI [POSITION]`, at its end or at a place.
-    Add(Uri, Option<Place>),
-    /// `addid URI [POSITION]`: puts a song into the queue, at its end or at a place, and tells its id.
-    AddId(Uri, Option<Place>),
+    /// everyday profile `add URI [POSITION]`, at its end or at a position.
+    Add(Uri, Option<Position>),
+    /// `addid URI [POSITION]`: puts a song into the queue, at its end or at a position, and tells its id.
+    AddId(Uri, Option<Position>),
     /// `clear`: takes all songs out of the queue.
     Clear,
     /// `delete RANGE`: takes the songs of a range out of the queue.
     Delete(Range),
     /// `deleteid ID`: takes the song with an id out of the queue.
     DeleteId(u32),
-    /// `move RANGE TO`: moves the songs of a range, so that the first of them is at a place.
+    /// `move RANGE TO`: moves the songs of a range, so that the first of them is at a position.
     Move(Range, u32),
-    /// `moveid ID TO`: moves the song with an id to a place.
+    /// `moveid ID TO`: moves the song with an id to a position.
     MoveId(u32, u32),
-    /// `playlist`: the place and the URI of each song of the queue.
+    /// `playlist`: the position and the URI of each song of the queue.
     Playlist,
     /// `playlistfind FILTER`: the songs of the queue that meet a filter.
-    PlaylistFind(Wanted),
+    PlaylistFind(Criteria),
     /// `playlistid [ID]`: the song with an id, or all songs of the queue.
     PlaylistId(Option<u32>),
     /// `playlistinfo [RANGE]`: the songs of a range, or all songs of the queue.
     PlaylistInfo(Option<Range>),
     /// `playlistsearch FILTER`: as `playlistfind`, where case does not count and a pair asks for a part of
     /// the text.
-    PlaylistSearch(Wanted),
-    /// `plchanges V [RANGE]`: the songs at the places that changed since a version, of a range or all.
+    PlaylistSearch(Criteria),
+    /// `plchanges V [RANGE]`: the songs at the positions that changed since a version, of a range or all.
     PlChanges(u32, Option<Range>),
-    /// `plchangesposid V [RANGE]`: the places that changed since a version, with their ids, of a range or
+    /// `plchangesposid V [RANGE]`: the positions that changed since a version, with their ids, of a range or
     /// all.
     PlChangesPosId(u32, Option<Range>),
     /// `prio N RANGE...`: gives the songs of ranges a priority.
@@ -51,7 +51,7 @@ pub enum QueueCommand {
     PrioId(u8, Sequence<u32>),
     /// `shuffle [RANGE]`: puts the songs of a range, or all, into a random order.
     Shuffle(Option<Range>),
-    /// `swap POS POS`: the songs at two places change round.
+    /// `swap POS POS`: the songs at two positions change round.
     Swap(u32, u32),
     /// `swapid ID ID`: the songs with two ids change round.
     SwapId(u32, u32),
@@ -91,8 +91,8 @@ pub(crate) fn read(alloc: Global, set: CommandSet, word: &str, words: &[String])
     ensures { Gives result (found (rows set) word.now (map string_bytes words.now)) }
 {
     Ok(Some(match word {
-        "add" => { let (uri, place) = uri_perhaps_place(alloc, set.everyday, words)?; QueueCommand::Add(uri, place) }
-        "addid" => { let (uri, place) = one_perhaps(alloc, words)?; QueueCommand::AddId(uri, place) }
+        "add" => { let (uri, position) = uri_perhaps_position(alloc, set.everyday, words)?; QueueCommand::Add(uri, position) }
+        "addid" => { let (uri, position) = one_perhaps(alloc, words)?; QueueCommand::AddId(uri, position) }
         "clear" => none(words, QueueCommand::Clear)?,
         "delete" => QueueCommand::Delete(one(alloc, words)?),
         "deleteid" => QueueCommand::DeleteId(one(alloc, words)?),
@@ -136,13 +136,13 @@ fn read_from_prio(alloc: Global, word: &str, words: &[String]) -> Result<Option<
     }))
 }
 
-/// A URI, and in the everyday profile perhaps a place.
-fn uri_perhaps_place(
+/// A URI, and in the everyday profile perhaps a position.
+fn uri_perhaps_position(
     alloc: Global,
     everyday: bool,
     words: &[String],
-) -> Result<(Uri, Option<Place>), Misread>
-    ensures { Gives result (uri_perhaps_place_of everyday (map string_bytes words.now)) }
+) -> Result<(Uri, Option<Position>), Misread>
+    ensures { Gives result (uri_perhaps_position_of everyday (map string_bytes words.now)) }
 {
     if everyday {
         return one_perhaps(alloc, words);

@@ -181,7 +181,7 @@ impl Server {
         stream: TcpStream,
         commands: CommandSet,
     ) {
-        let Some(number) = self.rounds.free_place() else {
+        let Some(number) = self.rounds.free_slot() else {
             return;
         };
         let registry = self.poll.registry();

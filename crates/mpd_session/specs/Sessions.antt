@@ -81,8 +81,8 @@ abbrev pub session_of : Conversation → SessionData
 session_of c = record { asker = c.asker; held = held_of c; owes = not (is_nothing c.owed); waits = c.waits }
 
 -- a session whose client is told for how many seconds the daemon has been running
-abbrev pub told_uptime : SessionData → Option ℕ → SessionData
-told_uptime s uptime = record s { asker = at_uptime s.asker uptime }
+abbrev pub with_uptime : SessionData → Option ℕ → SessionData
+with_uptime s uptime = record s { asker = at_uptime s.asker uptime }
 
 -- whether bytes are not written, or are owed
 abbrev pub has_unsent : SessionData → Bool

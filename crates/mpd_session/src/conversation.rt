@@ -116,7 +116,7 @@ impl Conversation {
         ensures reader { EndsByReader self.new.ended (I.call_counts reader.old) (I.call_counts reader.new) }
         ensures sound { StaysSound self.new.ended (O.call_counts writer.old) (O.call_counts writer.new) }
     {
-        self.settle()?;
+        self.flush()?;
         self.tell(rt, house)?;
         self.take_in(reader)?;
         if self.ended.is_some() {
@@ -162,7 +162,7 @@ impl Conversation {
     }
 
     /// Puts what is owed after the unsent bytes.
-    pub(crate) fn settle(&mut self) -> Result<(), AllocError>
+    pub(crate) fn flush(&mut self) -> Result<(), AllocError>
         ensures frame { self.new ≡ record self.old { unsent = self.new.unsent; owed = self.new.owed } }
         ensures held { held_of self.new ≡ held_of self.old }
         ensures owes { OnErr result (is_nothing self.new.owed ≡ false) }
@@ -187,7 +187,7 @@ impl Conversation {
         let notice = house.outbox(rt, self.asker.client);
         self.waits = notice.is_none();
         self.owed = Owed::of_notice(notice);
-        self.settle()
+        self.flush()
     }
 
     /// Splits what was read into lines.
@@ -291,7 +291,7 @@ impl Conversation {
         wait_on(&mut self.waits, &owed);
         self.ended = end_by(owed.next());
         self.owed = owed;
-        self.settle()
+        self.flush()
     }
 
     /// Writes until the writer would block, but not where that was given up.

@@ -44,7 +44,7 @@ impl Session {
     ghost use Rattle.mpd_session.specs.Sessions.{Blames, EndsByItsReader, GoesOnUnlessShort, HasRunAll};
     ghost use Rattle.mpd_session.specs.Sessions.{IsWithinLimits, ReadsNoMore, StaysIfClosed, Turns};
     ghost use Rattle.mpd_session.specs.Sessions.{WritesAllIfClosed, new_session, side};
-    ghost use Rattle.mpd_session.specs.Sessions.{has_unsent as has_unsent_lem, may_wait as may_wait_lem, told_uptime};
+    ghost use Rattle.mpd_session.specs.Sessions.{has_unsent as has_unsent_lem, may_wait as may_wait_lem, with_uptime};
 
     /// The session of a client that the player let in, and what it was greeted with. Nothing was read, and
     /// the greeting is not written yet.
@@ -91,7 +91,7 @@ impl Session {
     /// Takes down for how many seconds the daemon has been running, where that is known: `stats` shows it from
     /// now on.
     pub fn set_uptime(&mut self, uptime: Option<u32>)
-        ensures { self.new ≡ told_uptime self.old uptime }
+        ensures { self.new ≡ with_uptime self.old uptime }
     {
         self.conversation.asker.commands.uptime = uptime;
     }
@@ -128,7 +128,7 @@ impl Session {
         ensures tells { TellsEnd self.old.held.ended self.new.held.ended result }
         ensures goes { result ≡ Ok None → HasRunAll self.new.held }
         ensures within { result ≡ Ok None → IsWithinLimits self.new.held }
-        ensures settled { result ≡ Ok None → self.new.owes ≡ false }
+        ensures flushed { result ≡ Ok None → self.new.owes ≡ false }
         ensures lasts { GoesOnUnlessShort I.call_counts result self.new reader.old reader.new }
         ensures blamed { self.old.held.ended ≡ None → Blames self.new.held.ended
             (I.call_counts reader.old) (I.call_counts reader.new)
@@ -139,7 +139,7 @@ impl Session {
         ensures writes { WritesAllIfClosed O.call_counts self.old self.new writer.old writer.new }
     {
         if let Some(end) = self.conversation.ended {
-            let _settled = self.conversation.settle();
+            let _flushed = self.conversation.flush();
             self.conversation.send(writer);
             return Ok(Some(end));
         }

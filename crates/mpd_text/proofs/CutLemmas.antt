@@ -76,7 +76,7 @@ pub split_start : (start : List ℕ) → IsStart start → split start ≡ recor
 unfolding split
 split_start start is = let e : fits start ≡ true = grind (arith, nat_tests) in rw (cut_start start is.0, e) refl
 
--- how a stream splits by the place of its first newline, or its end, after what has come of a line
+-- how a stream splits by the offset of its first newline, or its end, after what has come of a line
 
 parts : (xs : List ℕ) (i : ℕ) → i < length xs → get_or xs i 0 ≡ 10 → xs ≡ take i xs ++ 10 ∷ drop (i + 1) xs
 parts xs i l e = sym (take-append-drop i xs) ∙ ap (λ (ys : List ℕ). take i xs ++ ys) (drop_more xs i 0 l ∙ ap (λ (b : ℕ). b ∷ drop (i + 1) xs) e)
@@ -110,20 +110,20 @@ none_further bytes start i after_start l other none =
     let left = length-drop start bytes in
     let inside : i - start < length (drop start bytes) = omega arith in
     let step : i + 1 - start ≡ (i - start) + 1 = omega arith in
-    let place : start + (i - start) ≡ i = omega arith in
-    let at : get_or (drop start bytes) (i - start) 0 ≡ get_or bytes i 0 = get_or-drop start bytes (i - start) 0 ∙ ap (λ (k : ℕ). get_or bytes k 0) place in
+    let offset : start + (i - start) ≡ i = omega arith in
+    let at : get_or (drop start bytes) (i - start) 0 ≡ get_or bytes i 0 = get_or-drop start bytes (i - start) 0 ∙ ap (λ (k : ℕ). get_or bytes k 0) offset in
     let b : get_or (drop start bytes) (i - start) 0 ≢ 10 = λ e. other (sym at ∙ e) in
     rw step (rw (take_more (drop start bytes) (i - start) 0 inside) (none_append (take (i - start) (drop start bytes)) (get_or (drop start bytes) (i - start) 0 ∷ []) none (none_one (get_or (drop start bytes) (i - start) 0) b)))
 
--- the same from a place of a stream on
+-- the same from an offset of a stream on
 
 pub stream_line : (stream : List ℕ) (start end : ℕ) → start ≤ end → end < length stream → HasNoNewline (take (end - start) (drop start stream)) → end - start ≤ 16384 → get_or stream end 0 ≡ 10
     → split (drop start stream) ≡ record { lines = take (end - start) (drop start stream) ∷ (split (drop (end + 1) stream)).lines; next = (split (drop (end + 1) stream)).next }
 stream_line stream start end after_start l none short e =
     let left = length-drop start stream in
     let inside : end - start < length (drop start stream) = omega arith in
-    let place : start + (end - start) ≡ end = omega arith in
-    let at : get_or (drop start stream) (end - start) 0 ≡ 10 = get_or-drop start stream (end - start) 0 ∙ ap (λ (k : ℕ). get_or stream k 0) place ∙ e in
+    let offset : start + (end - start) ≡ end = omega arith in
+    let at : get_or (drop start stream) (end - start) 0 ≡ 10 = get_or-drop start stream (end - start) 0 ∙ ap (λ (k : ℕ). get_or stream k 0) offset ∙ e in
     let same : drop (end - start + 1) (drop start stream) ≡ drop (end + 1) stream = drop-drop (end - start + 1) start stream ∙ ap (λ (k : ℕ). drop k stream) (omega arith) in
     let fits : 0 + (end - start) ≤ 16384 = omega arith in
     line_ends [] (drop start stream) (end - start) none_nil none fits inside at ∙ rw same refl

@@ -15,7 +15,7 @@ Reads : ℕ → List ℕ → Result (List (List ℕ)) WordsFault → Type 0
 Reads count line (Ok words) = Spells line words × (count + length words ≤ 65)
 Reads count line (Err fault) = IsFaulty count line fault
 
--- the text of the present word, up to a place in it
+-- the text of the present word, up to an offset in it
 At : QuotingState → ℕ → List ℕ → List ℕ → Type 0
 At Between count word front = AreBlanks front × (word ≡ []) × (count ≤ 65)
 At Bare count word front = (front ≡ word) × (0 < length word) × AreBare word × (count < 65)
@@ -124,11 +124,11 @@ scan_reads (b ∷ rest) Closed count word front at = elim (either (is_blank b)) 
   | inr e ↦ rw e (wrong_read count (front ++ b ∷ rest) NoSpaceAfterQuote (at.1, front, word, b, rest, refl, at.0, e))
 ]
 
-told : (line : List ℕ) (r : Result (List (List ℕ)) WordsFault) → Reads 0 line r → MatchResult r (λ words. Spells line words × (length words ≤ 65)) (λ fault. IsFaulty 0 line fault)
+from_reads : (line : List ℕ) (r : Result (List (List ℕ)) WordsFault) → Reads 0 line r → MatchResult r (λ words. Spells line words × (length words ≤ 65)) (λ fault. IsFaulty 0 line fault)
 unfolding Reads
-told line (Ok words) h = (h.0, omega (arith, h.1))
-told line (Err fault) h = h
+from_reads line (Ok words) h = (h.0, omega (arith, h.1))
+from_reads line (Err fault) h = h
 
 pub is_read : (line : List ℕ) → MatchResult (words_of line) (λ words. Spells line words × (length words ≤ 65)) (λ fault. IsFaulty 0 line fault)
 unfolding At
-is_read line = told line (words_of line) (scan_reads line Between 0 [] [] (tt, refl, omega arith))
+is_read line = from_reads line (words_of line) (scan_reads line Between 0 [] [] (tt, refl, omega arith))

@@ -2,8 +2,8 @@
 use Rattle.std.proofs.Common.{◌≡◌, ℕ, Bool, true, false, List, [], ◌∷◌, Option, Some, None, refl, ap, ◌∙◌, if◌then◌else◌}
 use Rattle.filters.specs.declared.matching.Case.{Case}
 use Rattle.filters.specs.declared.matching.Case.TheVariants.{Heeded, Ignored}
-use Rattle.command_arguments.specs.declared.wanted.Wanted.{Wanted}
-use Rattle.command_arguments.specs.declared.wanted.Wanted.TheVariants.{Meeting, Refused}
+use Rattle.command_arguments.specs.declared.criteria.Criteria.{Criteria}
+use Rattle.command_arguments.specs.declared.criteria.Criteria.TheVariants.{Meeting, Refused}
 use Rattle.known_tags.specs.declared.known_tag.KnownTag.{KnownTag}
 use Rattle.selections.specs.declared.asked.Selection.{Selection}
 use Rattle.idle_notes.specs.declared.subsystem.Subsystem.TheVariants.{Database}
@@ -23,9 +23,9 @@ use Rattle.mpd_command.specs.declared.sticker.Comparison.{Comparison}
 use Rattle.mpd_command.specs.declared.sticker.StickerCommand.{StickerCommand}
 use Rattle.mpd_command.specs.declared.sticker.StickerCommand.TheVariants as stickers
 use Rattle.mpd_command.specs.declared.sticker.Target.TheVariants as target
-use Rattle.library_commands.specs.Database.{count_met, find_met, list_all, list_info, list_met, list_place, list_root, list_song_or_folder, list_song_or_folder_info, list_texts, show_song_or_folder, shows_playlists, uri_or_all, result_of as database_result}
+use Rattle.library_commands.specs.Database.{count_met, find_met, list_all, list_info, list_met, list_path, list_root, list_song_or_folder, list_song_or_folder_info, list_texts, show_song_or_folder, shows_playlists, uri_or_all, result_of as database_result}
 use Rattle.library_commands.specs.Playlists.{result_of as playlists_result}
-use Rattle.library_commands.specs.Stickers.{is_place, named_sticker, show_found, result_of as stickers_result}
+use Rattle.library_commands.specs.Stickers.{is_song_or_folder, named_sticker, show_found, result_of as stickers_result}
 use Rattle.transitions.specs.CommandResults.{no_such_song}
 use Rattle.transitions.specs.Transitions.{CommandResult}
 use Rattle.notice_laws.specs.Passages.{HearsOfNone, IsUntold, Passage, Stays, library_of}
@@ -38,16 +38,16 @@ module _ (asked : Asked) (l : Library) (scan : ScanMove) where
   abbrev m : Library
   m = record (library_after l scan) { songs = l.songs }
 
-  same_count : (group : Option KnownTag) (w : Option Wanted) → count_met asked l group w ≡ count_met asked m group w
+  same_count : (group : Option KnownTag) (w : Option Criteria) → count_met asked l group w ≡ count_met asked m group w
   same_count group None = refl
   same_count group (Some (Meeting e)) = refl
   same_count group (Some (Refused text)) = refl
 
-  same_find : (case : Case) (selection : Selection) (w : Wanted) → find_met asked l case selection w ≡ find_met asked m case selection w
+  same_find : (case : Case) (selection : Selection) (w : Criteria) → find_met asked l case selection w ≡ find_met asked m case selection w
   same_find case selection (Meeting e) = refl
   same_find case selection (Refused text) = refl
 
-  same_list : (tags : List KnownTag) (w : Option Wanted) → list_met asked l tags w ≡ list_met asked m tags w
+  same_list : (tags : List KnownTag) (w : Option Criteria) → list_met asked l tags w ≡ list_met asked m tags w
   unfolding list_texts
   same_list tags None = refl
   same_list tags (Some (Meeting e)) = refl
@@ -65,9 +65,9 @@ module _ (asked : Asked) (l : Library) (scan : ScanMove) where
   same_all_info None uri = refl
   same_all_info (Some song) uri = refl
 
-  same_place : (o : Option SongData) (uri : List ℕ) → show_song_or_folder asked l o uri ≡ show_song_or_folder asked m o uri
-  same_place None uri = refl
-  same_place (Some song) uri = refl
+  same_song_or_folder : (o : Option SongData) (uri : List ℕ) → show_song_or_folder asked l o uri ≡ show_song_or_folder asked m o uri
+  same_song_or_folder None uri = refl
+  same_song_or_folder (Some song) uri = refl
 
   same_root : (read : Read) → list_root asked l read ≡ list_root asked m read
   same_root (answer.Names names) = refl
@@ -76,22 +76,22 @@ module _ (asked : Asked) (l : Library) (scan : ScanMove) where
 
   same_info : (read : Read) (uri : List ℕ) (everyday : Bool) → list_info asked l read uri everyday ≡ list_info asked m read uri everyday
   same_info read uri everyday =
-      elim (shows_playlists uri everyday) as (λ b. (if b then list_root asked l read else list_place asked l uri) ≡ (if b then list_root asked m read else list_place asked m uri))
-      [ true ↦ same_root read | false ↦ same_place (song_of l.songs uri) uri ]
+      elim (shows_playlists uri everyday) as (λ b. (if b then list_root asked l read else list_path asked l uri) ≡ (if b then list_root asked m read else list_path asked m uri))
+      [ true ↦ same_root read | false ↦ same_song_or_folder (song_of l.songs uri) uri ]
 
   same_database : (p : Passage) (a b : Part) (read : Read) (it : DatabaseCommand) → IsUntold p (database_tellers it)
       → database_result asked a l read it ≡ database_result asked b m read it
   unfolding database_result
   same_database p a b read (database.AlbumArt uri offset) h = refl
-  same_database p a b read (database.Count counting) h = same_count counting.group counting.wanted
-  same_database p a b read (database.Find selection) h = same_find Heeded selection selection.wanted
-  same_database p a b read (database.List grouping) h = same_list grouping.tags grouping.wanted
+  same_database p a b read (database.Count counting) h = same_count counting.group counting.criteria
+  same_database p a b read (database.Find selection) h = same_find Heeded selection selection.criteria
+  same_database p a b read (database.List grouping) h = same_list grouping.tags grouping.criteria
   same_database p a b read (database.ListAll uri everyday) h = same_all (uri_or_all uri) everyday
   same_database p a b read (database.ListAllInfo uri) h = same_all_info (song_of l.songs (uri_or_all uri)) (uri_or_all uri)
   same_database p a b read (database.LsInfo uri everyday) h = same_info read (uri_or_all uri) everyday
   same_database p a b read (database.ReadComments uri) h = refl
   same_database p a b read (database.ReadPicture uri offset) h = refl
-  same_database p a b read (database.Search selection) h = same_find Ignored selection selection.wanted
+  same_database p a b read (database.Search selection) h = same_find Ignored selection selection.criteria
   same_database p a b read _ h = absurd h
 
   same_met : (read : Read) (uri name : List ℕ) (test : Option Comparison) → show_found asked l read uri name test ≡ show_found asked m read uri name test
@@ -105,7 +105,7 @@ module _ (asked : Asked) (l : Library) (scan : ScanMove) where
   same_stickers p read (stickers.List (target.Song uri)) h = refl
   same_stickers p read (stickers.List (target.Playlist list)) h = refl
   same_stickers p read (stickers.Find (target.Song uri) name test) h =
-      ap (λ (r : CommandResult). if is_place l uri.0 then named_sticker asked name r else no_such_song asked) (same_met read uri.0 name test)
+      ap (λ (r : CommandResult). if is_song_or_folder l uri.0 then named_sticker asked name r else no_such_song asked) (same_met read uri.0 name test)
   same_stickers p read (stickers.Find (target.Playlist list) name test) h = refl
   same_stickers p read _ h = absurd h
 

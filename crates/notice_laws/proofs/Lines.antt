@@ -55,9 +55,9 @@ status-is everyday part library =
     let r4 : List ℕ = status.progress_lines rate part everyday ++ status.last_lines part library in
     let r2 : List ℕ = status.current_lines part.queue part.player.current ++ (status.next_lines_of part ++ r4) in
     let r1 : List ℕ = status.queue_lines_of part ++ r2 in
-    let e5 = progress-lines (is_stopped part.player.playback) (status.current_time rate part everyday) (status.elapsed_line rate part.player.place)
+    let e5 = progress-lines (is_stopped part.player.playback) (status.current_time rate part everyday) (status.elapsed_line rate part.player.offset)
     (status.current_duration rate part) (status.audio_line rate) (status.last_lines part library) in
-    let e4 = e5 ∙ ap (λ l. while_going part.player.playback (status.current_time rate part everyday) ++ (while_going part.player.playback (status.elapsed_line rate part.player.place)
+    let e4 = e5 ∙ ap (λ l. while_going part.player.playback (status.current_time rate part everyday) ++ (while_going part.player.playback (status.elapsed_line rate part.player.offset)
     ++ (while_going part.player.playback (status.current_duration rate part) ++ (while_going part.player.playback (status.audio_line rate)
     ++ (status.fade_line part.player.crossfade ++ (status.scan_line (running library.scan) ++ l)))))) (sym (append-nil error)) in
     let e2 = ap (λ l. status.current_lines part.queue part.player.current ++ (status.next_lines_of part ++ l)) e4 in

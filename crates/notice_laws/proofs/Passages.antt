@@ -4,7 +4,7 @@ use Rattle.std.specs.Prelude.{option_map}
 use Rattle.std.proofs.lemmas.Bool.{eq-eqb, eqb-true}
 use Rattle.song_queue.specs.State.{QueueState}
 use Rattle.player_core.specs.declared.state.Job.{Job}
-use Rattle.player_state.specs.Effects.{ByStep, Change, asked_for, change_of, outputs_after, part_after, queue_after, wanted}
+use Rattle.player_state.specs.Effects.{ByStep, Change, asked_for, change_of, outputs_after, part_after, queue_after, due_job}
 use Rattle.player_state.specs.Outputs.{OutputsData, brought, is_output, released, turned}
 use Rattle.player_state.specs.declared.effect.AudioStep.TheVariants.{Settles, Wants}
 use Rattle.player_state.specs.declared.effect.CommandEffect.TheVariants.{Switches}
@@ -39,14 +39,14 @@ names_moved output false c outputs = elim (is_output outputs output) as (λ b. (
 
 moved_as : (output to : ℕ) (c : Option Carried) (p : Part) → IsAs p (moved_output output to c p)
 moved_as output to None p = as_it_is p
-moved_as output to (Some c) p = record { name = refl; outputs = names_moved output (p.place == to) c p.outputs; queue = refl }
+moved_as output to (Some c) p = record { name = refl; outputs = names_moved output (p.index == to) c p.outputs; queue = refl }
 
-crossed : (place : ℕ) (c : Crossing) (fs : List Known) (p later : Part) → own_moved place c fs (Some p) ≡ Some later → IsAs p later
-crossed place crossing.Stays fs p later e = only p later e
-crossed place (crossing.Opens new) fs p later e = only p later e
-crossed place (crossing.Closes gone) fs p later e =
-    elim (gone == place) as (λ b. (if b then None else Some p) ≡ Some later → IsAs p later) [ true ↦ λ f. cc | false ↦ λ f. only p later f ] e
-crossed place (crossing.Brings output to) fs p later e =
+crossed : (index : ℕ) (c : Crossing) (fs : List Known) (p later : Part) → own_moved index c fs (Some p) ≡ Some later → IsAs p later
+crossed index crossing.Stays fs p later e = only p later e
+crossed index (crossing.Opens new) fs p later e = only p later e
+crossed index (crossing.Closes gone) fs p later e =
+    elim (gone == index) as (λ b. (if b then None else Some p) ≡ Some later → IsAs p later) [ true ↦ λ f. cc | false ↦ λ f. only p later f ] e
+crossed index (crossing.Brings output to) fs p later e =
     let c : Option Carried = carried_in output to fs in
     let same : moved_output output to c p ≡ later = cc in
     subst (λ (x : Part). IsAs p x) same (moved_as output to c p)
@@ -61,13 +61,13 @@ names_turned output false outputs = refl
 
 names_after : (rate : ℕ) (p : Part) (effect : Effect) → (outputs_after rate p effect).names ≡ p.outputs.names
 names_after rate p (ByCommand (Switches output on)) = refl
-names_after rate p (ByAudio (Wants owes)) = names_asked (wanted rate p owes).job p.outputs
+names_after rate p (ByAudio (Wants owes)) = names_asked (due_job rate p owes).job p.outputs
 names_after rate p (ByAudio (Settles output written discarded failed)) = names_turned output failed p.outputs
 names_after rate p _ = refl
 
-module _ (rate place : ℕ) (effect : Effect) (c : Crossing) (parts : List Part) (own later : Part) where
+module _ (rate index : ℕ) (effect : Effect) (c : Crossing) (parts : List Part) (own later : Part) where
   abbrev after : List Part
-  after = changed rate place effect parts
+  after = changed rate index effect parts
 
   abbrev change : Bool → Change
   change here = if here then change_of rate own effect else ByStep None
@@ -75,30 +75,30 @@ module _ (rate place : ℕ) (effect : Effect) (c : Crossing) (parts : List Part)
   abbrev IsLeft : Bool → Type 0
   IsLeft here = IsAlike own (queue_after own.queue (change here)) later
 
-  left_here : part_at place parts ≡ Some own → part_at place (parts_moved c after) ≡ Some later → IsLeft true
+  left_here : part_at index parts ≡ Some own → part_at index (parts_moved c after) ≡ Some later → IsLeft true
   left_here e f =
-      let there : part_at place after ≡ Some (part_after rate own effect) = own_changed place rate effect parts ∙ ap (option_map (λ (p : Part). part_after rate p effect)) e in
-      let by = crossed place c (map known after) (part_after rate own effect) later (sym (part_moved place c after ∙ ap (own_moved place c (map known after)) there) ∙ f) in
+      let there : part_at index after ≡ Some (part_after rate own effect) = own_changed index rate effect parts ∙ ap (option_map (λ (p : Part). part_after rate p effect)) e in
+      let by = crossed index c (map known after) (part_after rate own effect) later (sym (part_moved index c after ∙ ap (own_moved index c (map known after)) there) ∙ f) in
       record { name = by.name; outputs = by.outputs ∙ names_after rate own effect; queue = by.queue }
 
-  left_elsewhere : (at : ℕ) → place ≢ at → part_at at parts ≡ Some own → part_at at (parts_moved c after) ≡ Some later → IsLeft false
+  left_elsewhere : (at : ℕ) → index ≢ at → part_at at parts ≡ Some own → part_at at (parts_moved c after) ≡ Some later → IsLeft false
   left_elsewhere at apart e f =
-      let there : part_at at after ≡ Some own = other_changed at rate place effect parts apart ∙ e in
+      let there : part_at at after ≡ Some own = other_changed at rate index effect parts apart ∙ e in
       let by = crossed at c (map known after) own later (sym (part_moved at c after ∙ ap (own_moved at c (map known after)) there) ∙ f) in
       record { name = by.name; outputs = by.outputs; queue = by.queue }
 
-  pub left : (at : ℕ) → part_at at parts ≡ Some own → part_at at (parts_moved c after) ≡ Some later → IsLeft (at == place)
+  pub left : (at : ℕ) → part_at at parts ≡ Some own → part_at at (parts_moved c after) ≡ Some later → IsLeft (at == index)
   left at e f =
-      let cases : (b : Bool) → (at == place) ≡ b → IsLeft b =
-      λ b. elim b as (λ b. (at == place) ≡ b → IsLeft b) [
+      let cases : (b : Bool) → (at == index) ≡ b → IsLeft b =
+      λ b. elim b as (λ b. (at == index) ≡ b → IsLeft b) [
         | true ↦ λ t.
-            let same : at ≡ place = eqb-true at place t in
+            let same : at ≡ index = eqb-true at index t in
             left_here (ap (λ n. part_at n parts) (sym same) ∙ e) (ap (λ n. part_at n (parts_moved c after)) (sym same) ∙ f)
-        | false ↦ λ t. left_elsewhere at (λ same. (let clash : true ≡ false = sym (eq-eqb at place (sym same)) ∙ t in cc)) e f
+        | false ↦ λ t. left_elsewhere at (λ same. (let clash : true ≡ false = sym (eq-eqb at index (sym same)) ∙ t in cc)) e f
       ] in
-      cases (at == place) refl
+      cases (at == index) refl
 
 pub events_are_passages : EventsArePassages
-events_are_passages client place t parts library own later e f =
-    let by = left library.rate place t.effect t.crossing parts own later client.place e f in
+events_are_passages client index t parts library own later e f =
+    let by = left library.rate index t.effect t.crossing parts own later client.index e f in
     record { own = e; later = f; name = by.name; outputs = by.outputs; queue = by.queue }

@@ -34,11 +34,11 @@ not_begun : (a b : Bool) → (not a && b) ≡ false → a ≡ false → b ≡ fa
 not_begun true b e f = cc
 not_begun false b e f = e
 
-watched_part : (place : ℕ) (ps : List Part) → watched_at place (map watched_of ps) ≡ option_map watched_of (part_at place ps)
-watched_part place [] = refl
-watched_part place (p ∷ ps) =
-    elim (p.place == place) as (λ b. (if b then Some (watched_of p) else watched_at place (map watched_of ps)) ≡ option_map watched_of (if b then Some p else part_at place ps))
-    [ true ↦ refl | false ↦ watched_part place ps ]
+watched_part : (index : ℕ) (ps : List Part) → watched_at index (map watched_of ps) ≡ option_map watched_of (part_at index ps)
+watched_part index [] = refl
+watched_part index (p ∷ ps) =
+    elim (p.index == index) as (λ b. (if b then Some (watched_of p) else watched_at index (map watched_of ps)) ≡ option_map watched_of (if b then Some p else part_at index ps))
+    [ true ↦ refl | false ↦ watched_part index ps ]
 
 -- an edit that leaves the same entries leaves the slots, and the version
 pub record IsKept (q r : QueueState) : Type 0 where
@@ -99,9 +99,9 @@ module _ (p : Passage) (stays : Stays p) where
 
   heard_is : heard p ≡ within
   heard_is =
-      let place : ℕ = p.client.place in
-      let first : watched_at place (map watched_of p.before) ≡ Some (watched_of p.own) = watched_part place p.before ∙ ap (option_map watched_of) stays.own in
-      let second : watched_at place (map watched_of p.after) ≡ Some (watched_of p.later) = watched_part place p.after ∙ ap (option_map watched_of) stays.later in
+      let index : ℕ = p.client.index in
+      let first : watched_at index (map watched_of p.before) ≡ Some (watched_of p.own) = watched_part index p.before ∙ ap (option_map watched_of) stays.own in
+      let second : watched_at index (map watched_of p.after) ≡ Some (watched_of p.later) = watched_part index p.after ∙ ap (option_map watched_of) stays.later in
       λ i. raised_between p.client.number (first i) (second i) common
 
   quiet : (one : Subsystem) → has (heard p) one ≡ false → has within one ≡ false

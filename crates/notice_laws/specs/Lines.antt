@@ -51,7 +51,7 @@ status_lines everyday part library =
     ∷ told_by (Player ∷ Playlist ∷ []) (current_lines part.queue part.player.current)
     ∷ untold (next_lines_of part)
     ∷ untold (while_going part.player.playback (current_time library.rate part everyday))
-    ∷ untold (while_going part.player.playback (elapsed_line library.rate part.player.place))
+    ∷ untold (while_going part.player.playback (elapsed_line library.rate part.player.offset))
     ∷ told_by (Player ∷ Playlist ∷ []) (while_going part.player.playback (current_duration library.rate part))
     ∷ told_by (Player ∷ []) (while_going part.player.playback (audio_line library.rate))
     ∷ told_by (Options ∷ []) (fade_line part.player.crossfade)

@@ -35,33 +35,33 @@ library_of p = library_after p.library p.scan
 -- The client's partition is there at both moments. Its name and the names of all outputs never change, and its
 -- queue by one edit or step, or not at all. All else of it may be anything at both
 pub record Stays (p : Passage) : Type 0 where
-  pub own : part_at p.client.place p.before ≡ Some p.own
-  pub later : part_at p.client.place p.after ≡ Some p.later
+  pub own : part_at p.client.index p.before ≡ Some p.own
+  pub later : part_at p.client.index p.after ≡ Some p.later
   pub name : p.later.name ≡ p.own.name
   pub outputs : p.later.outputs.names ≡ p.own.outputs.names
   pub queue : p.later.queue ≡ queue_after p.own.queue p.change
 
 -- an event of the partition of a number, for a client that is in this partition before it and after it
 abbrev pub passage_of : Client → ℕ → TransitionData → List Part → Library → Part → Part → Passage
-passage_of client place t parts library own later = record {
+passage_of client index t parts library own later = record {
   client = client;
   before = parts;
-  after = parts_after library.rate place t parts;
+  after = parts_after library.rate index t parts;
   own = own;
   later = later;
   library = library;
   scan = t.scan;
-  change = if client.place == place then change_of library.rate own t.effect else ByStep None;
+  change = if client.index == index then change_of library.rate own t.effect else ByStep None;
   written = t.written;
 }
 
 -- so is each event for each client that it leaves where it is, also an event of another partition
 abbrev pub EventsArePassages : Type 0
 EventsArePassages =
-    (client : Client) (place : ℕ) (t : TransitionData) (parts : List Part) (library : Library) (own later : Part)
-    → part_at client.place parts ≡ Some own
-    → part_at client.place (parts_after library.rate place t parts) ≡ Some later
-    → Stays (passage_of client place t parts library own later)
+    (client : Client) (index : ℕ) (t : TransitionData) (parts : List Part) (library : Library) (own later : Part)
+    → part_at client.index parts ≡ Some own
+    → part_at client.index (parts_after library.rate index t parts) ≡ Some later
+    → Stays (passage_of client index t parts library own later)
 
 -- what the event raises for the client
 abbrev pub heard : Passage → Subsystems

@@ -24,17 +24,17 @@ use Rattle.mpd_command.specs.declared.sticker.Target.TheVariants as target
 use Rattle.mpd_command.specs.declared.status.StatusCommand.{StatusCommand}
 use Rattle.mpd_command.specs.declared.status.StatusCommand.TheVariants as status
 
--- those of the queue show its songs, their ids, places and priorities, and what changed since a version
+-- those of the queue show its songs, their ids, positions and priorities, and what changed since a version
 abbrev pub queue_tellers : QueueCommand → Option (List Subsystem)
 queue_tellers queue.Playlist = Some (Playlist ∷ [])
-queue_tellers (queue.PlaylistFind wanted) = Some (Playlist ∷ [])
+queue_tellers (queue.PlaylistFind criteria) = Some (Playlist ∷ [])
 queue_tellers (queue.PlaylistId id) = Some (Playlist ∷ [])
 queue_tellers (queue.PlaylistInfo range) = Some (Playlist ∷ [])
-queue_tellers (queue.PlaylistSearch wanted) = Some (Playlist ∷ [])
+queue_tellers (queue.PlaylistSearch criteria) = Some (Playlist ∷ [])
 queue_tellers (queue.PlChanges version range) = Some (Playlist ∷ [])
 queue_tellers (queue.PlChangesPosId version range) = Some (Playlist ∷ [])
-queue_tellers (queue.Add uri place) = None
-queue_tellers (queue.AddId uri place) = None
+queue_tellers (queue.Add uri position) = None
+queue_tellers (queue.AddId uri position) = None
 queue_tellers queue.Clear = None
 queue_tellers (queue.Delete range) = None
 queue_tellers (queue.DeleteId id) = None
@@ -101,9 +101,9 @@ database_tellers (database.LsInfo uri everyday) = Some (Database ∷ [])
 database_tellers (database.ReadComments uri) = Some (Database ∷ [])
 database_tellers (database.ReadPicture uri offset) = Some (Database ∷ [])
 database_tellers (database.Search selection) = Some (Database ∷ [])
-database_tellers (database.FindAdd selection place) = None
+database_tellers (database.FindAdd selection position) = None
 database_tellers (database.Rescan uri) = None
-database_tellers (database.SearchAdd selection place) = None
+database_tellers (database.SearchAdd selection position) = None
 database_tellers (database.SearchAddPl name selection) = None
 database_tellers (database.Update uri) = None
 
@@ -112,10 +112,10 @@ abbrev pub playlist_tellers : PlaylistCommand → Option (List Subsystem)
 playlist_tellers (playlists.ListPlaylist name) = Some []
 playlist_tellers (playlists.ListPlaylistInfo name) = Some (Database ∷ [])
 playlist_tellers playlists.ListPlaylists = Some []
-playlist_tellers (playlists.Load name range place) = None
+playlist_tellers (playlists.Load name range position) = None
 playlist_tellers (playlists.PlaylistAdd name uri) = None
 playlist_tellers (playlists.PlaylistClear name) = None
-playlist_tellers (playlists.PlaylistDelete name place) = None
+playlist_tellers (playlists.PlaylistDelete name position) = None
 playlist_tellers (playlists.PlaylistMove name from to) = None
 playlist_tellers (playlists.Rename name new) = None
 playlist_tellers (playlists.Rm name) = None

@@ -60,8 +60,8 @@ abbrev pub PartitionsAreTold : Type 0
 PartitionsAreTold =
     (p : Passage) (asked : Asked) (ks : List Seated) (openings : OpeningsData) (it : PartitionCommand) → Stays p
     → IsUntold p (partition_tellers it)
-    → planned (map known p.before) ks openings asked p.client.place it
-    ≡ planned (map known p.after) ks openings asked p.client.place it
+    → planned (map known p.before) ks openings asked p.client.index it
+    ≡ planned (map known p.after) ks openings asked p.client.index it
 
 -- What the shelf answers is given: of its own two maps the events themselves say whether they make them others
 abbrev pub DatabaseIsTold : Type 0

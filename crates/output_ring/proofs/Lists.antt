@@ -11,6 +11,6 @@ module _ {X : Type 0} where
   part_stays held k n xs ys within =
       take-add held n (put_mid held k xs ys) ∙ ap (λ zs. zs ++ take n (drop held (put_mid held k xs ys))) (take-put_mid_below held k xs ys held (omega arith) within)
 
-  -- all from a place on
+  -- all from an offset on
   pub all_from : (n : ℕ) (xs ys : List X) → xs ≡ ys → take (length xs - n) (drop n xs) ≡ drop n ys
   all_from n xs ys e = take_all (length xs - n) (drop n xs) (omega (arith, length-drop n xs)) ∙ ap (drop n) e

@@ -87,7 +87,7 @@ fn lay_out(bytes: &mut [u8], frames: &[Frame], runs: &[Run], live: Live) -> usiz
     count
 }
 
-// So many frames from a place on.
+// So many frames from an offset on.
 fn part(frames: &[Frame], from: usize, count: usize) -> &[Frame]
     requires { from + count ≤ length frames.now }
     ensures value { result.now ≡ take count (drop from frames.now) }

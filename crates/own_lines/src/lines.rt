@@ -15,7 +15,7 @@ pub fn requests_of(alloc: Global, text: &str) -> Result<Vec<Request>, AllocError
     ensures { IfOk result (λ requests. requests.items ≡ map (λ line. request_of line fewest) (lines text.now)) }
 {
     let mut requests = Vec::new(alloc);
-    'told: for line in text.lines() {
+    'each_line: for line in text.lines() {
         requests.push(Request::of_line(alloc, line, CommandSet::base())?)?;
     }
     Ok(requests)

@@ -39,7 +39,7 @@ use Rattle.mpd_command.specs.declared.partitions.PartitionCommand.{PartitionComm
 use Rattle.mpd_command.specs.declared.partitions.PartitionCommand.TheVariants.{DelPartition, ListPartitions, MoveOutput, NewPartition, Partition}
 use Rattle.mpd_text.specs.declared.answers.answer.ErrorNumber.TheVariants.{Argument, Exist, System}
 use Rattle.partition_table.specs.Openings.{OpeningsData}
-use Rattle.partition_table.specs.Parts.{Known, free_place, holder, named}
+use Rattle.partition_table.specs.Parts.{Known, free_index, holder, named}
 use Rattle.partition_table.specs.declared.crossing.Crossing.TheVariants.{Closes, Brings}
 use Rattle.partition_commands.specs.Partitions.{Seated, begins, brings, by_name, done, ends, goes, is_partition_name, is_used, lines_of_names, moves, names_in, output_named, planned, refused}
 use Rattle.transitions.specs.CommandResults.{bad_name, shows}
@@ -70,7 +70,7 @@ Quiet Learn = ⊥
 Quiet Resume = Unit {0}
 Quiet Join = Unit {0}
 Quiet (Show tags) = Unit {0}
-Quiet (Enter place) = Unit {0}
+Quiet (Enter index) = Unit {0}
 
 pub quiet_unheard : (move : Move) → Quiet move → is_learning move ≡ true → ⊥
 quiet_unheard Stay q e = cc
@@ -79,7 +79,7 @@ quiet_unheard Learn q e = q
 quiet_unheard Resume q e = cc
 quiet_unheard Join q e = cc
 quiet_unheard (Show tags) q e = cc
-quiet_unheard (Enter place) q e = cc
+quiet_unheard (Enter index) q e = cc
 
 pub quiet_unwaiting : (move : Move) (names : Subsystems) → Quiet move → move ≡ Wait names → ⊥
 quiet_unwaiting Stay names q e = cc
@@ -88,7 +88,7 @@ quiet_unwaiting Learn names q e = q
 quiet_unwaiting Resume names q e = cc
 quiet_unwaiting Join names q e = cc
 quiet_unwaiting (Show tags) names q e = cc
-quiet_unwaiting (Enter place) names q e = cc
+quiet_unwaiting (Enter index) names q e = cc
 
 -- an answer to a client that makes no move
 quiet_stays : (answer : Answer) → Quiet (move_of (stays answer))
@@ -154,21 +154,21 @@ quiet_goes : (asked : Asked) (own : ℕ) (found : Option ℕ) → Quiet (move_of
 quiet_goes asked own None = tt
 quiet_goes asked own (Some to) = quiet_if (to == own) (done asked) (enters asked to) tt tt
 
-quiet_begins : (fs : List Known) (openings : OpeningsData) (asked : Asked) (name : List ℕ) (place : Option ℕ) → Quiet (move_of (begins fs openings asked name place).response)
+quiet_begins : (fs : List Known) (openings : OpeningsData) (asked : Asked) (name : List ℕ) (index : Option ℕ) → Quiet (move_of (begins fs openings asked name index).response)
 quiet_begins fs openings asked name None = tt
-quiet_begins fs openings asked name (Some place) = tt
+quiet_begins fs openings asked name (Some index) = tt
 
 quiet_ends : (fs : List Known) (ks : List Seated) (asked : Asked) (found : Option ℕ) → Quiet (move_of (ends fs ks asked found).response)
 quiet_ends fs ks asked None = tt
-quiet_ends fs ks asked (Some place) =
+quiet_ends fs ks asked (Some index) =
     let used : TransitionData = refused asked System (codes "partition is in use") in
-    let closes_it : TransitionData = crosses asked (Closes place) in
-    quiet_if (place == 0) (refused asked Argument (codes "partition is the default")) (if is_used fs ks place then used else closes_it) tt
-    (quiet_if (is_used fs ks place) used closes_it tt tt)
+    let closes_it : TransitionData = crosses asked (Closes index) in
+    quiet_if (index == 0) (refused asked Argument (codes "partition is the default")) (if is_used fs ks index then used else closes_it) tt
+    (quiet_if (is_used fs ks index) used closes_it tt tt)
 
 quiet_brings : (asked : Asked) (output own : ℕ) (found : Option ℕ) → Quiet (move_of (brings asked output own found).response)
 quiet_brings asked output own None = tt
-quiet_brings asked output own (Some place) = quiet_if (place == own) (done asked) (crosses asked (Brings output own)) tt tt
+quiet_brings asked output own (Some index) = quiet_if (index == own) (done asked) (crosses asked (Brings output own)) tt tt
 
 quiet_moves : (fs : List Known) (asked : Asked) (own : ℕ) (found : Option ℕ) → Quiet (move_of (moves fs asked own found).response)
 quiet_moves fs asked own None = tt
@@ -181,10 +181,10 @@ quiet_planned fs ks openings asked own (DelPartition name) = quiet_named asked n
 quiet_planned fs ks openings asked own ListPartitions = quiet_stays (shows asked (lines_of_names (names_in fs))).answer
 quiet_planned fs ks openings asked own (MoveOutput name) = quiet_moves fs asked own (output_named name fs)
 quiet_planned fs ks openings asked own (NewPartition name) =
-    let place : Option ℕ = if nat_le 16 (length fs) then None else free_place fs in
+    let index : Option ℕ = if nat_le 16 (length fs) then None else free_index fs in
     let exists : TransitionData = refused asked Exist (codes "partition exists") in
-    let new : TransitionData = begins fs openings asked name place in
-    quiet_named asked name (if is_some (named name fs) then exists else new) (quiet_if (is_some (named name fs)) exists new tt (quiet_begins fs openings asked name place))
+    let new : TransitionData = begins fs openings asked name index in
+    quiet_named asked name (if is_some (named name fs) then exists else new) (quiet_if (is_some (named name fs)) exists new tt (quiet_begins fs openings asked name index))
 quiet_planned fs ks openings asked own (Partition name) = quiet_named asked name (goes asked own (named name fs)) (quiet_goes asked own (named name fs))
 
 -- every command that is run, but for the wishes, makes a client go at most
@@ -199,7 +199,7 @@ quiet_run o asked part library read (command_group.Stickers command) = quiet_sta
 quiet_run o asked part library read (command_group.Connection command) = quiet_stays (connection_result asked command).answer
 quiet_run o asked part library read (command_group.Outputs command) = quiet_stays (outputs_result asked part command).answer
 quiet_run o asked part library read (command_group.Messages command) = quiet_stays (messages_result asked part command).answer
-quiet_run o asked part library read (command_group.Partitions command) = quiet_planned o.parts o.clients o.openings asked part.place command
+quiet_run o asked part library read (command_group.Partitions command) = quiet_planned o.parts o.clients o.openings asked part.index command
 
 quiet_there : (o : Overview) (asked : Asked) (part : Option Part) (library : Library) (read : Read) (command : Command) → Quiet (move_of (transition_there o asked part library read command).response)
 quiet_there o asked None library read command = tt
@@ -237,16 +237,16 @@ module _ (o : Overview) (part : Option Part) (library : Library) (heard : StoreR
     kind_of_wish Alone (Some (ToWait named)) e = asking named e
     kind_of_wish Alone (Some ToGoOn) e = inl (quiet_line true (run Alone (Some ToGoOn)) (quiet_resumes k))
     kind_of_wish Alone (Some (ToShow choice)) e = inl (quiet_line false (run Alone (Some (ToShow choice))) (shows_quietly Alone choice))
-    kind_of_wish (InList form place) (Some (ToWait named)) e = inl (quiet_line false (run (InList form place) (Some (ToWait named))) tt)
-    kind_of_wish (InList form place) (Some ToGoOn) e = inl (quiet_line false (run (InList form place) (Some ToGoOn)) tt)
-    kind_of_wish (InList form place) (Some (ToShow choice)) e =
-        inl (quiet_line false (run (InList form place) (Some (ToShow choice))) (shows_quietly (InList form place) choice))
+    kind_of_wish (InList form number_in_list) (Some (ToWait named)) e = inl (quiet_line false (run (InList form number_in_list) (Some (ToWait named))) tt)
+    kind_of_wish (InList form number_in_list) (Some ToGoOn) e = inl (quiet_line false (run (InList form number_in_list) (Some ToGoOn)) tt)
+    kind_of_wish (InList form number_in_list) (Some (ToShow choice)) e =
+        inl (quiet_line false (run (InList form number_in_list) (Some (ToShow choice))) (shows_quietly (InList form number_in_list) choice))
 
   kind_of_line : (stand : Stand) (request : Request) → Quiet (move_of (transition_line o part library (Some k) stand request heard.read).response) ⊎ IsAsking clients (Line number stand request heard)
   kind_of_line Alone (Run name command) = kind_of_wish name command Alone (wish_of command) refl
-  kind_of_line (InList form place) (Run name command) = kind_of_wish name command (InList form place) (wish_of command) refl
+  kind_of_line (InList form number_in_list) (Run name command) = kind_of_wish name command (InList form number_in_list) (wish_of command) refl
   kind_of_line Alone (Refused ack) = inl (quiet_line false (quiet (stays (refuses Alone ack.command ack.number ack.text))) tt)
-  kind_of_line (InList form place) (Refused ack) = inl (quiet_line false (quiet (stays (refuses (InList form place) ack.command ack.number ack.text))) tt)
+  kind_of_line (InList form number_in_list) (Refused ack) = inl (quiet_line false (quiet (stays (refuses (InList form number_in_list) ack.command ack.number ack.text))) tt)
 
 quiet_turn : (part : Option Part) (output written discarded : ℕ) (failed : Bool) → Quiet (move_of (output_turn part output (Settles output written discarded failed)).response)
 quiet_turn None output written discarded failed = tt
@@ -275,9 +275,9 @@ kind_of o part library clients (Connect number) = inl (quiet_new o.clients (clie
 kind_of o part library clients (Disconnect number) = inl tt
 kind_of o part library clients ScanQuestion = inl tt
 kind_of o part library clients (ScanResult songs second) = inl tt
-kind_of o part library clients (Want place owes) = inl (quiet_want o.ended part owes)
-kind_of o part library clients (Have place number frames) = inl (quiet_have o.ended part number frames)
-kind_of o part library clients (Failed place number partner) = inl (quiet_failure part number partner)
+kind_of o part library clients (Want index owes) = inl (quiet_want o.ended part owes)
+kind_of o part library clients (Have index number frames) = inl (quiet_have o.ended part number frames)
+kind_of o part library clients (Failed index number partner) = inl (quiet_failure part number partner)
 kind_of o part library clients End = inl tt
 kind_of o part library clients (OutputTurn output written discarded failed) = inl (quiet_turn part output written discarded failed)
 kind_of o part library clients (Line number stand request heard) =
@@ -339,19 +339,19 @@ module _ (n : ℕ) (r : Client → Subsystems) where
   does_some (Show tags) k named e =
       elim (k.number == n) as (λ b. (if b then record k { tags = tags } else k).pending.waiting ≡ Some named → (k.pending.waiting ≡ Some named) ⊎ ((Show tags ≡ Wait named) × (k.number ≡ n)))
       [ true ↦ λ h. inl h | false ↦ λ h. inl h ] e
-  does_some (Enter place) k named e =
-      elim (k.number == n) as (λ b. (if b then record k { place = place; pending = everything } else k).pending.waiting ≡ Some named → (k.pending.waiting ≡ Some named) ⊎ ((Enter place ≡ Wait named) × (k.number ≡ n)))
+  does_some (Enter index) k named e =
+      elim (k.number == n) as (λ b. (if b then record k { index = index; pending = everything } else k).pending.waiting ≡ Some named → (k.pending.waiting ≡ Some named) ⊎ ((Enter index ≡ Wait named) × (k.number ≡ n)))
       [ true ↦ λ h. cc | false ↦ λ h. inl h ] e
 
-  of_insert : (k new : Client) (xs : List Client) (place : ℕ) → IsIn k (insert xs place new) → IsIn k xs ⊎ (new ≡ k)
+  of_insert : (k new : Client) (xs : List Client) (index : ℕ) → IsIn k (insert xs index new) → IsIn k xs ⊎ (new ≡ k)
   of_insert k new [] zero (inl e) = inr e
   of_insert k new [] zero (inr e) = absurd e
-  of_insert k new [] (suc place) (inl e) = inr e
-  of_insert k new [] (suc place) (inr e) = absurd e
+  of_insert k new [] (suc index) (inl e) = inr e
+  of_insert k new [] (suc index) (inr e) = absurd e
   of_insert k new (x ∷ xs) zero (inl e) = inr e
   of_insert k new (x ∷ xs) zero (inr e) = inl e
-  of_insert k new (x ∷ xs) (suc place) (inl e) = inl (inl e)
-  of_insert k new (x ∷ xs) (suc place) (inr e) = elim (of_insert k new xs place e) [ inl l ↦ inl (inr l) | inr l ↦ inr l ]
+  of_insert k new (x ∷ xs) (suc index) (inl e) = inl (inl e)
+  of_insert k new (x ∷ xs) (suc index) (inr e) = elim (of_insert k new xs index e) [ inl l ↦ inl (inr l) | inr l ↦ inr l ]
 
   -- a client that waits after a move is one of those before it
   pub of_moved : (move : Move) (k : Client) (ks : List Client) (named : Subsystems) → IsIn k (moved n move ks) → k.pending.waiting ≡ Some named
@@ -361,13 +361,13 @@ module _ (n : ℕ) (r : Client → Subsystems) where
   of_moved Learn k ks named e w = of_map (at n (λ p. fresh)) k ks e
   of_moved Resume k ks named e w = of_map (at n cancelled) k ks e
   of_moved (Show tags) k ks named e w = of_map (shown n tags) k ks e
-  of_moved (Enter place) k ks named e w = of_map (entered n place) k ks e
+  of_moved (Enter index) k ks named e w = of_map (entered n index) k ks e
   of_moved Join k ks named e w =
-      let place : ℕ = position_or_len (λ c. nat_lt n c.number) ks in
+      let index : ℕ = position_or_len (λ c. nat_lt n c.number) ks in
       let new : Client = newcomer n in
-      elim (is_some (client_of n ks)) as (λ b. IsIn k (if b then ks else insert ks place new) → (c : Client) × IsIn c ks × (c ≡ k)) [
+      elim (is_some (client_of n ks)) as (λ b. IsIn k (if b then ks else insert ks index new) → (c : Client) × IsIn c ks × (c ≡ k)) [
         | true ↦ λ h. (k, h, refl)
-        | false ↦ λ h. elim (of_insert k new ks place h) [
+        | false ↦ λ h. elim (of_insert k new ks index h) [
           | inl old ↦ (k, old, refl)
           | inr same ↦ (let clash : None ≡ Some named = ap (λ (c : Client). c.pending.waiting) same ∙ w in cc)
         ]

@@ -1,7 +1,7 @@
 -- Shelves that were lent to an event and are as they were.
 use Rattle.std.proofs.Common.{inl, inr, ℕ, ◌≤◌, false, Option, Some, None, refl, arith}
 use Rattle.shelf.specs.Calls.{Call}
-use Rattle.shelf.specs.Maps.{Maps, Same, Standing, Turns}
+use Rattle.shelf.specs.Maps.{Maps, Same, Standing, Changes}
 use Rattle.player_events.specs.declared.event.Event.{Event}
 use Rattle.partition.specs.declared.partition.PartitionFault.{PartitionFault}
 use Rattle.partition.specs.declared.partition.PartitionFault.TheVariants.{NoMemory}
@@ -19,7 +19,7 @@ at_most : (n : ℕ) → n ≤ n
 at_most n = omega arith
 
 -- a shelf that was not called
-pub uncalled : (s : Standing) (after : Maps) → Turns s s false after
+pub uncalled : (s : Standing) (after : Maps) → Changes s s false after
 uncalled s after = record {
   clean = λ clean. clean;
   counts = at_most s.faults;
@@ -30,7 +30,7 @@ uncalled s after = record {
   stop = λ trusted m left. inl left;
 }
 
--- want of memory may come in the place of each limit
+-- want of memory may come instead of each limit
 pub may_want : (limit : Option PartitionFault) → MayRefuse limit NoMemory
 may_want None = refl
 may_want (Some limit) = inr refl

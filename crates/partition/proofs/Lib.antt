@@ -18,7 +18,7 @@ pub mod Recorded
 pub mod Seats
 pub mod Sends
 pub mod Serving
-pub mod Settled
+pub mod UpToDate
 pub mod Since
 pub mod Stands
 pub mod Still

@@ -181,14 +181,14 @@ module _ (raised : Client → Subsystems) (by_number flag after : ℕ → Subsys
   shown_flags tags k =
       elim (k.number == sender) as (λ b. (if b then record k { tags = tags } else k).pending.changed ≡ k.pending.changed) [ true ↦ refl | false ↦ refl ]
 
-  entered_flags : (place : ℕ) (k : Client) → k.pending.changed ≡ flag k.number → MayGo raised sender k
-      → grown_by (raised k) k.number (told raised k || ((k.number == sender) && false)) ≡ (entered sender place (notified raised k)).pending.changed
-  entered_flags place k e goes =
+  entered_flags : (index : ℕ) (k : Client) → k.pending.changed ≡ flag k.number → MayGo raised sender k
+      → grown_by (raised k) k.number (told raised k || ((k.number == sender) && false)) ≡ (entered sender index (notified raised k)).pending.changed
+  entered_flags index k e goes =
       let heard : Client = notified raised k in
       let cases : (b : Bool) → (k.number == sender) ≡ b
-      → grown_by (raised k) k.number (told raised k || (b && false)) ≡ (if b then record heard { place = place; pending = everything } else heard).pending.changed =
+      → grown_by (raised k) k.number (told raised k || (b && false)) ≡ (if b then record heard { index = index; pending = everything } else heard).pending.changed =
       λ b. elim b as (λ b. (k.number == sender) ≡ b
-      → grown_by (raised k) k.number (told raised k || (b && false)) ≡ (if b then record heard { place = place; pending = everything } else heard).pending.changed) [
+      → grown_by (raised k) k.number (told raised k || (b && false)) ≡ (if b then record heard { index = index; pending = everything } else heard).pending.changed) [
         | true ↦ λ t.
             let free = goes t in
             let unheard : told raised k ≡ false = ap (λ (w : Option Subsystems). is_nonempty (due (noted (raised k) (record k.pending { waiting = w })))) free.0 in
@@ -228,19 +228,19 @@ module _ (raised : Client → Subsystems) (by_number flag after : ℕ → Subsys
         (λ k e. told_now (told raised k) (k.number == sender) (raised k) (flag k.number) k.pending e ∙ cleared (notified raised k)) ks right names
 
     -- each of some, of which one may go to another partition
-    each_entered : (place : ℕ) → ((n : ℕ) → after n ≡ grown n (anew ks false n)) → (xs : List Client) → Each Right xs → Each (MayGo raised sender) xs
-        → Each (λ x. named raised x.number ks ≡ told raised x) xs → Each (λ k. flagged after k ≡ k) (map (entered sender place) (map (notified raised) xs))
-    each_entered place is [] rights goes name = tt
-    each_entered place is (x ∷ xs) rights goes name = (
-      unchanged after (entered sender place (notified raised x))
-          (ap after (entered_keeps sender place (notified raised x)) ∙ after_there false ks is x rights.0 name.0
-          ∙ ap (λ (r : Subsystems). grown_by r x.number (told raised x || ((x.number == sender) && false))) (sym rights.0.2) ∙ entered_flags place x rights.0.1 goes.0),
-      each_entered place is xs rights.1 goes.1 name.1,
+    each_entered : (index : ℕ) → ((n : ℕ) → after n ≡ grown n (anew ks false n)) → (xs : List Client) → Each Right xs → Each (MayGo raised sender) xs
+        → Each (λ x. named raised x.number ks ≡ told raised x) xs → Each (λ k. flagged after k ≡ k) (map (entered sender index) (map (notified raised) xs))
+    each_entered index is [] rights goes name = tt
+    each_entered index is (x ∷ xs) rights goes name = (
+      unchanged after (entered sender index (notified raised x))
+          (ap after (entered_keeps sender index (notified raised x)) ∙ after_there false ks is x rights.0 name.0
+          ∙ ap (λ (r : Subsystems). grown_by r x.number (told raised x || ((x.number == sender) && false))) (sym rights.0.2) ∙ entered_flags index x rights.0.1 goes.0),
+      each_entered index is xs rights.1 goes.1 name.1,
     )
 
-    pub enters : (place : ℕ) → ((n : ℕ) → after n ≡ grown n (anew ks false n)) → Each (MayGo raised sender) ks
-        → Each (λ k. flagged after k ≡ k) (map (entered sender place) (map (notified raised) ks))
-    enters place is goes = each_entered place is ks right goes names
+    pub enters : (index : ℕ) → ((n : ℕ) → after n ≡ grown n (anew ks false n)) → Each (MayGo raised sender) ks
+        → Each (λ k. flagged after k ≡ k) (map (entered sender index) (map (notified raised) ks))
+    enters index is goes = each_entered index is ks right goes names
 
     each_insert : (P : Client → Type 0) (xs : List Client) (i : ℕ) (x : Client) → Each P xs → P x → Each P (insert xs i x)
     each_insert P [] zero x e p = (p, tt)
@@ -253,19 +253,19 @@ module _ (raised : Client → Subsystems) (by_number flag after : ℕ → Subsys
     joins is absent =
         let heard : List Client = map (notified raised) ks in
         let new : Client = newcomer sender in
-        let place : ℕ = position_or_len (λ k. nat_lt sender k.number) heard in
-        let cases : (o : Option Client) → client_of sender heard ≡ o → Each (λ k. flagged after k ≡ k) (if is_some o then heard else insert heard place new) =
-        λ o. elim o as (λ o. client_of sender heard ≡ o → Each (λ k. flagged after k ≡ k) (if is_some o then heard else insert heard place new)) [
+        let index : ℕ = position_or_len (λ k. nat_lt sender k.number) heard in
+        let cases : (o : Option Client) → client_of sender heard ≡ o → Each (λ k. flagged after k ≡ k) (if is_some o then heard else insert heard index new) =
+        λ o. elim o as (λ o. client_of sender heard ≡ o → Each (λ k. flagged after k ≡ k) (if is_some o then heard else insert heard index new)) [
           | None ↦ λ e.
               let none_yet : after sender ≡ none =
               is sender ∙ ap (λ b. grown sender (not b || (named raised sender ks || ((sender == sender) && false)))) (absent e) in
-              each_insert (λ k. flagged after k ≡ k) heard place new (stays is) (unchanged after new none_yet)
+              each_insert (λ k. flagged after k ≡ k) heard index new (stays is) (unchanged after new none_yet)
           | Some k ↦ λ e. stays is
         ] in
         cases (client_of sender heard) refl
 
   -- whatever move the client makes
-  pub each_stands : (ks : List Client) → Rising ks → Each Right ks → (move : Move) → ((place : ℕ) → move ≡ Enter place → Each (MayGo raised sender) ks)
+  pub each_stands : (ks : List Client) → Rising ks → Each Right ks → (move : Move) → ((index : ℕ) → move ≡ Enter index → Each (MayGo raised sender) ks)
       → ((n : ℕ) → after n ≡ grown n (anew ks (is_learning move) n))
       → (client_of sender (map (notified raised) ks) ≡ None → there sender ≡ false)
       → Each (λ k. flagged after k ≡ k) (moved sender move (map (notified raised) ks))
@@ -275,10 +275,10 @@ module _ (raised : Client → Subsystems) (by_number flag after : ℕ → Subsys
   each_stands ks rising right Resume goes is absent = keeps_flags ks rising right cancelled (λ p. refl) is
   each_stands ks rising right Join goes is absent = joins ks rising right is absent
   each_stands ks rising right (Show tags) goes is absent = shows_tags ks rising right tags is
-  each_stands ks rising right (Enter place) goes is absent = enters ks rising right place is (goes place refl)
+  each_stands ks rising right (Enter index) goes is absent = enters ks rising right index is (goes index refl)
 
   -- of a client that is closed, or makes a move
-  pub all_stand : (ks : List Client) → Rising ks → Each Right ks → (closed : Bool) (move : Move) → ((place : ℕ) → (if closed then Stay else move) ≡ Enter place → Each (MayGo raised sender) ks)
+  pub all_stand : (ks : List Client) → Rising ks → Each Right ks → (closed : Bool) (move : Move) → ((index : ℕ) → (if closed then Stay else move) ≡ Enter index → Each (MayGo raised sender) ks)
       → ((n : ℕ) → after n ≡ grown n (anew (if closed then filter (is_other sender) ks else ks) (is_learning (if closed then Stay else move)) n))
       → (client_of sender (map (notified raised) ks) ≡ None → there sender ≡ false)
       → Each (λ k. flagged after k ≡ k) (moved sender (if closed then Stay else move) (map (notified raised) (if closed then filter (is_other sender) ks else ks)))

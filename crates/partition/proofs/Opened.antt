@@ -8,7 +8,7 @@ use Rattle.mpd_command.specs.declared.request.Request.{Request}
 use Rattle.mpd_command.specs.declared.request.Request.TheVariants.{Run, Refused}
 use Rattle.mpd_text.specs.declared.answers.answer.ErrorNumber.TheVariants.{Argument, Exist, System}
 use Rattle.partition_table.specs.Openings.{OpeningsData}
-use Rattle.partition_table.specs.Parts.{Known, free_place, holder, named, opening_part}
+use Rattle.partition_table.specs.Parts.{Known, free_index, holder, named, opening_part}
 use Rattle.partition_table.specs.declared.crossing.Crossing.{Crossing}
 use Rattle.partition_table.specs.declared.crossing.Crossing.TheVariants.{Opens, Closes, Brings}
 use Rattle.partition_commands.specs.Partitions.{Seated, begins, brings, by_name, done, ends, goes, is_partition_name, is_used, moves, output_named, outputs_elsewhere, planned, refused}
@@ -32,7 +32,7 @@ use Rattle.partition.specs.Step.{absent, asked_by, ends_waiting, failure, have, 
 
 -- what comes between the partitions is a partition to which nothing happened
 abbrev pub IsOpenedBy : OpeningsData → Crossing → Type 0
-IsOpenedBy openings (Opens part) = (place : ℕ) × (name : List ℕ) × (outputs : OutputsData) × (part ≡ opening_part openings place name outputs)
+IsOpenedBy openings (Opens part) = (index : ℕ) × (name : List ℕ) × (outputs : OutputsData) × (part ≡ opening_part openings index name outputs)
 IsOpenedBy openings _ = Unit {0}
 
 module _ (openings : OpeningsData) where
@@ -50,21 +50,21 @@ module _ (openings : OpeningsData) where
   fair_goes asked own None = tt
   fair_goes asked own (Some to) = fair_if (to == own) (done asked) (enters asked to) tt tt
 
-  fair_begins : (fs : List Known) (asked : Asked) (name : List ℕ) (place : Option ℕ) → Fair (begins fs openings asked name place)
+  fair_begins : (fs : List Known) (asked : Asked) (name : List ℕ) (index : Option ℕ) → Fair (begins fs openings asked name index)
   fair_begins fs asked name None = tt
-  fair_begins fs asked name (Some place) = (place, name, outputs_elsewhere fs, refl)
+  fair_begins fs asked name (Some index) = (index, name, outputs_elsewhere fs, refl)
 
   fair_ends : (fs : List Known) (ks : List Seated) (asked : Asked) (found : Option ℕ) → Fair (ends fs ks asked found)
   fair_ends fs ks asked None = tt
-  fair_ends fs ks asked (Some place) =
+  fair_ends fs ks asked (Some index) =
       let used : TransitionData = refused asked System (codes "partition is in use") in
-      let closes_it : TransitionData = crosses asked (Closes place) in
-      fair_if (place == 0) (refused asked Argument (codes "partition is the default")) (if is_used fs ks place then used else closes_it) tt
-      (fair_if (is_used fs ks place) used closes_it tt tt)
+      let closes_it : TransitionData = crosses asked (Closes index) in
+      fair_if (index == 0) (refused asked Argument (codes "partition is the default")) (if is_used fs ks index then used else closes_it) tt
+      (fair_if (is_used fs ks index) used closes_it tt tt)
 
   fair_brings : (asked : Asked) (output own : ℕ) (found : Option ℕ) → Fair (brings asked output own found)
   fair_brings asked output own None = tt
-  fair_brings asked output own (Some place) = fair_if (place == own) (done asked) (crosses asked (Brings output own)) tt tt
+  fair_brings asked output own (Some index) = fair_if (index == own) (done asked) (crosses asked (Brings output own)) tt tt
 
   fair_moves : (fs : List Known) (asked : Asked) (own : ℕ) (found : Option ℕ) → Fair (moves fs asked own found)
   fair_moves fs asked own None = tt
@@ -76,10 +76,10 @@ module _ (openings : OpeningsData) where
   fair_planned fs ks asked own ListPartitions = tt
   fair_planned fs ks asked own (MoveOutput name) = fair_moves fs asked own (output_named name fs)
   fair_planned fs ks asked own (NewPartition name) =
-      let place : Option ℕ = if nat_le 16 (length fs) then None else free_place fs in
+      let index : Option ℕ = if nat_le 16 (length fs) then None else free_index fs in
       let exists : TransitionData = refused asked Exist (codes "partition exists") in
-      let new : TransitionData = begins fs openings asked name place in
-      fair_named asked name (if is_some (named name fs) then exists else new) (fair_if (is_some (named name fs)) exists new tt (fair_begins fs asked name place))
+      let new : TransitionData = begins fs openings asked name index in
+      fair_named asked name (if is_some (named name fs) then exists else new) (fair_if (is_some (named name fs)) exists new tt (fair_begins fs asked name index))
   fair_planned fs ks asked own (Partition name) = fair_named asked name (goes asked own (named name fs)) (fair_goes asked own (named name fs))
 
 module _ (o : Overview) (library : Library) where
@@ -97,7 +97,7 @@ module _ (o : Overview) (library : Library) where
   fair_run asked part read (command_group.Connection command) = tt
   fair_run asked part read (command_group.Outputs command) = tt
   fair_run asked part read (command_group.Messages command) = tt
-  fair_run asked part read (command_group.Partitions command) = fair_planned o.openings o.parts o.clients asked part.place command
+  fair_run asked part read (command_group.Partitions command) = fair_planned o.openings o.parts o.clients asked part.index command
 
   fair_there : (asked : Asked) (part : Option Part) (read : Read) (command : Command) → Fairly (transition_there o asked part library read command)
   fair_there asked None read command = tt
@@ -151,8 +151,8 @@ opened_by o part library client (Line number stand request heard) =
     (fair_line o library part client stand request heard.read)
 opened_by o part library client ScanQuestion = tt
 opened_by o part library client (ScanResult songs second) = tt
-opened_by o part library client (Want place owes) = fair_want o library part owes
-opened_by o part library client (Have place number frames) = fair_have o library part number frames
-opened_by o part library client (Failed place number partner) = fair_failure o library part number partner
+opened_by o part library client (Want index owes) = fair_want o library part owes
+opened_by o part library client (Have index number frames) = fair_have o library part number frames
+opened_by o part library client (Failed index number partner) = fair_failure o library part number partner
 opened_by o part library client (OutputTurn output written discarded failed) = fair_turn o library part output written discarded failed
 opened_by o part library client End = tt

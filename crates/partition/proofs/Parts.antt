@@ -25,7 +25,7 @@ use Rattle.player_state.specs.declared.scan.ScanMove.TheVariants.{Stay, Begin, E
 use Rattle.player_state.specs.declared.state.Library.{Library}
 use Rattle.player_state.specs.declared.effect.Effect.{Effect}
 use Rattle.player_state.specs.declared.effect.Effect.TheVariants.{ByCommand, ByAudio}
-use Rattle.player_state.specs.declared.effect.CommandEffect.TheVariants.{Rests, Edits, Shuffles, SetsVolume, SetsRepeat, SetsRandom, SetsSingle, SetsConsume, SetsCrossfade, ClearsError, Plays, PlaysPlace, Pauses, TogglesPause, Stops, GoesOn, GoesBack, Seeks, Switches, Subscribes, Unsubscribes, Sends, ReadsMessages, Leaves}
+use Rattle.player_state.specs.declared.effect.CommandEffect.TheVariants.{Rests, Edits, Shuffles, SetsVolume, SetsRepeat, SetsRandom, SetsSingle, SetsConsume, SetsCrossfade, ClearsError, Plays, PlaysPosition, Pauses, TogglesPause, Stops, GoesOn, GoesBack, Seeks, Switches, Subscribes, Unsubscribes, Sends, ReadsMessages, Leaves}
 use Rattle.player_state.specs.declared.effect.AudioStep.TheVariants.{Wants, Accepts, Fails, Settles}
 use Rattle.player_events.specs.declared.event.Event.{Event}
 use Rattle.connected_clients.specs.declared.notices.Notice.{Notice}
@@ -37,7 +37,7 @@ use Rattle.partition_table.specs.Parts.{carried_in, known, once_more, outputs_mo
 use Rattle.partition_table.specs.declared.crossing.Crossing.{Crossing}
 use Rattle.partition_table.specs.declared.crossing.Crossing.TheVariants.{Stays, Opens, Closes, Brings}
 use Rattle.player_core.specs.declared.state.Job.{Job}
-use Rattle.player_state.specs.Effects.{Change, ByEdit, ByStep, asked_for, change_of, entries, outputs_after, played_entry, player_after, player_edited, sought_entry, wanted}
+use Rattle.player_state.specs.Effects.{Change, ByEdit, ByStep, asked_for, change_of, entries, outputs_after, played_entry, player_after, player_edited, sought_entry, due_job}
 use Rattle.partition.specs.Image.{Image}
 use Rattle.transitions.specs.Transitions.{TransitionData}
 use Rattle.player_state.specs.Scans.{is_last}
@@ -46,8 +46,8 @@ use Rattle.connected_clients.proofs.Alike.{more_than_none, same_names-refl, same
 use Rattle.connected_clients.specs.declared.fingerprint.OutputFlags.{OutputFlags}
 use Rattle.connected_clients.specs.Clients.{Watched, is_this, names_of, options, output_flags, playing, raised_between, raised_for_all, raised_within, same_names, same_options, same_outputs, same_pairs, same_playing, watched_at}
 use Rattle.player_state.specs.Libraries.{library_after, same_songs, songs_after}
-use Rattle.partition.specs.Step.{moved_client, sender_number, place_at}
-use Rattle.partition.specs.World.{PartWorld, World, WorldTransition, Differs, DiffersAt, DiffersBetween, DiffersForAll, DiffersWithin, names_in, part_in, part_world_after, parts_changed, past_after, place_of, raised_at, unplayed, watched_by, watched_in, world_after_transition, world_at, world_moved_output, worlds_moved}
+use Rattle.partition.specs.Step.{moved_client, sender_number, index_at}
+use Rattle.partition.specs.World.{PartWorld, World, WorldTransition, Differs, DiffersAt, DiffersBetween, DiffersForAll, DiffersWithin, names_in, part_in, part_world_after, parts_changed, past_after, index_of, raised_at, unplayed, watched_by, watched_in, world_after_transition, world_at, world_moved_output, worlds_moved}
 use Rattle.partition.specs.Notices.{AgreeButForUnwatched, AgreesButForUnwatched, AllAgree, NoneDiffers}
 
 -- a test that answers true only of two that are one, and of each with itself
@@ -111,11 +111,11 @@ names_watched : (ps : List PartWorld) → names_of (map watched_by ps) ≡ map (
 names_watched [] = refl
 names_watched (p ∷ ps) = ap (λ (l : List (List ℕ)). p.name ∷ l) (names_watched ps)
 
-watched_found : (place : ℕ) (ps : List PartWorld) → watched_at place (map watched_by ps) ≡ option_map watched_by (world_at place ps)
-watched_found place [] = refl
-watched_found place (p ∷ ps) =
-    elim (p.place == place) as (λ b. (if b then Some (watched_by p) else watched_at place (map watched_by ps)) ≡ option_map watched_by (if b then Some p else world_at place ps))
-    [ true ↦ refl | false ↦ watched_found place ps ]
+watched_found : (index : ℕ) (ps : List PartWorld) → watched_at index (map watched_by ps) ≡ option_map watched_by (world_at index ps)
+watched_found index [] = refl
+watched_found index (p ∷ ps) =
+    elim (p.index == index) as (λ b. (if b then Some (watched_by p) else watched_at index (map watched_by ps)) ≡ option_map watched_by (if b then Some p else world_at index ps))
+    [ true ↦ refl | false ↦ watched_found index ps ]
 
 -- a part of all, of one partition, or of neither
 for_all : {A D : Type 0} → A ↔ D → A ↔ (D ⊎ ⊥)
@@ -172,12 +172,12 @@ module _ (number : ℕ) (m : WorldTransition) where
   between_differ (Some before) None x = all_differ x
   between_differ None after x = all_differ x
 
-  there_differ : (place : ℕ) (x : Subsystem)
-      → (has (raised_between number (watched_at place (map watched_by m.before.parts)) (watched_at place (map watched_by m.after.parts)) common) x ≡ true) ↔ DiffersAt number place x m
-  there_differ place x =
-      subst (λ (a : Option Watched). (has (raised_between number (watched_at place (map watched_by m.before.parts)) a common) x ≡ true) ↔ DiffersAt number place x m) (sym (watched_found place m.after.parts))
-      (subst (λ (b : Option Watched). (has (raised_between number b (option_map watched_by (world_at place m.after.parts)) common) x ≡ true) ↔ DiffersAt number place x m) (sym (watched_found place m.before.parts))
-      (between_differ (world_at place m.before.parts) (world_at place m.after.parts) x))
+  there_differ : (index : ℕ) (x : Subsystem)
+      → (has (raised_between number (watched_at index (map watched_by m.before.parts)) (watched_at index (map watched_by m.after.parts)) common) x ≡ true) ↔ DiffersAt number index x m
+  there_differ index x =
+      subst (λ (a : Option Watched). (has (raised_between number (watched_at index (map watched_by m.before.parts)) a common) x ≡ true) ↔ DiffersAt number index x m) (sym (watched_found index m.after.parts))
+      (subst (λ (b : Option Watched). (has (raised_between number b (option_map watched_by (world_at index m.after.parts)) common) x ≡ true) ↔ DiffersAt number index x m) (sym (watched_found index m.before.parts))
+      (between_differ (world_at index m.before.parts) (world_at index m.after.parts) x))
 
 has_all : (x : Subsystem) → has all x ≡ true
 has_all Database = refl
@@ -196,13 +196,13 @@ has_all Partition = refl
 -- by the worlds before and after a transition
 pub raised_differ : (number : ℕ) (m : WorldTransition) (x : Subsystem) → (has (raised_at number m) x ≡ true) ↔ Differs number x m
 raised_differ number m x =
-    let place : ℕ = place_of number m.before.clients in
-    let there : Subsystems = raised_between number (watched_at place (map watched_by m.before.parts)) (watched_at place (map watched_by m.after.parts)) (common number m) in
+    let index : ℕ = index_of number m.before.clients in
+    let there : Subsystems = raised_between number (watched_at index (map watched_by m.before.parts)) (watched_at index (map watched_by m.after.parts)) (common number m) in
     let goes : Bool = is_this (moved_client (sender_number m.event) m.transition.response) number in
-    let Goal : Bool → Type 0 = λ b. (has (if b then all else there) x ≡ true) ↔ ((b ≡ true) ⊎ DiffersAt number place x m) in
+    let Goal : Bool → Type 0 = λ b. (has (if b then all else there) x ≡ true) ↔ ((b ≡ true) ⊎ DiffersAt number index x m) in
     elim goes as Goal [
       | true ↦ (λ e. inl refl, λ s. has_all x)
-      | false ↦ (let differs = there_differ number m place x in (λ e. inr (differs.0 e), λ s. elim s [ inl e ↦ cc | inr d ↦ differs.1 d ]))
+      | false ↦ (let differs = there_differ number m index x in (λ e. inr (differs.0 e), λ s. elim s [ inl e ↦ cc | inr d ↦ differs.1 d ]))
     ]
 
 same_left : (past : List (List Entry)) (left : List Entry) → present past ≡ present (after_event past left) → after_event past left ≡ past
@@ -239,7 +239,7 @@ asked_there (Some job) outputs = refl
 
 same_there : (rate : ℕ) (part : Part) (effect : Effect) → (outputs_after rate part effect).names ≡ part.outputs.names
 same_there rate part (ByCommand (Switches output on)) = refl
-same_there rate part (ByAudio (Wants owes)) = asked_there (wanted rate part owes).job part.outputs
+same_there rate part (ByAudio (Wants owes)) = asked_there (due_job rate part owes).job part.outputs
 same_there rate part (ByAudio (Settles output written discarded failed)) =
     elim failed as (λ b. (if b then broken part.outputs output else part.outputs).names ≡ part.outputs.names) [ true ↦ refl | false ↦ refl ]
 same_there rate part _ = refl
@@ -277,13 +277,13 @@ same_limit rate part (ByCommand (SetsConsume consume)) = refl
 same_limit rate part (ByCommand (SetsCrossfade seconds)) = refl
 same_limit rate part (ByCommand ClearsError) = refl
 same_limit rate part (ByCommand Plays) = (numbers_rise part.player (Play (entries part))).3
-same_limit rate part (ByCommand (PlaysPlace place)) = play_keeps part.player (slice_get (entries part) place)
+same_limit rate part (ByCommand (PlaysPosition position)) = play_keeps part.player (slice_get (entries part) position)
 same_limit rate part (ByCommand (Pauses on)) = (numbers_rise part.player (Pause on)).3
 same_limit rate part (ByCommand TogglesPause) = (numbers_rise part.player TogglePause).3
 same_limit rate part (ByCommand Stops) = (numbers_rise part.player Stop).3
 same_limit rate part (ByCommand GoesOn) = (numbers_rise part.player (Next (entries part))).3
 same_limit rate part (ByCommand GoesBack) = (numbers_rise part.player (Previous (entries part))).3
-same_limit rate part (ByCommand (Seeks place frame)) = seek_keeps part.player (slice_get (entries part) place) frame
+same_limit rate part (ByCommand (Seeks position frame)) = seek_keeps part.player (slice_get (entries part) position) frame
 same_limit rate part (ByCommand (Switches output on)) = refl
 same_limit rate part (ByAudio (Wants owes)) = (numbers_rise part.player (Want rate (entries part) (any_enabled part.outputs) owes)).3
 same_limit rate part (ByAudio (Accepts number frames)) = (numbers_rise part.player (Have (entries part) number frames)).3
@@ -298,7 +298,7 @@ same_limit rate part (ByCommand (Leaves client)) = refl
 -- what an event can leave of a partition: its number, its name, its limits and the names of the outputs stay, and
 -- its past is as it was where the present queue is
 record Comes (before after : PartWorld) : Type 0 where
-  place : after.place ≡ before.place
+  index : after.index ≡ before.index
   name : after.name ≡ before.name
   limits : after.limits ≡ before.limits
   past : present before.past ≡ present after.past → after.past ≡ before.past
@@ -306,11 +306,11 @@ record Comes (before after : PartWorld) : Type 0 where
   names : after.outputs.names ≡ before.outputs.names
 
 comes_same : (p : PartWorld) → Comes p p
-comes_same p = record { place = refl; name = refl; limits = refl; past = λ e. refl; limit = refl; names = refl }
+comes_same p = record { index = refl; name = refl; limits = refl; past = λ e. refl; limit = refl; names = refl }
 
 comes_after : (rate : ℕ) (p : PartWorld) (effect : Effect) → Comes p (part_world_after rate (part_in p) p effect)
 comes_after rate p effect = record {
-  place = refl;
+  index = refl;
   name = refl;
   limits = refl;
   past = same_past p.past (change_of rate (part_in p) effect);
@@ -328,15 +328,15 @@ moved_names output false c outputs =
 comes_moved : (output to : ℕ) (c : Option Carried) (p q : PartWorld) → Comes p q → Comes p (world_moved_output output to c q)
 comes_moved output to None p q comes = comes
 comes_moved output to (Some c) p q comes = record {
-  place = comes.place;
+  index = comes.index;
   name = comes.name;
   limits = comes.limits;
   past = comes.past;
   limit = comes.limit;
-  names = moved_names output (q.place == to) c q.outputs ∙ comes.names;
+  names = moved_names output (q.index == to) c q.outputs ∙ comes.names;
 }
 
--- each of some comes from the one at its place
+-- each of some comes from the one at its index
 abbrev AllCome : List PartWorld → List PartWorld → Type 0
 AllCome [] [] = Unit {0}
 AllCome [] (q ∷ qs) = ⊥
@@ -347,11 +347,11 @@ all_same : (ps : List PartWorld) → AllCome ps ps
 all_same [] = tt
 all_same (p ∷ ps) = (comes_same p, all_same ps)
 
-all_changed : (rate place : ℕ) (effect : Effect) (ps : List PartWorld) → AllCome ps (parts_changed rate place effect ps)
-all_changed rate place effect [] = tt
-all_changed rate place effect (p ∷ ps) =
-    elim (p.place == place) as (λ b. AllCome (p ∷ ps) (if b then part_world_after rate (part_in p) p effect ∷ ps else p ∷ parts_changed rate place effect ps))
-    [ true ↦ (comes_after rate p effect, all_same ps) | false ↦ (comes_same p, all_changed rate place effect ps) ]
+all_changed : (rate index : ℕ) (effect : Effect) (ps : List PartWorld) → AllCome ps (parts_changed rate index effect ps)
+all_changed rate index effect [] = tt
+all_changed rate index effect (p ∷ ps) =
+    elim (p.index == index) as (λ b. AllCome (p ∷ ps) (if b then part_world_after rate (part_in p) p effect ∷ ps else p ∷ parts_changed rate index effect ps))
+    [ true ↦ (comes_after rate p effect, all_same ps) | false ↦ (comes_same p, all_changed rate index effect ps) ]
 
 all_moved : (output to : ℕ) (c : Option Carried) (ps qs : List PartWorld) → AllCome ps qs → AllCome ps (map (world_moved_output output to c) qs)
 all_moved output to c [] [] come = tt
@@ -398,7 +398,7 @@ all_come (Opens new) ps qs come as_long =
     elim (nat_lt (length qs) 16) as (λ b. length (if b then qs ++ unplayed new ∷ [] else qs) ≡ length ps → AllCome ps (if b then qs ++ unplayed new ∷ [] else qs))
     [ true ↦ λ e. absurd (omega (arith, many, more, e)) | false ↦ λ e. come ] as_long
 all_come (Closes gone) ps qs come as_long =
-    let left : filter (λ (p : PartWorld). not (p.place == gone)) qs ≡ qs = kept_all (λ (p : PartWorld). not (p.place == gone)) qs (as_long ∙ sym (as_many ps qs come)) in
+    let left : filter (λ (p : PartWorld). not (p.index == gone)) qs ≡ qs = kept_all (λ (p : PartWorld). not (p.index == gone)) qs (as_long ∙ sym (as_many ps qs come)) in
     subst (AllCome ps) (sym left) come
 all_come (Brings output to) ps qs come as_long = all_moved output to (carried_in output to (map known (map part_in qs))) ps qs come
 
@@ -415,7 +415,7 @@ agree_one was after comes none =
     sym (decides same_outputs same_outputs-true same_outputs-refl (output_flags was.outputs) (output_flags after.outputs) (none 0 Output)) in
     let listening : pairs was.channels ≡ pairs after.channels = decides same_pairs same_pairs-true same_pairs-refl (pairs was.channels) (pairs after.channels) (none 0 Subscription) in (
       λ j. record {
-        place = comes.place j;
+        index = comes.index j;
         name = comes.name j;
         past = past j;
         limits = comes.limits j;
@@ -425,7 +425,7 @@ agree_one was after comes none =
           crossfade = (set j).crossfade;
           playback = (played j).playback;
           current = (played j).current;
-          place = after.player.place;
+          offset = after.player.offset;
           starts = (played j).starts;
           cuts = (played j).cuts;
           error = (played j).error;
@@ -462,9 +462,9 @@ agree before i event t notices report none none_within =
     let names : names_in before ≡ names_in world = decides same_names same_names-true same_names-refl (names_in before) (names_in world) (none Partition) in
     let as_long : length world.parts ≡ length before.parts =
     sym (map_length (λ (p : PartWorld). p.name) world.parts) ∙ ap length (sym names) ∙ map_length (λ (p : PartWorld). p.name) before.parts in
-    let changed : List PartWorld = parts_changed before.library.rate (place_at i event) t.effect before.parts in
+    let changed : List PartWorld = parts_changed before.library.rate (index_at i event) t.effect before.parts in
     let come : AllCome before.parts world.parts =
-    all_come t.crossing before.parts changed (all_changed before.library.rate (place_at i event) t.effect before.parts) as_long in (
+    all_come t.crossing before.parts changed (all_changed before.library.rate (index_at i event) t.effect before.parts) as_long in (
       λ j. record { parts = world.parts; library = library j; clients = world.clients; ended = world.ended; openings = before.openings },
       agree_all before.parts world.parts come none_within,
     )

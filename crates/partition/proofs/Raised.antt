@@ -32,7 +32,7 @@ use Rattle.transitions.specs.Shelves.{changes_lists, changes_stickers}
 use Rattle.transitions.specs.declared.shelf_calls.ShelfWrite.{ShelfWrite}
 use Rattle.connected_clients.proofs.Alike.{same_names-refl, same_names-true, same_options-refl, same_outputs-refl, same_pairs-refl, same_playing-refl}
 use Rattle.connected_clients.proofs.Listeners.{among_waiting, changes}
-use Rattle.partition.specs.Step.{ended_after, moved_client, sender_number, place_at, raised_by, raised_of, report_at, after_transition, told_by}
+use Rattle.partition.specs.Step.{ended_after, moved_client, sender_number, index_at, raised_by, raised_of, report_at, after_transition, told_by}
 use Rattle.partition.proofs.Parts.{added_length, kept_all, map_length}
 
 pub differ-self : (b : Bool) → differ b b ≡ false
@@ -82,16 +82,16 @@ by_count ps qs as_many =
     cases (nat_eq (length ps) (length qs)) refl
 
 -- an event of a partition leaves the names and how many there are
-changed_names : (rate place : ℕ) (effect : Effect) (ps : List Part) → named_in (changed rate place effect ps) ≡ named_in ps
-changed_names rate place effect [] = refl
-changed_names rate place effect (p ∷ ps) =
-    elim (p.place == place) as (λ b. named_in (if b then part_after rate p effect ∷ ps else p ∷ changed rate place effect ps) ≡ p.name ∷ named_in ps)
-    [ true ↦ refl | false ↦ ap (λ (l : List (List ℕ)). p.name ∷ l) (changed_names rate place effect ps) ]
+changed_names : (rate index : ℕ) (effect : Effect) (ps : List Part) → named_in (changed rate index effect ps) ≡ named_in ps
+changed_names rate index effect [] = refl
+changed_names rate index effect (p ∷ ps) =
+    elim (p.index == index) as (λ b. named_in (if b then part_after rate p effect ∷ ps else p ∷ changed rate index effect ps) ≡ p.name ∷ named_in ps)
+    [ true ↦ refl | false ↦ ap (λ (l : List (List ℕ)). p.name ∷ l) (changed_names rate index effect ps) ]
 
-changed_length : (rate place : ℕ) (effect : Effect) (ps : List Part) → length (changed rate place effect ps) ≡ length ps
-changed_length rate place effect ps =
+changed_length : (rate index : ℕ) (effect : Effect) (ps : List Part) → length (changed rate index effect ps) ≡ length ps
+changed_length rate index effect ps =
     let long : (xs : List Part) → length (named_in xs) ≡ length xs = λ xs. map_length (λ (w : Watched). w.name) (map watched_of xs) ∙ map_length watched_of xs in
-    sym (long (changed rate place effect ps)) ∙ ap length (changed_names rate place effect ps) ∙ long ps
+    sym (long (changed rate index effect ps)) ∙ ap length (changed_names rate index effect ps) ∙ long ps
 
 moved_name : (output to : ℕ) (c : Option Carried) (p : Part) → (moved_output output to c p).name ≡ p.name
 moved_name output to None p = refl
@@ -108,26 +108,26 @@ crossed_names (Opens new) ps e =
     let more = added_length ps new in
     elim (nat_lt (length ps) 16) as (λ b. length (if b then ps ++ new ∷ [] else ps) ≡ length ps → named_in (if b then ps ++ new ∷ [] else ps) ≡ named_in ps)
     [ true ↦ λ h. absurd (omega (arith, more, h)) | false ↦ λ h. refl ] e
-crossed_names (Closes gone) ps e = ap named_in (kept_all (λ (p : Part). not (p.place == gone)) ps e)
+crossed_names (Closes gone) ps e = ap named_in (kept_all (λ (p : Part). not (p.index == gone)) ps e)
 crossed_names (Brings output to) ps e = moved_names output to (carried_in output to (map known ps)) ps
 
-names_told : (rate place : ℕ) (t : TransitionData) (ps : List Part) → same_names (named_in ps) (named_in (parts_after rate place t ps)) ≡ nat_eq (length ps) (length (parts_after rate place t ps))
-names_told rate place t ps =
-    let next : List Part = changed rate place t.effect ps in
+names_told : (rate index : ℕ) (t : TransitionData) (ps : List Part) → same_names (named_in ps) (named_in (parts_after rate index t ps)) ≡ nat_eq (length ps) (length (parts_after rate index t ps))
+names_told rate index t ps =
+    let next : List Part = changed rate index t.effect ps in
     by_count ps (parts_moved t.crossing next)
-    (λ e. crossed_names t.crossing next (e ∙ sym (changed_length rate place t.effect ps)) ∙ changed_names rate place t.effect ps)
+    (λ e. crossed_names t.crossing next (e ∙ sym (changed_length rate index t.effect ps)) ∙ changed_names rate index t.effect ps)
 
-watched_part : (place : ℕ) (ps : List Part) → watched_at place (map watched_of ps) ≡ option_map watched_of (part_at place ps)
-watched_part place [] = refl
-watched_part place (p ∷ ps) =
-    elim (p.place == place) as (λ b. (if b then Some (watched_of p) else watched_at place (map watched_of ps)) ≡ option_map watched_of (if b then Some p else part_at place ps))
-    [ true ↦ refl | false ↦ watched_part place ps ]
+watched_part : (index : ℕ) (ps : List Part) → watched_at index (map watched_of ps) ≡ option_map watched_of (part_at index ps)
+watched_part index [] = refl
+watched_part index (p ∷ ps) =
+    elim (p.index == index) as (λ b. (if b then Some (watched_of p) else watched_at index (map watched_of ps)) ≡ option_map watched_of (if b then Some p else part_at index ps))
+    [ true ↦ refl | false ↦ watched_part index ps ]
 
-outputs_part : (place : ℕ) (ps : List Part) → outputs_at place (map outputs_in ps) ≡ option_map (λ (p : Part). output_flags p.outputs) (part_at place ps)
-outputs_part place [] = refl
-outputs_part place (p ∷ ps) =
-    elim (p.place == place) as (λ b. (if b then Some (output_flags p.outputs) else outputs_at place (map outputs_in ps)) ≡ option_map (λ (p : Part). output_flags p.outputs) (if b then Some p else part_at place ps))
-    [ true ↦ refl | false ↦ outputs_part place ps ]
+outputs_part : (index : ℕ) (ps : List Part) → outputs_at index (map outputs_in ps) ≡ option_map (λ (p : Part). output_flags p.outputs) (part_at index ps)
+outputs_part index [] = refl
+outputs_part index (p ∷ ps) =
+    elim (p.index == index) as (λ b. (if b then Some (output_flags p.outputs) else outputs_at index (map outputs_in ps)) ≡ option_map (λ (p : Part). output_flags p.outputs) (if b then Some p else part_at index ps))
+    [ true ↦ refl | false ↦ outputs_part index ps ]
 
 -- what is raised in a partition of which the same is there before and after, but for its outputs
 module _ (number : ℕ) (database update lists stickers partitions : Bool) where
@@ -166,20 +166,20 @@ module _ (number : ℕ) (database update lists stickers partitions : Bool) where
   moved_watched output to (Some c) p = refl
 
   -- in a partition that the event is not of
-  module _ (place rate own : ℕ) (apart : own ≢ place) (effect : Effect) (ps : List Part) where
+  module _ (index rate own : ℕ) (apart : own ≢ index) (effect : Effect) (ps : List Part) where
     abbrev next : List Part
     next = changed rate own effect ps
 
     abbrev before : Option Part
-    before = part_at place ps
+    before = part_at index ps
 
     abbrev Elsewhere : Crossing → Type 0
     Elsewhere c =
-        with_output (outputs_differ place (outputs_before c ps) (parts_moved c next))
-        ≡ raised_between number (option_map watched_of before) (option_map watched_of (part_at place (parts_moved c next))) common
+        with_output (outputs_differ index (outputs_before c ps) (parts_moved c next))
+        ≡ raised_between number (option_map watched_of before) (option_map watched_of (part_at index (parts_moved c next))) common
 
-    left : (c : Crossing) → part_at place (parts_moved c next) ≡ own_moved place c (map known next) before
-    left c = part_moved place c next ∙ ap (own_moved place c (map known next)) (other_changed place rate own effect ps apart)
+    left : (c : Crossing) → part_at index (parts_moved c next) ≡ own_moved index c (map known next) before
+    left c = part_moved index c next ∙ ap (own_moved index c (map known next)) (other_changed index rate own effect ps apart)
 
     opened : (o : Option Part) (new : Option Part) → common ≡ raised_between number (option_map watched_of o) (option_map watched_of (or_else o new)) common
     opened None new = refl
@@ -200,35 +200,35 @@ module _ (number : ℕ) (database update lists stickers partitions : Bool) where
         sym (same_between (option_map watched_of before))
         ∙ ap (λ (o : Option Part). raised_between number (option_map watched_of before) (option_map watched_of o) common) (sym (left Stays))
     elsewhere (Opens new) =
-        opened before (if_new place (nat_lt (length (map known next)) 16) new)
+        opened before (if_new index (nat_lt (length (map known next)) 16) new)
         ∙ ap (λ (o : Option Part). raised_between number (option_map watched_of before) (option_map watched_of o) common) (sym (left (Opens new)))
     elsewhere (Closes gone) =
-        closed before (gone == place)
+        closed before (gone == index)
         ∙ ap (λ (o : Option Part). raised_between number (option_map watched_of before) (option_map watched_of o) common) (sym (left (Closes gone)))
     elsewhere (Brings output to) =
         let c : Option Carried = carried_in output to (map known next) in
-        ap (λ (o : Option Part). with_output (outputs_differ_from (outputs_at place (map outputs_in ps)) o)) (left (Brings output to))
-        ∙ ap (λ e. with_output (outputs_differ_from e (option_map (moved_output output to c) before))) (outputs_part place ps)
+        ap (λ (o : Option Part). with_output (outputs_differ_from (outputs_at index (map outputs_in ps)) o)) (left (Brings output to))
+        ∙ ap (λ e. with_output (outputs_differ_from e (option_map (moved_output output to c) before))) (outputs_part index ps)
         ∙ brought output to c before
         ∙ ap (λ (o : Option Part). raised_between number (option_map watched_of before) (option_map watched_of o) common) (sym (left (Brings output to)))
 
   -- in the partition of the event
-  module _ (place rate : ℕ) (effect : Effect) (ps : List Part) where
+  module _ (index rate : ℕ) (effect : Effect) (ps : List Part) where
     abbrev own_next : List Part
-    own_next = changed rate place effect ps
+    own_next = changed rate index effect ps
 
     abbrev own_before : Option Part
-    own_before = part_at place ps
+    own_before = part_at index ps
 
     -- by the readings of the partition before, and by the partition now
     abbrev read : Option Part → Option Part → Subsystems
     read o p = record (own_by_readings (changes_listeners_in o effect) (option_map readings o) p common) { message = begins_between number (option_map readings o) p }
 
     abbrev Own : Crossing → Type 0
-    Own c = read own_before (part_at place (parts_moved c own_next)) ≡ raised_between number (option_map watched_of own_before) (option_map watched_of (part_at place (parts_moved c own_next))) common
+    Own c = read own_before (part_at index (parts_moved c own_next)) ≡ raised_between number (option_map watched_of own_before) (option_map watched_of (part_at index (parts_moved c own_next))) common
 
-    stood : (c : Crossing) → part_at place (parts_moved c own_next) ≡ own_moved place c (map known own_next) (option_map (λ (p : Part). part_after rate p effect) own_before)
-    stood c = part_moved place c own_next ∙ ap (own_moved place c (map known own_next)) (own_changed place rate effect ps)
+    stood : (c : Crossing) → part_at index (parts_moved c own_next) ≡ own_moved index c (map known own_next) (option_map (λ (p : Part). part_after rate p effect) own_before)
+    stood c = part_moved index c own_next ∙ ap (own_moved index c (map known own_next)) (own_changed index rate effect ps)
 
     -- where it is there before and after, its queue and its listeners are what the event leaves
     both_read : (p q : Part) → q.queue ≡ queue_after p.queue (change_of rate p effect) → q.channels ≡ channels_after p.channels effect
@@ -259,14 +259,14 @@ module _ (number : ℕ) (database update lists stickers partitions : Bool) where
     abbrev Read : Option Part → Option Part → Type 0
     Read o n = read o n ≡ raised_between number (option_map watched_of o) (option_map watched_of n) common
 
-    read_by : (c : Crossing) (fs : List Known) (o : Option Part) → Read o (own_moved place c fs (option_map (λ (p : Part). part_after rate p effect) o))
+    read_by : (c : Crossing) (fs : List Known) (o : Option Part) → Read o (own_moved index c fs (option_map (λ (p : Part). part_after rate p effect) o))
     read_by Stays fs None = refl
     read_by Stays fs (Some p) = both_read p (part_after rate p effect) refl refl
-    read_by (Opens new) fs None = new_read (or_else None (if_new place (nat_lt (length fs) 16) new))
+    read_by (Opens new) fs None = new_read (or_else None (if_new index (nat_lt (length fs) 16) new))
     read_by (Opens new) fs (Some p) = both_read p (part_after rate p effect) refl refl
-    read_by (Closes gone) fs None = elim (gone == place) as (λ b. Read None (if b then None else None)) [ true ↦ refl | false ↦ refl ]
+    read_by (Closes gone) fs None = elim (gone == index) as (λ b. Read None (if b then None else None)) [ true ↦ refl | false ↦ refl ]
     read_by (Closes gone) fs (Some p) =
-        elim (gone == place) as (λ b. Read (Some p) (if b then None else Some (part_after rate p effect))) [ true ↦ gone_read (Some p) | false ↦ both_read p (part_after rate p effect) refl refl ]
+        elim (gone == index) as (λ b. Read (Some p) (if b then None else Some (part_after rate p effect))) [ true ↦ gone_read (Some p) | false ↦ both_read p (part_after rate p effect) refl refl ]
     read_by (Brings output to) fs None = refl
     read_by (Brings output to) fs (Some p) = moved_read output to (carried_in output to fs) p
 
@@ -274,39 +274,39 @@ module _ (number : ℕ) (database update lists stickers partitions : Bool) where
     own_read c = subst (Read own_before) (sym (stood c)) (read_by c (map known own_next) own_before)
 
 -- what the readings before a transition and the daemon after it tell is what it raises
-pub by_fingerprint : (number place : ℕ) (parts : List Part) (library : Library) (t : TransitionData)
-    → raised_in (raised_by_fingerprint (moved_client number t.response) (not (same_songs library.songs (songs_after library t.scan))) (changes_listeners_in (part_at place parts) t.effect) t.written
-    (fingerprint t.crossing place parts library) (parts_after library.rate place t parts) (library_after library t.scan))
-    ≡ raised_by number place parts library t
-by_fingerprint number place parts library t =
+pub by_fingerprint : (number index : ℕ) (parts : List Part) (library : Library) (t : TransitionData)
+    → raised_in (raised_by_fingerprint (moved_client number t.response) (not (same_songs library.songs (songs_after library t.scan))) (changes_listeners_in (part_at index parts) t.effect) t.written
+    (fingerprint t.crossing index parts library) (parts_after library.rate index t parts) (library_after library t.scan))
+    ≡ raised_by number index parts library t
+by_fingerprint number index parts library t =
     let database : Bool = not (same_songs library.songs (songs_after library t.scan)) in
-    let listening : Bool = changes_listeners_in (part_at place parts) t.effect in
-    let after : List Part = parts_after library.rate place t parts in
+    let listening : Bool = changes_listeners_in (part_at index parts) t.effect in
+    let after : List Part = parts_after library.rate index t parts in
     let found : Library = library_after library t.scan in
     let count : Bool = not (nat_eq (length parts) (length after)) in
-    let r : RaisedData = raised_by_fingerprint (moved_client number t.response) database listening t.written (fingerprint t.crossing place parts library) after found in
+    let r : RaisedData = raised_by_fingerprint (moved_client number t.response) database listening t.written (fingerprint t.crossing index parts library) after found in
     let told : Bool → Subsystems = λ b. common 0 database (differ library.scan.runs found.scan.runs) (changes_lists t.written) (changes_stickers t.written) b in
-    let names : count ≡ not (same_names (named_in parts) (named_in after)) = ap not (sym (names_told library.rate place t parts)) in
+    let names : count ≡ not (same_names (named_in parts) (named_in after)) = ap not (sym (names_told library.rate index t parts)) in
     let Goal : Client → Bool → Type 0 = λ client own.
-    (if own then record r.own { message = begins_between client.number r.before.own (part_at place after) } else record r.common { output = outputs_differ client.place r.before.outputs after })
-    ≡ raised_between client.number (option_map watched_of (part_at client.place parts)) (option_map watched_of (part_at client.place after)) (told count) in
-    let one : (client : Client) → Goal client (client.place == place) =
+    (if own then record r.own { message = begins_between client.number r.before.own (part_at index after) } else record r.common { output = outputs_differ client.index r.before.outputs after })
+    ≡ raised_between client.number (option_map watched_of (part_at client.index parts)) (option_map watched_of (part_at client.index after)) (told count) in
+    let one : (client : Client) → Goal client (client.index == index) =
     λ client.
-    let cases : (b : Bool) → (client.place == place) ≡ b → Goal client b =
-    λ b. elim b as (λ b. (client.place == place) ≡ b → Goal client b) [
+    let cases : (b : Bool) → (client.index == index) ≡ b → Goal client b =
+    λ b. elim b as (λ b. (client.index == index) ≡ b → Goal client b) [
       | true ↦ λ e.
-          let same : client.place ≡ place = eqb-true client.place place e in
-          subst (λ q. (record r.own { message = begins_between client.number r.before.own (part_at place after) })
+          let same : client.index ≡ index = eqb-true client.index index e in
+          subst (λ q. (record r.own { message = begins_between client.number r.before.own (part_at index after) })
           ≡ raised_between client.number (option_map watched_of (part_at q parts)) (option_map watched_of (part_at q after)) (told count)) (sym same)
-          (own_read client.number database (differ library.scan.runs found.scan.runs) (changes_lists t.written) (changes_stickers t.written) count place library.rate t.effect parts t.crossing)
+          (own_read client.number database (differ library.scan.runs found.scan.runs) (changes_lists t.written) (changes_stickers t.written) count index library.rate t.effect parts t.crossing)
       | false ↦ λ e.
-          let apart : place ≢ client.place = λ same. (let clash : true ≡ false = sym (eq-eqb client.place place (sym same)) ∙ e in cc) in
-          elsewhere client.number database (differ library.scan.runs found.scan.runs) (changes_lists t.written) (changes_stickers t.written) count client.place library.rate place apart t.effect parts t.crossing
+          let apart : index ≢ client.index = λ same. (let clash : true ≡ false = sym (eq-eqb client.index index (sym same)) ∙ e in cc) in
+          elsewhere client.number database (differ library.scan.runs found.scan.runs) (changes_lists t.written) (changes_stickers t.written) count client.index library.rate index apart t.effect parts t.crossing
     ] in
-    cases (client.place == place) refl in
-    let watched : (client : Client) → raised_between client.number (option_map watched_of (part_at client.place parts)) (option_map watched_of (part_at client.place after)) (told count)
+    cases (client.index == index) refl in
+    let watched : (client : Client) → raised_between client.number (option_map watched_of (part_at client.index parts)) (option_map watched_of (part_at client.index after)) (told count)
     ≡ raised_there t.written (watched_all library parts) (watched_all found after) client =
-    λ client. λ j. raised_between client.number (sym (watched_part client.place parts) j) (sym (watched_part client.place after) j) (told (names j)) in
+    λ client. λ j. raised_between client.number (sym (watched_part client.index parts) j) (sym (watched_part client.index after) j) (told (names j)) in
     λ j client. if is_this (moved_client number t.response) client.number then all else (one client ∙ watched client) j
 
 module _ (i : Image) (event : Event) (t : TransitionData) (parts : List Part) (library : Library) (raised : Client → Subsystems) (response : ResponseData) where
@@ -314,10 +314,10 @@ module _ (i : Image) (event : Event) (t : TransitionData) (parts : List Part) (l
   abbrev pub Shown : Type 0
   Shown =
       raised ≡ raised_in (raised_by_fingerprint (moved_client (sender_number event) t.response) (not (same_songs i.shared.library.songs (songs_after i.shared.library t.scan)))
-      (changes_listeners_in (part_at (place_at i event) i.parts) t.effect) t.written (fingerprint t.crossing (place_at i event) i.parts i.shared.library) parts library)
+      (changes_listeners_in (part_at (index_at i event) i.parts) t.effect) t.written (fingerprint t.crossing (index_at i event) i.parts i.shared.library) parts library)
 
   abbrev pub PartsAre : Type 0
-  PartsAre = parts ≡ parts_after i.shared.library.rate (place_at i event) t i.parts
+  PartsAre = parts ≡ parts_after i.shared.library.rate (index_at i event) t i.parts
 
   abbrev pub LibraryIs : Type 0
   LibraryIs = library ≡ library_after i.shared.library t.scan
@@ -326,8 +326,8 @@ module _ (i : Image) (event : Event) (t : TransitionData) (parts : List Part) (l
   is_raised parts_are library_is raised_is =
       raised_is
       ∙ (λ j. raised_in (raised_by_fingerprint (moved_client (sender_number event) t.response) (not (same_songs i.shared.library.songs (songs_after i.shared.library t.scan)))
-      (changes_listeners_in (part_at (place_at i event) i.parts) t.effect) t.written (fingerprint t.crossing (place_at i event) i.parts i.shared.library) (parts_are j) (library_is j)))
-      ∙ by_fingerprint (sender_number event) (place_at i event) i.parts i.shared.library t
+      (changes_listeners_in (part_at (index_at i event) i.parts) t.effect) t.written (fingerprint t.crossing (index_at i event) i.parts i.shared.library) (parts_are j) (library_is j)))
+      ∙ by_fingerprint (sender_number event) (index_at i event) i.parts i.shared.library t
 
   -- the image after a transition, from what was made of each of its fields
   pub stepped : (books : FrameBooks) (ended : Bool) (clients : List Client) → PartsAre → LibraryIs
@@ -350,9 +350,9 @@ module _ (i : Image) (event : Event) (t : TransitionData) (parts : List Part) (l
   -- what was told by readings that are alike
   pub shown_by : (goes : Option ℕ) (database listening : Bool) (written : ShelfWrite) (before : FingerprintData) (r : RaisedData)
       → r ≡ raised_by_fingerprint goes database listening written before parts library → goes ≡ moved_client (sender_number event) t.response
-      → database ≡ not (same_songs i.shared.library.songs (songs_after i.shared.library t.scan)) → listening ≡ changes_listeners_in (part_at (place_at i event) i.parts) t.effect
-      → written ≡ t.written → before ≡ fingerprint t.crossing (place_at i event) i.parts i.shared.library
+      → database ≡ not (same_songs i.shared.library.songs (songs_after i.shared.library t.scan)) → listening ≡ changes_listeners_in (part_at (index_at i event) i.parts) t.effect
+      → written ≡ t.written → before ≡ fingerprint t.crossing (index_at i event) i.parts i.shared.library
       → raised_in r ≡ raised_in (raised_by_fingerprint (moved_client (sender_number event) t.response) (not (same_songs i.shared.library.songs (songs_after i.shared.library t.scan)))
-      (changes_listeners_in (part_at (place_at i event) i.parts) t.effect) t.written (fingerprint t.crossing (place_at i event) i.parts i.shared.library) parts library)
+      (changes_listeners_in (part_at (index_at i event) i.parts) t.effect) t.written (fingerprint t.crossing (index_at i event) i.parts i.shared.library) parts library)
   shown_by goes database listening written found r is g d l w b =
       ap raised_in is ∙ (λ j. raised_in (raised_by_fingerprint (g j) (d j) (l j) (w j) (b j) parts library))

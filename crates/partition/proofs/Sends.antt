@@ -64,7 +64,7 @@ Rests Learn = ⊥
 Rests Resume = Unit {0}
 Rests Join = ⊥
 Rests (Show tags) = ⊥
-Rests (Enter place) = ⊥
+Rests (Enter index) = ⊥
 
 rests_stays : (answer : Answer) → Rests (move_of (stays answer))
 rests_stays answer = elim (closes answer.next) as (λ b. Rests (if b then Stay else Stay)) [ true ↦ tt | false ↦ tt ]
@@ -79,7 +79,7 @@ module _ (o : Overview) (part : Option Part) (library : Library) (read : Read) (
   wish_moves name Alone command (Some (ToWait more)) w = rw w tt
   wish_moves name Alone command (Some ToGoOn) w = rw w tt
   wish_moves name Alone command (Some (ToShow choice)) w = rw w tt
-  wish_moves name (InList form place) command wish w = rw w tt
+  wish_moves name (InList form number_in_list) command wish w = rw w tt
 
   line_moves : (stand : Stand) (request : Request) → k.pending.waiting ≡ Some named → Rests (move_of (transition_line o part library (Some k) stand request read).response)
   line_moves stand (Run name command) w = wish_moves name stand command (wish_of command) w
@@ -121,9 +121,9 @@ module _ (o : Overview) (part : Option Part) (library : Library) (k : Client) (n
   waiter_rests (Disconnect number) client e = tt
   waiter_rests ScanQuestion client e = tt
   waiter_rests (ScanResult songs second) client e = tt
-  waiter_rests (Want place owes) client e = rests_want part owes
-  waiter_rests (Have place number frames) client e = rests_have part number frames
-  waiter_rests (Failed place number partner) client e = rests_failure part number partner
+  waiter_rests (Want index owes) client e = rests_want part owes
+  waiter_rests (Have index number frames) client e = rests_have part number frames
+  waiter_rests (Failed index number partner) client e = rests_failure part number partner
   waiter_rests End client e = tt
   waiter_rests (OutputTurn output written discarded failed) client e = rests_turn part output written discarded failed
   waiter_rests (Line number stand request heard) client e =
@@ -137,10 +137,10 @@ rests_unwaiting Resume names rests e = cc
 rests_unwaiting _ names rests e = rests
 
 -- nor goes to another partition
-pub rests_here : (move : Move) (place : ℕ) → Rests move → move ≡ Enter place → ⊥
-rests_here Stay place rests e = cc
-rests_here Resume place rests e = cc
-rests_here _ place rests e = rests
+pub rests_here : (move : Move) (index : ℕ) → Rests move → move ≡ Enter index → ⊥
+rests_here Stay index rests e = cc
+rests_here Resume index rests e = cc
+rests_here _ index rests e = rests
 
 -- the turn of an output is nobody's
 turn_unsaid : (part : Option Part) (output written discarded : ℕ) (failed : Bool) → (output_turn part output (Settles output written discarded failed)).response ≡ no_response
@@ -168,9 +168,9 @@ is_other_sender o part library client (Disconnect c) number ne = inl (ne_eqb num
 is_other_sender o part library client (Line c stand request heard) number ne = inl (ne_eqb number c (λ e. ne (ap Some (sym e))))
 is_other_sender o part library client ScanQuestion number ne = inr refl
 is_other_sender o part library client (ScanResult songs second) number ne = inr refl
-is_other_sender o part library client (Want place owes) number ne = inr (want_unsaid o.ended part owes)
-is_other_sender o part library client (Have place job frames) number ne = inr (have_unsaid o.ended part job frames)
-is_other_sender o part library client (Failed place job partner) number ne = inr (failure_unsaid part job partner)
+is_other_sender o part library client (Want index owes) number ne = inr (want_unsaid o.ended part owes)
+is_other_sender o part library client (Have index job frames) number ne = inr (have_unsaid o.ended part job frames)
+is_other_sender o part library client (Failed index job partner) number ne = inr (failure_unsaid part job partner)
 is_other_sender o part library client End number ne = inr refl
 is_other_sender o part library client (OutputTurn output written discarded failed) number ne = inr (turn_unsaid part output written discarded failed)
 
@@ -182,9 +182,9 @@ unsaid o part library client (Disconnect c) e = cc
 unsaid o part library client (Line c stand request heard) e = cc
 unsaid o part library client ScanQuestion e = refl
 unsaid o part library client (ScanResult songs second) e = refl
-unsaid o part library client (Want place owes) e = want_unsaid o.ended part owes
-unsaid o part library client (Have place job frames) e = have_unsaid o.ended part job frames
-unsaid o part library client (Failed place job partner) e = failure_unsaid part job partner
+unsaid o part library client (Want index owes) e = want_unsaid o.ended part owes
+unsaid o part library client (Have index job frames) e = have_unsaid o.ended part job frames
+unsaid o part library client (Failed index job partner) e = failure_unsaid part job partner
 unsaid o part library client End e = refl
 unsaid o part library client (OutputTurn output written discarded failed) e = turn_unsaid part output written discarded failed
 
@@ -208,10 +208,10 @@ module _ (n : ℕ) (r : Client → Subsystems) where
   one_notice : (k : Client) (number : ℕ) (names : Subsystems) → IsIn (record { client = number; names = names }) (notice_for r k)
       → (is_nonempty (news k) ≡ true) × (k.number ≡ number) × (news k ≡ names)
   one_notice k number names =
-      let wanted : Notice = record { client = number; names = names } in
+      let expected : Notice = record { client = number; names = names } in
       let Goal : Type 0 = (is_nonempty (news k) ≡ true) × (k.number ≡ number) × (news k ≡ names) in
-      let cases : (b : Bool) → is_nonempty (news k) ≡ b → IsIn wanted (notice_to k.number (if b then Some (news k) else None)) → Goal =
-      λ b. elim b as (λ b. is_nonempty (news k) ≡ b → IsIn wanted (notice_to k.number (if b then Some (news k) else None)) → Goal) [
+      let cases : (b : Bool) → is_nonempty (news k) ≡ b → IsIn expected (notice_to k.number (if b then Some (news k) else None)) → Goal =
+      λ b. elim b as (λ b. is_nonempty (news k) ≡ b → IsIn expected (notice_to k.number (if b then Some (news k) else None)) → Goal) [
         | true ↦ λ e h. elim h [ inl same ↦ (e, ap (λ (x : Notice). x.client) same, ap (λ (x : Notice). x.names) same) | inr none ↦ absurd none ]
         | false ↦ λ e h. absurd h
       ] in
@@ -241,7 +241,7 @@ module _ (n : ℕ) (r : Client → Subsystems) where
   does Resume k = at n cancelled k
   does Join k = k
   does (Show tags) k = shown n tags k
-  does (Enter place) k = entered n place k
+  does (Enter index) k = entered n index k
 
   pub does_keeps : (move : Move) (k : Client) → (does move k).number ≡ k.number
   does_keeps Stay k = refl
@@ -250,7 +250,7 @@ module _ (n : ℕ) (r : Client → Subsystems) where
   does_keeps Resume k = at_keeps n cancelled k
   does_keeps Join k = refl
   does_keeps (Show tags) k = shown_keeps n tags k
-  does_keeps (Enter place) k = entered_keeps n place k
+  does_keeps (Enter index) k = entered_keeps n index k
 
   pub does_other : (move : Move) (k : Client) → (k.number == n) ≡ false → does move k ≡ k
   does_other Stay k e = refl
@@ -259,7 +259,7 @@ module _ (n : ℕ) (r : Client → Subsystems) where
   does_other Resume k e = rw e refl
   does_other Join k e = refl
   does_other (Show tags) k e = rw e refl
-  does_other (Enter place) k e = rw e refl
+  does_other (Enter index) k e = rw e refl
 
   -- a client that does not wait goes on so, unless it is the one that begins to wait
   pub does_none : (move : Move) (k : Client) → k.pending.waiting ≡ None → ((names : Subsystems) → move ≡ Wait names → k.number ≡ n → ⊥)
@@ -277,8 +277,8 @@ module _ (n : ℕ) (r : Client → Subsystems) where
   does_none Join k w free = w
   does_none (Show tags) k w free =
       elim (k.number == n) as (λ b. (if b then record k { tags = tags } else k).pending.waiting ≡ None) [ true ↦ w | false ↦ w ]
-  does_none (Enter place) k w free =
-      elim (k.number == n) as (λ b. (if b then record k { place = place; pending = everything } else k).pending.waiting ≡ None) [ true ↦ refl | false ↦ w ]
+  does_none (Enter index) k w free =
+      elim (k.number == n) as (λ b. (if b then record k { index = index; pending = everything } else k).pending.waiting ≡ None) [ true ↦ refl | false ↦ w ]
 
   pub does_wait : (names : Subsystems) (k : Client) → k.number ≡ n → (does (Wait names) k).pending.waiting ≡ Some names
   does_wait names k e = (let same : (k.number == n) ≡ true = eq-eqb k.number n e in rw same refl)
@@ -289,11 +289,11 @@ module _ (n : ℕ) (r : Client → Subsystems) where
   moved_in Learn k ks e = in_map (at n (λ p. fresh)) k ks e
   moved_in Resume k ks e = in_map (at n cancelled) k ks e
   moved_in Join k ks e =
-      let place : ℕ = position_or_len (λ c. nat_lt n c.number) ks in
-      elim (is_some (client_of n ks)) as (λ b. IsIn k (if b then ks else insert ks place (newcomer n)))
-      [ true ↦ e | false ↦ in_insert k ks place (newcomer n) e ]
+      let index : ℕ = position_or_len (λ c. nat_lt n c.number) ks in
+      elim (is_some (client_of n ks)) as (λ b. IsIn k (if b then ks else insert ks index (newcomer n)))
+      [ true ↦ e | false ↦ in_insert k ks index (newcomer n) e ]
   moved_in (Show tags) k ks e = in_map (shown n tags) k ks e
-  moved_in (Enter place) k ks e = in_map (entered n place) k ks e
+  moved_in (Enter index) k ks e = in_map (entered n index) k ks e
 
   -- a client that does not wait goes on so as it hears, and one that is told waits no more
   pub notified_none : (k : Client) → k.pending.waiting ≡ None → (notified r k).pending.waiting ≡ None

@@ -16,11 +16,11 @@ use Rattle.transitions.specs.Transitions.{TransitionData, parts_after}
 use Rattle.connected_clients.specs.Clients.{client_of}
 use Rattle.player_state.specs.Outputs.{FrameBooks, books_after}
 use Rattle.partition.specs.Since.{shown_part, world_of, world_transition_at, world_transitions_from, flags_of, kept_for, IsPendingSince, HasPendingSince, books_since}
-use Rattle.partition.specs.Step.{moved_client, transition, sender_number, place_at, raised_of, report_at, after_transition, next_image, told}
+use Rattle.partition.specs.Step.{moved_client, transition, sender_number, index_at, raised_of, report_at, after_transition, next_image, told}
 use Rattle.player_state.specs.declared.state.Part.{Part}
 use Rattle.player_state.specs.Libraries.{library_after}
 use Rattle.partition.specs.Notices.{IsIn}
-use Rattle.partition.specs.World.{WorldTransition, raised_at, raised_for, is_there, begins_anew, books_of, listener_of, place_of, watched_by, NeverAnew}
+use Rattle.partition.specs.World.{WorldTransition, raised_at, raised_for, is_there, begins_anew, books_of, listener_of, index_of, watched_by, NeverAnew}
 use Rattle.partition.proofs.Notified.{Each, flagged, all_stand}
 use Rattle.partition.proofs.Parts.{raised_differ}
 use Rattle.partition.proofs.Pending.{has_union, has_none, either, or_right, or_left, longer}
@@ -132,13 +132,13 @@ watched_shown [] = refl
 watched_shown (p ∷ ps) = ap (λ (l : List Watched). watched_of p ∷ l) (watched_shown ps)
 
 -- where a client is that is found by its number
-place_shown : (n : ℕ) (k : Client) (ks : List Client) → client_of n ks ≡ Some k → place_of n (map listener_of ks) ≡ k.place
-place_shown n k [] e = cc
-place_shown n k (c ∷ cs) e =
-    let cases : (b : Bool) → (c.number == n) ≡ b → (if b then Some c else client_of n cs) ≡ Some k → (if b then c.place else place_of n (map listener_of cs)) ≡ k.place =
-    λ b. elim b as (λ b. (c.number == n) ≡ b → (if b then Some c else client_of n cs) ≡ Some k → (if b then c.place else place_of n (map listener_of cs)) ≡ k.place) [
-      | true ↦ λ t h. (let same : c ≡ k = cc in ap (λ (x : Client). x.place) same)
-      | false ↦ λ t h. place_shown n k cs h
+index_shown : (n : ℕ) (k : Client) (ks : List Client) → client_of n ks ≡ Some k → index_of n (map listener_of ks) ≡ k.index
+index_shown n k [] e = cc
+index_shown n k (c ∷ cs) e =
+    let cases : (b : Bool) → (c.number == n) ≡ b → (if b then Some c else client_of n cs) ≡ Some k → (if b then c.index else index_of n (map listener_of cs)) ≡ k.index =
+    λ b. elim b as (λ b. (c.number == n) ≡ b → (if b then Some c else client_of n cs) ≡ Some k → (if b then c.index else index_of n (map listener_of cs)) ≡ k.index) [
+      | true ↦ λ t h. (let same : c ≡ k = cc in ap (λ (x : Client). x.index) same)
+      | false ↦ λ t h. index_shown n k cs h
     ] in
     cases (c.number == n) refl e
 
@@ -147,11 +147,11 @@ raised_so : (i : Image) (h : LogEntry) → Rising i.clients → (k : Client) →
 unfolding next_image
 raised_so i h rising k among_them =
     let t : TransitionData = transition i h.event in
-    let place : place_of k.number (map listener_of i.clients) ≡ k.place = place_shown k.number k i.clients (found k i.clients rising among_them) in
-    let after : List Part = parts_after i.shared.library.rate (place_at i h.event) t i.parts in
+    let index : index_of k.number (map listener_of i.clients) ≡ k.index = index_shown k.number k i.clients (found k i.clients rising among_them) in
+    let after : List Part = parts_after i.shared.library.rate (index_at i h.event) t i.parts in
     (λ j. raised (moved_client (sender_number h.event) t.response) t.written (record { library = i.shared.library; parts = sym (watched_shown i.parts) j })
     (record { library = library_after i.shared.library t.scan; parts = sym (watched_shown after) j }) k)
-    ∙ ap (λ (p : ℕ). raised_for (world_transition_at i h) (record (newcomer k.number) { place = p })) (sym place)
+    ∙ ap (λ (p : ℕ). raised_for (world_transition_at i h) (record (newcomer k.number) { index = p })) (sym index)
 
 module _ (base : Image) where
   -- clients are in the order of their numbers, their flags are what is pending since the base, and the frames

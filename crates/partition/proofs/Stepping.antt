@@ -12,7 +12,7 @@ use Rattle.transitions.specs.Shelves.{is_written}
 use Rattle.transitions.specs.Transitions.{acts}
 use Rattle.partition_table.specs.Parts.{part_at}
 use Rattle.partition.specs.Image.{Image, Overview, overview}
-use Rattle.partition.specs.Step.{absent, failure, have, output_turn, place_at, sender_in, transition, transition_of, want}
+use Rattle.partition.specs.Step.{absent, failure, have, output_turn, index_at, sender_in, transition, transition_of, want}
 use Rattle.player_events.specs.Events.{with_store_reply}
 use Rattle.player_events.specs.Events.{is_line}
 
@@ -23,9 +23,9 @@ hears_nothing (Connect number) heard step = refl
 hears_nothing (Disconnect number) heard step = refl
 hears_nothing ScanQuestion heard step = refl
 hears_nothing (ScanResult songs second) heard step = refl
-hears_nothing (Want place owes) heard step = refl
-hears_nothing (Have place number frames) heard step = refl
-hears_nothing (Failed place number partner) heard step = refl
+hears_nothing (Want index owes) heard step = refl
+hears_nothing (Have index number frames) heard step = refl
+hears_nothing (Failed index number partner) heard step = refl
 hears_nothing (OutputTurn output written discarded failed) heard step = refl
 hears_nothing End heard step = refl
 
@@ -54,11 +54,11 @@ steps_write_nothing o part library client (Connect number) step = refl
 steps_write_nothing o part library client (Disconnect number) step = refl
 steps_write_nothing o part library client ScanQuestion step = refl
 steps_write_nothing o part library client (ScanResult songs second) step = refl
-steps_write_nothing o part library client (Want place owes) step = want_writes o.ended part owes
-steps_write_nothing o part library client (Have place number frames) step = have_writes o.ended part number frames
-steps_write_nothing o part library client (Failed place number partner) step = failure_writes part number partner
+steps_write_nothing o part library client (Want index owes) step = want_writes o.ended part owes
+steps_write_nothing o part library client (Have index number frames) step = have_writes o.ended part number frames
+steps_write_nothing o part library client (Failed index number partner) step = failure_writes part number partner
 steps_write_nothing o part library client (OutputTurn output written discarded failed) step = turn_writes part output written discarded failed
 steps_write_nothing o part library client End step = refl
 
 pub writes_nothing : (i : Image) (event : Event) → is_line event ≡ false → is_written (transition i event).written ≡ false
-writes_nothing i event step = steps_write_nothing (overview i) (part_at (place_at i event) i.parts) i.shared.library (sender_in i.clients event) event step
+writes_nothing i event step = steps_write_nothing (overview i) (part_at (index_at i event) i.parts) i.shared.library (sender_in i.clients event) event step

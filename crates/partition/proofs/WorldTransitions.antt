@@ -31,13 +31,13 @@ use Rattle.transitions.specs.Transitions.{TransitionData}
 use Rattle.connected_clients.specs.Clients.{client_of}
 use Rattle.player_state.specs.Libraries.{library_after}
 use Rattle.partition.specs.Image.{overview}
-use Rattle.partition.specs.Step.{moved_client, transition, transition_of, transition_line, written_transition, place_at, raised_of, report_at, sender, sender_in, sender_number, after_transition, told_by}
+use Rattle.partition.specs.Step.{moved_client, transition, transition_of, transition_line, written_transition, index_at, raised_of, report_at, sender, sender_in, sender_number, after_transition, told_by}
 use Rattle.partition_table.specs.Parts.{part_at}
 use Rattle.player_state.specs.declared.effect.CommandEffect.TheVariants.{Rests}
 use Rattle.player_state.specs.declared.effect.Effect.TheVariants.{ByCommand}
 use Rattle.player_state.specs.declared.state.Part.{Part}
 use Rattle.mpd_command.specs.declared.request.Request.{Request}
-use Rattle.partition.specs.World.{Listener, PartWorld, WorldTransition, Trace, Differs, DiffersBetween, DiffersForAll, DiffersWithin, IsPending, raised_at, is_there, is_learning, is_told, begins_anew, part_in, part_world_after, parts_changed, pending_for, place_of, client_in, listener_of, image_of, world_at, worlds_moved, world_after_transition}
+use Rattle.partition.specs.World.{Listener, PartWorld, WorldTransition, Trace, Differs, DiffersBetween, DiffersForAll, DiffersWithin, IsPending, raised_at, is_there, is_learning, is_told, begins_anew, part_in, part_world_after, parts_changed, pending_for, index_of, client_in, listener_of, image_of, world_at, worlds_moved, world_after_transition}
 use Rattle.partition.specs.Notices.{Raises, IsIn, Listens, WaitsFor, HasChanged, Meets, HasNews, IsSent, IsClear, Asks, IsToldNews, Tells}
 use Rattle.partition.proofs.Asking.{wish_is, transition_idle, Quiet, quiet_unheard, quiet_unwaiting, IsAsking, kind_of, is_found, of_any, notified_some, does_some, of_moved}
 use Rattle.partition.proofs.Members.{in_map, of_map, any_in, same_sets, has_meet, has_some, is_some}
@@ -79,11 +79,11 @@ anew true a b e = one_of a b e
 rests_one : (rate : ℕ) (p : PartWorld) → part_world_after rate (part_in p) p (ByCommand Rests) ≡ p
 rests_one rate p = refl
 
-rests_same : (rate place : ℕ) (ps : List PartWorld) → parts_changed rate place (ByCommand Rests) ps ≡ ps
-rests_same rate place [] = refl
-rests_same rate place (p ∷ ps) =
-    elim (p.place == place) as (λ b. (if b then part_world_after rate (part_in p) p (ByCommand Rests) ∷ ps else p ∷ parts_changed rate place (ByCommand Rests) ps) ≡ p ∷ ps)
-    [ true ↦ ap (λ (q : PartWorld). q ∷ ps) (rests_one rate p) | false ↦ ap (λ (l : List PartWorld). p ∷ l) (rests_same rate place ps) ]
+rests_same : (rate index : ℕ) (ps : List PartWorld) → parts_changed rate index (ByCommand Rests) ps ≡ ps
+rests_same rate index [] = refl
+rests_same rate index (p ∷ ps) =
+    elim (p.index == index) as (λ b. (if b then part_world_after rate (part_in p) p (ByCommand Rests) ∷ ps else p ∷ parts_changed rate index (ByCommand Rests) ps) ≡ p ∷ ps)
+    [ true ↦ ap (λ (q : PartWorld). q ∷ ps) (rests_one rate p) | false ↦ ap (λ (l : List PartWorld). p ∷ l) (rests_same rate index ps) ]
 
 none_within : (number : ℕ) (x : Subsystem) (p : PartWorld) → DiffersWithin number x p p → ⊥
 none_within number Playlist p e = e refl
@@ -131,7 +131,7 @@ module _ (trace : Trace) (done : List LogEntry) (event : Event) (above : 1 ≤ t
   m = world_transition_of trace done event
 
   abbrev part : Option Part
-  part = part_at (place_at i event) i.parts
+  part = part_at (index_at i event) i.parts
 
   -- what is raised for a client is what is raised for the one of its number
   by_number : (k : Client) → IsIn k i.clients → r k ≡ raised_at k.number m
@@ -175,44 +175,44 @@ module _ (trace : Trace) (done : List LogEntry) (event : Event) (above : 1 ≤ t
 
   -- a client of the world, and of its image
   abbrev client : ℕ → ℕ → List TagName → Option Subsystems → Client
-  client number place tags waiting = client_in ms (record { number = number; place = place; tags = tags; waiting = waiting })
+  client number index tags waiting = client_in ms (record { number = number; index = index; tags = tags; waiting = waiting })
 
   abbrev client_of_this : (number : ℕ) (waiting : Option Subsystems) → Listens number waiting trace.world → Client
   client_of_this number waiting e = client number e.0 e.1 waiting
 
   listed : (number : ℕ) (waiting : Option Subsystems) (e : Listens number waiting trace.world) → IsIn (client_of_this number waiting e) i.clients
-  listed number waiting e = in_map (client_in ms) (record { number = number; place = e.0; tags = e.1; waiting = waiting }) trace.world.clients e.2
+  listed number waiting e = in_map (client_in ms) (record { number = number; index = e.0; tags = e.1; waiting = waiting }) trace.world.clients e.2
 
   -- what a client that waits is told, by its number
-  news_is : (number place : ℕ) (tags : List TagName) (named : Subsystems) → IsIn (client number place tags (Some named)) i.clients
-      → news n r (client number place tags (Some named)) ≡ news_of number named
-  news_is number place tags named among_them =
-      ap (λ (s : Subsystems). meet (union (pending_for number ms) s) named) (by_number (client number place tags (Some named)) among_them)
+  news_is : (number index : ℕ) (tags : List TagName) (named : Subsystems) → IsIn (client number index tags (Some named)) i.clients
+      → news n r (client number index tags (Some named)) ≡ news_of number named
+  news_is number index tags named among_them =
+      ap (λ (s : Subsystems). meet (union (pending_for number ms) s) named) (by_number (client number index tags (Some named)) among_them)
 
   -- where a client is after the event
   after_of : (k : Client) (number : ℕ) (waiting : Option Subsystems) → IsIn k (kept n r t.response i.clients) → k.number ≡ number
       → (does n r (move_of t.response) (notified r k)).pending.waiting ≡ waiting → Listens number waiting m.after
   after_of k number waiting e same w =
       let after : Client = does n r (move_of t.response) (notified r k) in
-      let is : listener_of after ≡ record { number = number; place = after.place; tags = after.tags; waiting = waiting } =
-      λ j. record { number = (does_keeps n r (move_of t.response) (notified r k) ∙ same) j; place = after.place; tags = after.tags; waiting = w j } in (
-        after.place,
+      let is : listener_of after ≡ record { number = number; index = after.index; tags = after.tags; waiting = waiting } =
+      λ j. record { number = (does_keeps n r (move_of t.response) (notified r k) ∙ same) j; index = after.index; tags = after.tags; waiting = w j } in (
+        after.index,
         after.tags,
         subst (λ (l : Listener). IsIn l m.after.clients) is (in_map listener_of after (after_transition i event t).clients (lands n r t.response i.clients k e)),
       )
 
   -- what is sent is news
-  from_listener : (number place : ℕ) (tags : List TagName) (waiting : Option Subsystems)
-      → IsIn (record { number = number; place = place; tags = tags; waiting = waiting }) trace.world.clients
-      → IsIn (client number place tags waiting) (kept n r t.response i.clients) → is_nonempty (news n r (client number place tags waiting)) ≡ true
-      → HasNews number (news n r (client number place tags waiting)) m ms
-  from_listener number place tags None e k full = (let clash : false ≡ true = full in cc)
-  from_listener number place tags (Some named) e k full =
-      let own : Client = client number place tags (Some named) in
-      let is : news n r own ≡ news_of number named = news_is number place tags named (listed number (Some named) (place, tags, e)) in
+  from_listener : (number index : ℕ) (tags : List TagName) (waiting : Option Subsystems)
+      → IsIn (record { number = number; index = index; tags = tags; waiting = waiting }) trace.world.clients
+      → IsIn (client number index tags waiting) (kept n r t.response i.clients) → is_nonempty (news n r (client number index tags waiting)) ≡ true
+      → HasNews number (news n r (client number index tags waiting)) m ms
+  from_listener number index tags None e k full = (let clash : false ≡ true = full in cc)
+  from_listener number index tags (Some named) e k full =
+      let own : Client = client number index tags (Some named) in
+      let is : news n r own ≡ news_of number named = news_is number index tags named (listed number (Some named) (index, tags, e)) in
       record {
         named = named;
-        waited = (place, tags, e);
+        waited = (index, tags, e);
         stays = ((does n r (move_of t.response) (notified r own)).pending.waiting, after_of own number _ k refl refl);
         meets = subst (λ (s : Subsystems). Meets number named s m ms) (sym is) (meets_of number named (ap is_nonempty (sym is) ∙ full));
       }
@@ -224,7 +224,7 @@ module _ (trace : Trace) (done : List LogEntry) (event : Event) (above : 1 ≤ t
       let l : Listener = was.0 in
       let back : s.0 ≡ client_in ms l = sym was.2 in
       let has_news : HasNews l.number (news n r (client_in ms l)) m ms =
-      from_listener l.number l.place l.tags l.waiting was.1 (rw back at s.1) (rw back at s.2) in
+      from_listener l.number l.index l.tags l.waiting was.1 (rw back at s.1) (rw back at s.2) in
       let number_is : l.number ≡ number = ap (λ (c : Client). c.number) was.2 ∙ s.3 in
       let names_are : news n r (client_in ms l) ≡ names = ap (news n r) was.2 ∙ s.4 in
       subst (λ (s : Subsystems). HasNews number s m ms) names_are (subst (λ (x : ℕ). HasNews x (news n r (client_in ms l)) m ms) number_is has_news)
@@ -234,7 +234,7 @@ module _ (trace : Trace) (done : List LogEntry) (event : Event) (above : 1 ≤ t
       let k : Client = client_of_this number (Some told.named) told.waited in
       let was : IsIn k i.clients = listed number (Some told.named) told.waited in
       let there = told.stays.1 in
-      let after = of_map listener_of (record { number = number; place = there.0; tags = there.1; waiting = told.stays.0 }) (after_transition i event t).clients there.2 in
+      let after = of_map listener_of (record { number = number; index = there.0; tags = there.1; waiting = told.stays.0 }) (after_transition i event t).clients there.2 in
       let stays : IsIn k (kept n r t.response i.clients) =
       there_kept n r t.response i.clients k after.0 was after.1 (ap (λ (l : Listener). l.number) after.2) in
       let is = meets_is number told.named names told.meets in
@@ -266,11 +266,11 @@ module _ (trace : Trace) (done : List LogEntry) (event : Event) (above : 1 ≤ t
       }
 
   -- a client that waits, stays and makes no move waits on, if it is sent nothing
-  still : (number place : ℕ) (tags : List TagName) (named : Subsystems) → ((names : Subsystems) → IsSent number names m → ⊥)
-      → IsIn (client number place tags (Some named)) (kept n r t.response i.clients)
-      → does n r (move_of t.response) (notified r (client number place tags (Some named))) ≡ notified r (client number place tags (Some named)) → WaitsFor number named m.after
-  still number place tags named unsent stays unmoved =
-      let k : Client = client number place tags (Some named) in
+  still : (number index : ℕ) (tags : List TagName) (named : Subsystems) → ((names : Subsystems) → IsSent number names m → ⊥)
+      → IsIn (client number index tags (Some named)) (kept n r t.response i.clients)
+      → does n r (move_of t.response) (notified r (client number index tags (Some named))) ≡ notified r (client number index tags (Some named)) → WaitsFor number named m.after
+  still number index tags named unsent stays unmoved =
+      let k : Client = client number index tags (Some named) in
       let cases : (b : Bool) → is_nonempty (news n r k) ≡ b → WaitsFor number named m.after =
       λ b. elim b as (λ b. is_nonempty (news n r k) ≡ b → WaitsFor number named m.after) [
         | true ↦ λ e. absurd (unsent (news n r k) (is_sent n r t.response i.clients k stays e))
@@ -323,8 +323,8 @@ module _ (trace : Trace) (done : List LogEntry) (event : Event) (above : 1 ≤ t
 
     parts_stay : m.after.parts ≡ trace.world.parts
     parts_stay =
-        ap (λ (u : TransitionData). worlds_moved u.crossing (parts_changed trace.world.library.rate (place_at i event) u.effect trace.world.parts)) transition_is
-        ∙ rests_same trace.world.library.rate (place_at i event) trace.world.parts
+        ap (λ (u : TransitionData). worlds_moved u.crossing (parts_changed trace.world.library.rate (index_at i event) u.effect trace.world.parts)) transition_is
+        ∙ rests_same trace.world.library.rate (index_at i event) trace.world.parts
 
     none_for_all : (x : Subsystem) → DiffersForAll x m → ⊥
     none_for_all Database e = e (ap (λ (u : TransitionData). (library_after trace.world.library u.scan).songs) (sym transition_is))
@@ -345,9 +345,9 @@ module _ (trace : Trace) (done : List LogEntry) (event : Event) (above : 1 ≤ t
         (let clash : false ≡ true = sym (ap (λ (g : Option ℕ). is_this g number) (goes_nowhere (notice_of (waits named k.pending)) refl)) ∙ goes in cc)
     same_parts x (inr (inl e)) = none_for_all x e
     same_parts x (inr (inr e)) =
-        let place : ℕ = place_of number trace.world.clients in
-        none_between number x (world_at place trace.world.parts)
-        (subst (λ (ps : List PartWorld). DiffersBetween number x (world_at place trace.world.parts) (world_at place ps)) parts_stay e)
+        let index : ℕ = index_of number trace.world.clients in
+        none_between number x (world_at index trace.world.parts)
+        (subst (λ (ps : List PartWorld). DiffersBetween number x (world_at index trace.world.parts) (world_at index ps)) parts_stay e)
 
     asked : (x : Subsystem) → (has d x ≡ true) ↔ ((has named x ≡ true) × HasChanged number x m ms)
     asked x =
@@ -430,9 +430,9 @@ module _ (trace : Trace) (done : List LogEntry) (event : Event) (above : 1 ≤ t
       let was = of_map (client_in ms) a.client trace.world.clients is.0 in
       let number : was.0.number ≡ a.number = ap (λ (c : Client). c.number) was.2 ∙ is.1 in
       let free : was.0.waiting ≡ None = ap (λ (c : Client). c.pending.waiting) was.2 ∙ a.free in
-      let same : was.0 ≡ record { number = a.number; place = was.0.place; tags = was.0.tags; waiting = None } =
-      λ j. record { number = number j; place = was.0.place; tags = was.0.tags; waiting = free j } in
-      record { name = a.name; heard = a.heard; event = a.is ∙ ap (λ (c : Command). Line a.number Alone (Run a.name c) a.heard) (wish_is a.command a.named a.wish); free = (was.0.place, was.0.tags, subst (λ (l : Listener). IsIn l trace.world.clients) same was.1) }
+      let same : was.0 ≡ record { number = a.number; index = was.0.index; tags = was.0.tags; waiting = None } =
+      λ j. record { number = number j; index = was.0.index; tags = was.0.tags; waiting = free j } in
+      record { name = a.name; heard = a.heard; event = a.is ∙ ap (λ (c : Command). Line a.number Alone (Run a.name c) a.heard) (wish_is a.command a.named a.wish); free = (was.0.index, was.0.tags, subst (λ (l : Listener). IsIn l trace.world.clients) same was.1) }
 
   told_news : (number : ℕ) → is_told number m ≡ true → IsToldNews number m ms
   told_news number e =
@@ -456,7 +456,7 @@ module _ (trace : Trace) (done : List LogEntry) (event : Event) (above : 1 ≤ t
 
   begins : (number : ℕ) (named : Subsystems) → WaitsFor number named m.after → WaitsFor number named m.before ⊎ Asks number named m
   begins number named e =
-      let from = of_map listener_of (record { number = number; place = e.0; tags = e.1; waiting = Some named }) (after_transition i event t).clients e.2 in
+      let from = of_map listener_of (record { number = number; index = e.0; tags = e.1; waiting = Some named }) (after_transition i event t).clients e.2 in
       let waits_after : from.0.pending.waiting ≡ Some named = ap (λ (l : Listener). l.waiting) from.2 in
       let c = of_moved n r (move_of t.response) from.0 (map (notified r) (kept n r t.response i.clients)) named from.1 waits_after in
       let k = of_map (notified r) c.0 (kept n r t.response i.clients) c.1 in
@@ -468,9 +468,9 @@ module _ (trace : Trace) (done : List LogEntry) (event : Event) (above : 1 ≤ t
         | inl w ↦
             (let waited : l.0.waiting ≡ Some named =
             ap (λ (x : Client). x.pending.waiting) l.2 ∙ notified_some n r k.0 named (ap (λ (x : Client). x.pending.waiting) k.2 ∙ w) in
-            let same : l.0 ≡ record { number = number; place = l.0.place; tags = l.0.tags; waiting = Some named } =
-            λ j. record { number = l_number j; place = l.0.place; tags = l.0.tags; waiting = waited j } in
-            inl (l.0.place, l.0.tags, subst (λ (x : Listener). IsIn x trace.world.clients) same l.1))
+            let same : l.0 ≡ record { number = number; index = l.0.index; tags = l.0.tags; waiting = Some named } =
+            λ j. record { number = l_number j; index = l.0.index; tags = l.0.tags; waiting = waited j } in
+            inl (l.0.index, l.0.tags, subst (λ (x : Listener). IsIn x trace.world.clients) same l.1))
         | inr w ↦ elim kind [
           | inl quiet ↦ absurd (quiet_unwaiting (move_of t.response) named quiet w.0)
           | inr a ↦

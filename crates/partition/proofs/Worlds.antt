@@ -36,8 +36,8 @@ use Rattle.transitions.specs.Transitions.{TransitionData, parts_after}
 use Rattle.player_state.specs.Libraries.{library_after}
 use Rattle.partition.specs.Legal.{ReplaysWorlds}
 use Rattle.partition.specs.Notices.{IsIn}
-use Rattle.partition.specs.Step.{transition, moved_client, sender_number, raised_of, after_transition, ended_after, place_at, report_at, sender_in, told_by, next_image}
-use Rattle.partition.specs.World.{Listener, PartWorld, WorldTransition, Trace, raised_at, raised_for, is_there, begins_anew, place_of, watched_by, pending_for, client_in, listener_of, books_of, image_of, part_in, part_world_after, parts_changed, past_after, unplayed, world_moved_output, worlds_moved, world_after_transition, traced, trace_after_event, trace_from, opening_trace}
+use Rattle.partition.specs.Step.{transition, moved_client, sender_number, raised_of, after_transition, ended_after, index_at, report_at, sender_in, told_by, next_image}
+use Rattle.partition.specs.World.{Listener, PartWorld, WorldTransition, Trace, raised_at, raised_for, is_there, begins_anew, index_of, watched_by, pending_for, client_in, listener_of, books_of, image_of, part_in, part_world_after, parts_changed, past_after, unplayed, world_moved_output, worlds_moved, world_after_transition, traced, trace_after_event, trace_from, opening_trace}
 use Rattle.partition.proofs.Counts.{made_of-more}
 use Rattle.player_state.proofs.Frames.{Keeps, keeps}
 use Rattle.partition.proofs.Notified.{Each, MayGo, flagged, all_stand}
@@ -78,30 +78,30 @@ abbrev pub AllBegun : List PartWorld → Type 0
 AllBegun [] = Unit {0}
 AllBegun (p ∷ ps) = ((1 ≤ p.limits.max_version) × (0 < length p.past)) × AllBegun ps
 
-parts_follow : (rate place : ℕ) (effect : Effect) (ps : List PartWorld) → AllBegun ps → map part_in (parts_changed rate place effect ps) ≡ changed rate place effect (map part_in ps)
-parts_follow rate place effect [] begun = refl
-parts_follow rate place effect (p ∷ ps) begun =
-    elim (p.place == place) as (λ b. map part_in (if b then part_world_after rate (part_in p) p effect ∷ ps else p ∷ parts_changed rate place effect ps)
-    ≡ (if b then part_after rate (part_in p) effect ∷ map part_in ps else part_in p ∷ changed rate place effect (map part_in ps))) [
+parts_follow : (rate index : ℕ) (effect : Effect) (ps : List PartWorld) → AllBegun ps → map part_in (parts_changed rate index effect ps) ≡ changed rate index effect (map part_in ps)
+parts_follow rate index effect [] begun = refl
+parts_follow rate index effect (p ∷ ps) begun =
+    elim (p.index == index) as (λ b. map part_in (if b then part_world_after rate (part_in p) p effect ∷ ps else p ∷ parts_changed rate index effect ps)
+    ≡ (if b then part_after rate (part_in p) effect ∷ map part_in ps else part_in p ∷ changed rate index effect (map part_in ps))) [
       | true ↦ ap (λ (q : Part). q ∷ map part_in ps) (part_follows rate p effect begun.0.0 begun.0.1)
-      | false ↦ ap (λ (qs : List Part). part_in p ∷ qs) (parts_follow rate place effect ps begun.1)
+      | false ↦ ap (λ (qs : List Part). part_in p ∷ qs) (parts_follow rate index effect ps begun.1)
     ]
 
-begun_changed : (rate place : ℕ) (effect : Effect) (ps : List PartWorld) → AllBegun ps → AllBegun (parts_changed rate place effect ps)
-begun_changed rate place effect [] begun = tt
-begun_changed rate place effect (p ∷ ps) begun =
-    elim (p.place == place) as (λ b. AllBegun (if b then part_world_after rate (part_in p) p effect ∷ ps else p ∷ parts_changed rate place effect ps)) [
+begun_changed : (rate index : ℕ) (effect : Effect) (ps : List PartWorld) → AllBegun ps → AllBegun (parts_changed rate index effect ps)
+begun_changed rate index effect [] begun = tt
+begun_changed rate index effect (p ∷ ps) begun =
+    elim (p.index == index) as (λ b. AllBegun (if b then part_world_after rate (part_in p) p effect ∷ ps else p ∷ parts_changed rate index effect ps)) [
       | true ↦ ((begun.0.0, some_past p.past (change_of rate (part_in p) effect) begun.0.1), begun.1)
-      | false ↦ (begun.0, begun_changed rate place effect ps begun.1)
+      | false ↦ (begun.0, begun_changed rate index effect ps begun.1)
     ]
 
 -- a partition that is opened has an empty past
-opened_reads : (openings : OpeningsData) (place : ℕ) (name : List ℕ) (outputs : OutputsData) → 1 ≤ openings.greatest.max_version
-    → part_in (unplayed (opening_part openings place name outputs)) ≡ opening_part openings place name outputs
-opened_reads openings place name outputs above =
+opened_reads : (openings : OpeningsData) (index : ℕ) (name : List ℕ) (outputs : OutputsData) → 1 ≤ openings.greatest.max_version
+    → part_in (unplayed (opening_part openings index name outputs)) ≡ opening_part openings index name outputs
+opened_reads openings index name outputs above =
     let limits : Greatest = openings.greatest in
     let zeroth : 0 % limits.max_version + 1 ≡ 1 = ap (λ n. n + 1) (mod-eq_of_lt (let h : 0 < limits.max_version = omega arith in h)) in
-    ap (λ (v : ℕ). record (opening_part openings place name outputs) {
+    ap (λ (v : ℕ). record (opening_part openings index name outputs) {
       queue = record { slots = []; version = v; greatest_id = 0; max_len = limits.max_queue; max_version = limits.max_version; max_id = limits.max_id; parity = false };
     }) zeroth
 
@@ -113,11 +113,11 @@ added : (ps : List PartWorld) (p : PartWorld) → map part_in (ps ++ p ∷ []) �
 added [] p = refl
 added (q ∷ qs) p = ap (λ (l : List Part). part_in q ∷ l) (added qs p)
 
-closed : (gone : ℕ) (ps : List PartWorld) → map part_in (filter (λ (p : PartWorld). not (p.place == gone)) ps) ≡ filter (λ (p : Part). not (p.place == gone)) (map part_in ps)
+closed : (gone : ℕ) (ps : List PartWorld) → map part_in (filter (λ (p : PartWorld). not (p.index == gone)) ps) ≡ filter (λ (p : Part). not (p.index == gone)) (map part_in ps)
 closed gone [] = refl
 closed gone (p ∷ ps) =
-    elim (p.place == gone) as (λ b. map part_in (if not b then p ∷ filter (λ (q : PartWorld). not (q.place == gone)) ps else filter (λ (q : PartWorld). not (q.place == gone)) ps)
-    ≡ (if not b then part_in p ∷ filter (λ (q : Part). not (q.place == gone)) (map part_in ps) else filter (λ (q : Part). not (q.place == gone)) (map part_in ps)))
+    elim (p.index == gone) as (λ b. map part_in (if not b then p ∷ filter (λ (q : PartWorld). not (q.index == gone)) ps else filter (λ (q : PartWorld). not (q.index == gone)) ps)
+    ≡ (if not b then part_in p ∷ filter (λ (q : Part). not (q.index == gone)) (map part_in ps) else filter (λ (q : Part). not (q.index == gone)) (map part_in ps)))
     [ true ↦ closed gone ps | false ↦ ap (λ (l : List Part). part_in p ∷ l) (closed gone ps) ]
 
 moved_one : (output to : ℕ) (c : Option Carried) (p : PartWorld) → part_in (world_moved_output output to c p) ≡ moved_output output to c (part_in p)
@@ -146,10 +146,10 @@ begun_added : (ps : List PartWorld) (p : PartWorld) → AllBegun ps → (1 ≤ p
 begun_added [] p begun one = (one, tt)
 begun_added (q ∷ qs) p begun one = (begun.0, begun_added qs p begun.1 one)
 
-begun_closed : (gone : ℕ) (ps : List PartWorld) → AllBegun ps → AllBegun (filter (λ (p : PartWorld). not (p.place == gone)) ps)
+begun_closed : (gone : ℕ) (ps : List PartWorld) → AllBegun ps → AllBegun (filter (λ (p : PartWorld). not (p.index == gone)) ps)
 begun_closed gone [] begun = tt
 begun_closed gone (p ∷ ps) begun =
-    elim (p.place == gone) as (λ b. AllBegun (if not b then p ∷ filter (λ (q : PartWorld). not (q.place == gone)) ps else filter (λ (q : PartWorld). not (q.place == gone)) ps))
+    elim (p.index == gone) as (λ b. AllBegun (if not b then p ∷ filter (λ (q : PartWorld). not (q.index == gone)) ps else filter (λ (q : PartWorld). not (q.index == gone)) ps))
     [ true ↦ begun_closed gone ps begun.1 | false ↦ (begun.0, begun_closed gone ps begun.1) ]
 
 begun_one : (output to : ℕ) (c : Option Carried) (p : PartWorld) → (1 ≤ p.limits.max_version) × (0 < length p.past)
@@ -215,15 +215,15 @@ module _ (world_transitions : List WorldTransition) where
       cases (l.number == n) refl
 
   -- where a client is that is found by its number
-  place_found : (n : ℕ) (k : Client) (ls : List Listener) → client_of n (map (client_in world_transitions) ls) ≡ Some k → place_of n ls ≡ k.place
-  place_found n k [] e = cc
-  place_found n k (l ∷ ls) e =
+  index_found : (n : ℕ) (k : Client) (ls : List Listener) → client_of n (map (client_in world_transitions) ls) ≡ Some k → index_of n ls ≡ k.index
+  index_found n k [] e = cc
+  index_found n k (l ∷ ls) e =
       let first : Client = client_in world_transitions l in
       let rest : Option Client = client_of n (map (client_in world_transitions) ls) in
-      let cases : (b : Bool) → (l.number == n) ≡ b → (if b then Some first else rest) ≡ Some k → (if b then l.place else place_of n ls) ≡ k.place =
-      λ b. elim b as (λ b. (l.number == n) ≡ b → (if b then Some first else rest) ≡ Some k → (if b then l.place else place_of n ls) ≡ k.place) [
-        | true ↦ λ t h. (let same : first ≡ k = cc in ap (λ (c : Client). c.place) same)
-        | false ↦ λ t h. place_found n k ls h
+      let cases : (b : Bool) → (l.number == n) ≡ b → (if b then Some first else rest) ≡ Some k → (if b then l.index else index_of n ls) ≡ k.index =
+      λ b. elim b as (λ b. (l.number == n) ≡ b → (if b then Some first else rest) ≡ Some k → (if b then l.index else index_of n ls) ≡ k.index) [
+        | true ↦ λ t h. (let same : first ≡ k = cc in ap (λ (c : Client). c.index) same)
+        | false ↦ λ t h. index_found n k ls h
       ] in
       cases (l.number == n) refl e
 
@@ -239,26 +239,26 @@ each P [] holds = tt
 each P (k ∷ ks) holds = (holds k (inl refl), each P ks (λ c among. holds c (inr among)))
 
 -- who goes to another partition by an event does not wait, and everything is raised for it
-pub may_go : (i : Image) (event : Event) → Rising i.clients → (place : ℕ)
-    → (if closes (transition i event).response.answer.next then Stay else (transition i event).response.move) ≡ Enter place
+pub may_go : (i : Image) (event : Event) → Rising i.clients → (index : ℕ)
+    → (if closes (transition i event).response.answer.next then Stay else (transition i event).response.move) ≡ Enter index
     → Each (MayGo (raised_of i event (transition i event)) (sender_number event)) i.clients
-may_go i event rising place goes =
+may_go i event rising index goes =
     let t : TransitionData = transition i event in
     let r : Client → Subsystems = raised_of i event t in
     each (MayGo r (sender_number event)) i.clients (λ k among own.
     let number : k.number ≡ sender_number event = eqb-true k.number (sender_number event) own in
     let found_it : client_of (sender_number event) i.clients ≡ Some k = ap (λ n. client_of n i.clients) (sym number) ∙ found k i.clients rising among in
-    let spoken : sender_in i.clients event ≡ Some k = speaks i.clients event k (Enter place) (λ e. cc) found_it (overview i) (part_at (place_at i event) i.parts) i.shared.library goes in
+    let spoken : sender_in i.clients event ≡ Some k = speaks i.clients event k (Enter index) (λ e. cc) found_it (overview i) (part_at (index_at i event) i.parts) i.shared.library goes in
     let moved_client_is : moved_client (sender_number event) t.response ≡ Some (sender_number event) = ap (entering (sender_number event)) goes in
     let free : (w : Option Subsystems) → k.pending.waiting ≡ w → k.pending.waiting ≡ None =
     λ w. elim w as (λ w. k.pending.waiting ≡ w → k.pending.waiting ≡ None) [
       | None ↦ λ e. e
-      | Some named ↦ λ e. absurd (rests_here (move_of t.response) place
-          (waiter_rests (overview i) (part_at (place_at i event) i.parts) i.shared.library k named e event (sender_in i.clients event) spoken) goes)
+      | Some named ↦ λ e. absurd (rests_here (move_of t.response) index
+          (waiter_rests (overview i) (part_at (index_at i event) i.parts) i.shared.library k named e event (sender_in i.clients event) spoken) goes)
     ] in
     let this : is_this (moved_client (sender_number event) t.response) k.number ≡ true =
     ap (λ (g : Option ℕ). is_this g k.number) moved_client_is ∙ eq-eqb (sender_number event) k.number (sym number) in
-    (free k.pending.waiting refl, ap (λ b. if b then all else raised_there t.written (watched_all i.shared.library i.parts) (watched_all (library_after i.shared.library t.scan) (parts_after i.shared.library.rate (place_at i event) t i.parts)) k) this)
+    (free k.pending.waiting refl, ap (λ b. if b then all else raised_there t.written (watched_all i.shared.library i.parts) (watched_all (library_after i.shared.library t.scan) (parts_after i.shared.library.rate (index_at i event) t i.parts)) k) this)
     )
 
 module _ (trace : Trace) (done : List LogEntry) (event : Event) (above : 1 ≤ trace.world.openings.greatest.max_version) (begun : AllBegun trace.world.parts)
@@ -278,21 +278,21 @@ module _ (trace : Trace) (done : List LogEntry) (event : Event) (above : 1 ≤ t
   abbrev rate : ℕ
   rate = trace.world.library.rate
 
-  abbrev place : ℕ
-  place = place_at i event
+  abbrev index : ℕ
+  index = index_at i event
 
   fair : IsOpenedBy trace.world.openings t.crossing
-  fair = opened_by (overview i) (part_at place i.parts) trace.world.library (sender_in i.clients event) event
+  fair = opened_by (overview i) (part_at index i.parts) trace.world.library (sender_in i.clients event) event
 
   -- what can be read of the partitions after the event
-  all_follow : map part_in m.after.parts ≡ parts_after rate place t i.parts
+  all_follow : map part_in m.after.parts ≡ parts_after rate index t i.parts
   all_follow =
-      crossed trace.world.openings above t.crossing fair (parts_changed rate place t.effect trace.world.parts)
-      ∙ ap (parts_moved t.crossing) (parts_follow rate place t.effect trace.world.parts begun)
+      crossed trace.world.openings above t.crossing fair (parts_changed rate index t.effect trace.world.parts)
+      ∙ ap (parts_moved t.crossing) (parts_follow rate index t.effect trace.world.parts begun)
 
   pub begun_after : AllBegun m.after.parts
   begun_after =
-      begun_crossed trace.world.openings above t.crossing fair (parts_changed rate place t.effect trace.world.parts) (begun_changed rate place t.effect trace.world.parts begun)
+      begun_crossed trace.world.openings above t.crossing fair (parts_changed rate index t.effect trace.world.parts) (begun_changed rate index t.effect trace.world.parts begun)
 
   is_raised : raised_for m ≡ r
   is_raised = λ j. raised (moved_client (sender_number event) t.response) t.written (record { library = trace.world.library; parts = watched_reads trace.world.parts j })
@@ -301,9 +301,9 @@ module _ (trace : Trace) (done : List LogEntry) (event : Event) (above : 1 ≤ t
   -- what is raised for a client is what is raised for the one of its number
   pub raised_by_number : (k : Client) → IsIn k i.clients → r k ≡ raised_at k.number m
   raised_by_number k among_them =
-      let there : place_of k.number trace.world.clients ≡ k.place = place_found trace.world_transitions k.number k trace.world.clients (found k i.clients rising among_them) in
+      let there : index_of k.number trace.world.clients ≡ k.index = index_found trace.world_transitions k.number k trace.world.clients (found k i.clients rising among_them) in
       ap (λ (s : Client → Subsystems). s k) (sym is_raised)
-      ∙ ap (λ (p : ℕ). raised_for m (record (newcomer k.number) { place = p })) (sym there)
+      ∙ ap (λ (p : ℕ). raised_for m (record (newcomer k.number) { index = p })) (sym there)
 
   grows : (n : ℕ) → pending_for n (m ∷ trace.world_transitions) ≡ (if begins_anew n m then none else union (pending_for n trace.world_transitions) (raised_at n m))
   grows n = pending_more n m trace.world_transitions (begins_anew n m) refl
@@ -328,7 +328,7 @@ module _ (trace : Trace) (done : List LogEntry) (event : Event) (above : 1 ≤ t
       } in
       ap (λ k. all_of k (map part_in m.after.parts) (made_of (done ++ h ∷ []))) clients_stand
       ∙ ap (λ ps. all_of (after_transition i event t).clients ps (made_of (done ++ h ∷ []))) all_follow
-      ∙ ap (all_of (after_transition i event t).clients (parts_after rate place t i.parts)) (sym (made_of-more done h))
+      ∙ ap (all_of (after_transition i event t).clients (parts_after rate index t i.parts)) (sym (made_of-more done h))
 
   pub rising-step : (h : LogEntry) → Rising (image_of (traced trace i event t) (done ++ h ∷ [])).clients
   rising-step h = subst Rising (sym clients_stand) (rising_after (sender_number event) r t.response i.clients rising)

@@ -13,7 +13,7 @@ use Rattle.connected_clients.specs.Clients.{client_of}
 use Rattle.transitions.specs.Shelves.{is_written}
 use Rattle.partition_table.specs.Parts.{part_at}
 use Rattle.partition.specs.Image.{Image, overview}
-use Rattle.partition.specs.Step.{once_written, place_in, transition, transition_line, written_transition}
+use Rattle.partition.specs.Step.{once_written, index_in, transition, transition_line, written_transition}
 use Rattle.player_events.specs.Events.{store_reply_at, with_store_reply, name_at, name_of, stand_of}
 use Rattle.transitions.specs.Transitions.{quiet}
 use Rattle.player_events.specs.Events.{is_line}
@@ -26,9 +26,9 @@ same_hearing (Connect number) = refl
 same_hearing (Disconnect number) = refl
 same_hearing ScanQuestion = refl
 same_hearing (ScanResult songs second) = refl
-same_hearing (Want place owes) = refl
-same_hearing (Have place number frames) = refl
-same_hearing (Failed place number partner) = refl
+same_hearing (Want index owes) = refl
+same_hearing (Have index number frames) = refl
+same_hearing (Failed index number partner) = refl
 same_hearing (OutputTurn output written discarded failed) = refl
 same_hearing End = refl
 
@@ -38,9 +38,9 @@ hears_last (Connect number) first last = refl
 hears_last (Disconnect number) first last = refl
 hears_last ScanQuestion first last = refl
 hears_last (ScanResult songs second) first last = refl
-hears_last (Want place owes) first last = refl
-hears_last (Have place number frames) first last = refl
-hears_last (Failed place number partner) first last = refl
+hears_last (Want index owes) first last = refl
+hears_last (Have index number frames) first last = refl
+hears_last (Failed index number partner) first last = refl
 hears_last (OutputTurn output written discarded failed) first last = refl
 hears_last End first last = refl
 
@@ -50,9 +50,9 @@ hears_so (Connect number) heard = refl
 hears_so (Disconnect number) heard = refl
 hears_so ScanQuestion heard = refl
 hears_so (ScanResult songs second) heard = refl
-hears_so (Want place owes) heard = refl
-hears_so (Have place number frames) heard = refl
-hears_so (Failed place number partner) heard = refl
+hears_so (Want index owes) heard = refl
+hears_so (Have index number frames) heard = refl
+hears_so (Failed index number partner) heard = refl
 hears_so (OutputTurn output written discarded failed) heard = refl
 hears_so End heard = refl
 
@@ -72,9 +72,9 @@ line_hears (Connect number) e heard = cc
 line_hears (Disconnect number) e heard = cc
 line_hears ScanQuestion e heard = cc
 line_hears (ScanResult songs second) e heard = cc
-line_hears (Want place owes) e heard = cc
-line_hears (Have place number frames) e heard = cc
-line_hears (Failed place number partner) e heard = cc
+line_hears (Want index owes) e heard = cc
+line_hears (Have index number frames) e heard = cc
+line_hears (Failed index number partner) e heard = cc
 line_hears (OutputTurn output written discarded failed) e heard = cc
 line_hears End e heard = cc
 
@@ -99,15 +99,15 @@ line_refused : (i : Image) (event : Event) (fault : ShelfFault) → is_line even
     → transition i (with_store_reply event (record (store_reply_at event) { refused = Some fault })) ≡ quiet (stays (refused_by_shelf (stand_of event) (name_at event) fault))
 line_refused i (Line number stand request heard) fault e w none =
     let client : Option Client = client_of number i.clients in
-    let t : TransitionData = transition_line (overview i) (part_at (place_in client) i.parts) i.shared.library client stand request heard.read in
+    let t : TransitionData = transition_line (overview i) (part_at (index_in client) i.parts) i.shared.library client stand request heard.read in
     refused_line stand request t fault (ap (λ (r : Option ShelfFault). is_written (written_transition stand request r t).written) (sym none) ∙ w)
 line_refused i (Connect number) fault e w none = cc
 line_refused i (Disconnect number) fault e w none = cc
 line_refused i ScanQuestion fault e w none = cc
 line_refused i (ScanResult songs second) fault e w none = cc
-line_refused i (Want place owes) fault e w none = cc
-line_refused i (Have place number frames) fault e w none = cc
-line_refused i (Failed place number partner) fault e w none = cc
+line_refused i (Want index owes) fault e w none = cc
+line_refused i (Have index number frames) fault e w none = cc
+line_refused i (Failed index number partner) fault e w none = cc
 line_refused i (OutputTurn output written discarded failed) fault e w none = cc
 line_refused i End fault e w none = cc
 

@@ -20,16 +20,16 @@ use Rattle.transitions.specs.Transitions.{TransitionData, parts_after, quiet}
 use Rattle.player_state.specs.Libraries.{library_after, songs_after}
 use Rattle.player_state.specs.Outputs.{books_after, can_count_all}
 use Rattle.connected_clients.specs.Fingerprint.{changes_listeners_in, fingerprint, raised_by_fingerprint, raised_in}
-use Rattle.partition.specs.Step.{after_transition, counts_frames, ended_after, moved_client, keeps_limits, sender_number, place_at, report_at, told_by}
+use Rattle.partition.specs.Step.{after_transition, counts_frames, ended_after, moved_client, keeps_limits, sender_number, index_at, report_at, told_by}
 use Rattle.partition.proofs.Raised.{noticed, stepped}
 use Rattle.player_state.proofs.Songs.{same_songs-refl}
 
 -- a partition to which nothing happens is as it was
-pub rests_changed : (rate place : ℕ) (ps : List Part) → changed rate place (ByCommand Rests) ps ≡ ps
-rests_changed rate place [] = refl
-rests_changed rate place (p ∷ ps) =
-    elim (p.place == place) as (λ b. (if b then p ∷ ps else p ∷ changed rate place (ByCommand Rests) ps) ≡ p ∷ ps)
-    [ true ↦ refl | false ↦ ap (λ (l : List Part). p ∷ l) (rests_changed rate place ps) ]
+pub rests_changed : (rate index : ℕ) (ps : List Part) → changed rate index (ByCommand Rests) ps ≡ ps
+rests_changed rate index [] = refl
+rests_changed rate index (p ∷ ps) =
+    elim (p.index == index) as (λ b. (if b then p ∷ ps else p ∷ changed rate index (ByCommand Rests) ps) ≡ p ∷ ps)
+    [ true ↦ refl | false ↦ ap (λ (l : List Part). p ∷ l) (rests_changed rate index ps) ]
 
 pub rests_report : (rate : ℕ) (o : Option Part) (report : Report) → report_in rate o (ByCommand Rests) report ≡ report
 rests_report rate None report = refl
@@ -40,9 +40,9 @@ rests_listeners None = refl
 rests_listeners (Some p) = refl
 
 module _ (i : Image) (event : Event) (t : TransitionData) (alone : t ≡ record (quiet t.response) { written = t.written }) (raised : Client → Subsystems)
-    (shown : raised ≡ raised_in (raised_by_fingerprint (moved_client (sender_number event) t.response) false false t.written (fingerprint Stays (place_at i event) i.parts i.shared.library) i.parts i.shared.library)) where
-  abbrev place : ℕ
-  place = place_at i event
+    (shown : raised ≡ raised_in (raised_by_fingerprint (moved_client (sender_number event) t.response) false false t.written (fingerprint Stays (index_at i event) i.parts i.shared.library) i.parts i.shared.library)) where
+  abbrev index : ℕ
+  index = index_at i event
 
   effect_is : t.effect ≡ (ByCommand Rests)
   effect_is = ap (λ (u : TransitionData). u.effect) alone
@@ -54,10 +54,10 @@ module _ (i : Image) (event : Event) (t : TransitionData) (alone : t ≡ record 
   crossing_is = ap (λ (u : TransitionData). u.crossing) alone
 
   pub told_nothing : Nothing ≡ report_at i event t
-  told_nothing = sym (ap (report_at i event) alone ∙ rests_report i.shared.library.rate (part_at place i.parts) Nothing)
+  told_nothing = sym (ap (report_at i event) alone ∙ rests_report i.shared.library.rate (part_at index i.parts) Nothing)
 
-  parts_are : i.parts ≡ parts_after i.shared.library.rate place t i.parts
-  parts_are = sym (ap (λ (u : TransitionData). parts_after i.shared.library.rate place u i.parts) alone ∙ rests_changed i.shared.library.rate place i.parts)
+  parts_are : i.parts ≡ parts_after i.shared.library.rate index t i.parts
+  parts_are = sym (ap (λ (u : TransitionData). parts_after i.shared.library.rate index u i.parts) alone ∙ rests_changed i.shared.library.rate index i.parts)
 
   library_is : i.shared.library ≡ library_after i.shared.library t.scan
   library_is = sym (ap (library_after i.shared.library) scan_is)
@@ -65,14 +65,14 @@ module _ (i : Image) (event : Event) (t : TransitionData) (alone : t ≡ record 
   same_database : not (same_songs i.shared.library.songs (songs_after i.shared.library t.scan)) ≡ false
   same_database = ap (λ (m : ScanMove). not (same_songs i.shared.library.songs (songs_after i.shared.library m))) scan_is ∙ ap not (same_songs-refl i.shared.library.songs)
 
-  same_listeners : changes_listeners_in (part_at place i.parts) t.effect ≡ false
-  same_listeners = ap (changes_listeners_in (part_at place i.parts)) effect_is ∙ rests_listeners (part_at place i.parts)
+  same_listeners : changes_listeners_in (part_at index i.parts) t.effect ≡ false
+  same_listeners = ap (changes_listeners_in (part_at index i.parts)) effect_is ∙ rests_listeners (part_at index i.parts)
 
   is_shown : raised ≡ raised_in (raised_by_fingerprint (moved_client (sender_number event) t.response) (not (same_songs i.shared.library.songs (songs_after i.shared.library t.scan)))
-      (changes_listeners_in (part_at place i.parts) t.effect) t.written (fingerprint t.crossing place i.parts i.shared.library) i.parts i.shared.library)
+      (changes_listeners_in (part_at index i.parts) t.effect) t.written (fingerprint t.crossing index i.parts i.shared.library) i.parts i.shared.library)
   is_shown =
       shown
-      ∙ (λ j. raised_in (raised_by_fingerprint (moved_client (sender_number event) t.response) (sym same_database j) (sym same_listeners j) t.written (fingerprint (sym crossing_is j) place i.parts i.shared.library) i.parts i.shared.library))
+      ∙ (λ j. raised_in (raised_by_fingerprint (moved_client (sender_number event) t.response) (sym same_database j) (sym same_listeners j) t.written (fingerprint (sym crossing_is j) index i.parts i.shared.library) i.parts i.shared.library))
 
   books_are : (books_after i.shared.books (ByCommand Rests) Nothing ≡ i.shared.books) → i.shared.books ≡ books_after i.shared.books t.effect (report_at i event t)
   books_are rests = sym rests ∙ (λ j. books_after i.shared.books (sym effect_is j) (told_nothing j))
@@ -89,5 +89,5 @@ module _ (i : Image) (event : Event) (t : TransitionData) (alone : t ≡ record 
   pub written_counts : (books_after i.shared.books (ByCommand Rests) Nothing ≡ i.shared.books) → can_count_all i.shared.books ≡ true → counts_frames i event t ≡ true
   written_counts rests counted = ap can_count_all (sym (books_are rests)) ∙ counted
 
-  pub written_limits : is_within_in i.shared.library.rate (part_at place i.parts) (ByCommand Rests) ≡ true → keeps_limits i event t ≡ true
+  pub written_limits : is_within_in i.shared.library.rate (part_at index i.parts) (ByCommand Rests) ≡ true → keeps_limits i event t ≡ true
   written_limits within = ap (keeps_limits i event) alone ∙ ap (λ b. b && true) within

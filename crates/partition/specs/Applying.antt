@@ -19,7 +19,7 @@ use Rattle.transitions.specs.declared.asked.Asked.{Asked}
 use Rattle.transitions.specs.declared.asked.Stand.{Stand}
 use Rattle.transitions.specs.declared.shelf_calls.Read.{Read}
 use Rattle.partition.specs.Steps.{entry}
-use Rattle.partition.specs.Step.{after_transition, books_by, counts_frames, keeps_limits, place_at, report_at, told_by, transition, transition_command, transition_line, transition_request, transition_run, transition_there}
+use Rattle.partition.specs.Step.{after_transition, books_by, counts_frames, keeps_limits, index_at, report_at, told_by, transition, transition_command, transition_line, transition_request, transition_run, transition_there}
 use Rattle.partition.specs.declared.happen.Applied.{Applied}
 use Rattle.partition.specs.declared.partition.PartitionFault.{PartitionFault}
 use Rattle.partition.specs.declared.prepare.Prepared.{Prepared}
@@ -92,27 +92,27 @@ run_in state part asked read command = transition_run (overview (image_of_state 
 
 -- the readings of a state before an event of a partition
 abbrev pub readings_in : State → Crossing → ℕ → FingerprintData
-readings_in state crossing place = fingerprint crossing place state.parts state.library
+readings_in state crossing index = fingerprint crossing index state.parts state.library
 
 -- the readings that were taken are those of this state
 abbrev pub HasReadings : State → Crossing → ℕ → Prepared → Type 0
-HasReadings state crossing place prepared = prepared.before ≡ readings_in state crossing place
+HasReadings state crossing index prepared = prepared.before ≡ readings_in state crossing index
 
 -- there is room for a notice to each client that waits
 abbrev pub HasRoomForWaiting : State → Prepared → Type 0
 HasRoomForWaiting state prepared = count_by is_waiting state.clients.items ≤ room_in prepared.notices
 
 -- the partition that an event of a state happens in
-abbrev pub place_in_state : State → Event → ℕ
-place_in_state state event = place_at (image_of_state state) event
+abbrev pub index_in_state : State → Event → ℕ
+index_in_state state event = index_at (image_of_state state) event
 
 -- its frames could not be counted any more, or there was no memory for what it needs
 abbrev pub RefusesFramesIn : State → ℕ → TransitionData → PartitionFault → Type 0
-RefusesFramesIn state place t fault = RefusesFrames state.books place state.parts state.library t fault
+RefusesFramesIn state index t fault = RefusesFrames state.books index state.parts state.library t fault
 
 -- the queue and the channels of the partition of a number can take what a transition does to it
 abbrev pub FitsAt : State → ℕ → TransitionData → Type 0
-FitsAt state place t = FitsIn (part_at place state.parts) t.effect
+FitsAt state index t = FitsIn (part_at index state.parts) t.effect
 
 -- only a partition that is there is decoded and played
 abbrev pub ActsWithin : Option Part → Effect → Type 0
@@ -121,15 +121,15 @@ ActsWithin (Some part) effect = Unit {0}
 
 -- only a partition that is there is decoded and played, by its number
 abbrev pub ActsAt : State → ℕ → TransitionData → Type 0
-ActsAt state place t = ActsWithin (part_at place state.parts) t.effect
+ActsAt state index t = ActsWithin (part_at index state.parts) t.effect
 
 -- the partition that an event happens in can take what a transition does to it
 abbrev pub FitsEvent : State → Event → TransitionData → Type 0
-FitsEvent state event t = FitsAt state (place_in_state state event) t
+FitsEvent state event t = FitsAt state (index_in_state state event) t
 
 -- the partition that an event happens in is there, if the transition decodes or plays it
 abbrev pub ActsForEvent : State → Event → TransitionData → Type 0
-ActsForEvent state event t = ActsAt state (place_in_state state event) t
+ActsForEvent state event t = ActsAt state (index_in_state state event) t
 
 -- what an event makes clients hear
 abbrev pub telling_of : State → Event → OutcomeData
@@ -197,7 +197,7 @@ outcome_with telling notices = record { answer = telling.response.answer; notice
 
 -- the frames of the outputs after it
 abbrev pub books_in : State → ℕ → TransitionData → FrameBooks
-books_in state place t = books_by state.books place state.parts state.library t
+books_in state index t = books_by state.books index state.parts state.library t
 
 -- no client goes to another partition by this move
 abbrev pub GoesNowhere : Move → Type 0

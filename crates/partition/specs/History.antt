@@ -46,7 +46,7 @@ abbrev pub replay : Image → List LogEntry → Image
 replay i [] = i
 replay i (h ∷ hs) = replay (next_image h.seat i h.event) hs
 
--- each event was told what the player of one thread tells at its place
+-- each event was told what the player of one thread tells at its position
 abbrev pub AreTold : Image → List LogEntry → Type 0
 AreTold i [] = Unit {0}
 AreTold i (h ∷ hs) = (h.told ≡ told i h.event) × AreTold (next_image h.seat i h.event) hs

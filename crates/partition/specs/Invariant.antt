@@ -12,7 +12,7 @@ abbrev pub chronicle_of : Inside → Chronicle
 chronicle_of p = record { base = image_of_state p.base.value; window = p.history.items; present = image_of_state p.state; limit = p.limit }
 
 -- events that led from some opening to an image, and each was told what the player of one thread tells at its
--- place
+-- position
 pub record Came (i : Image) : Type 0 where
   pub setup : Setup
   pub library : Library
@@ -22,7 +22,7 @@ pub record Came (i : Image) : Type 0 where
   pub told : AreTold (opening setup library) earlier
 
 -- some events led to the base, and the window leads from there to the present state; each was told what the
--- player of one thread tells at its place; the window is within its limit, and its bytes are counted
+-- player of one thread tells at its position; the window is within its limit, and its bytes are counted
 pub record IsReplayed (p : Inside) : Type 0 where
   pub room : 1 ≤ p.limit
   pub few : length p.history.items ≤ p.limit

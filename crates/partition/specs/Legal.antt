@@ -26,7 +26,7 @@ HasDistinctIds part = AllPairs (λ e f. e.id ≢ f.id) (queue_of part.queue)
 -- An image is what can be read of the trace after a history, so each slot's stamp and mark are those of all
 -- past queues, each output's frames are summed over all events, and each seat's count is that of all its
 -- events; each client's flags are its pending set; each transition raised what differs between its worlds,
--- and told whom it had to tell; each reply was the one of its place, and what was told with it is what its
+-- and told whom it had to tell; each reply was the one of its position, and what was told with it is what its
 -- transition tells; clients are in the order of their numbers.
 pub record Stands (opened : Image) (history : List LogEntry) (i : Image) : Type 0 where
   pub world : i ≡ image_of (trace_after opened history) history
@@ -39,7 +39,7 @@ pub record Stands (opened : Image) (history : List LogEntry) (i : Image) : Type 
 
 -- The player was opened with some settings and songs, and some events came before the base. The base stands
 -- after these, and the present state after these and those of the window. The window leads from the base to
--- the present state: each of its events was told what the player of one thread tells at its place, and each
+-- the present state: each of its events was told what the player of one thread tells at its position, and each
 -- client's flags and each output's frames are those of the base and of what happened since. The window is
 -- within its limit, and ids are distinct.
 pub record IsPast (c : Chronicle) : Type 0 where

@@ -2,7 +2,7 @@
 use Rattle.std.specs.Prelude.{◌≡◌, ◌⊎◌, ℕ, Bool, true, false, nat_le, slice_index_or, List, [], ◌∷◌, ◌++◌, None, Result, IfOk, IsErrOf, ⊤}
 use Rattle.std.specs.Global.{Vec}
 use Rattle.shelf.specs.Calls.{Call}
-use Rattle.shelf.specs.Maps.{Standing, Trusted, Turns}
+use Rattle.shelf.specs.Maps.{Standing, Trusted, Changes}
 use Rattle.shelf.specs.declared.traits.Shelf.{Ghosts}
 use Rattle.player_events.specs.declared.event.Event.{Event}
 use Rattle.player_events.specs.declared.event.LogEntry.{LogEntry}
@@ -47,20 +47,20 @@ IsFull seat i = nat_le 9223372036854775807 (slice_index_or i.shared.made seat 0)
 
 module _ {S : Type 0} (standing : S → Standing) where
   -- the shelf answered a question so, and kept its maps
-  abbrev pub TurnsByRead : S → S → Bool → Type 0
-  TurnsByRead old new is_done = Turns (standing old) (standing new) is_done (standing old).maps
+  abbrev pub ChangesByRead : S → S → Bool → Type 0
+  ChangesByRead old new is_done = Changes (standing old) (standing new) is_done (standing old).maps
 
   -- the shelf was to write this, and answered so; its maps are those after it where it did
-  abbrev pub TurnsByWrite : S → S → ShelfWrite → Result ⊤ ShelfFault → Type 0
-  TurnsByWrite old new write result = Turns (standing old) (standing new) (is_ok_write write result) (maps_after write (standing old).maps)
+  abbrev pub ChangesByWrite : S → S → ShelfWrite → Result ⊤ ShelfFault → Type 0
+  ChangesByWrite old new write result = Changes (standing old) (standing new) (is_ok_write write result) (maps_after write (standing old).maps)
 
   -- the same of what an event has heard of it
-  abbrev pub TurnsByWriteOf : S → S → ShelfWrite → Event → Type 0
-  TurnsByWriteOf old new write event = TurnsByWrite old new write (answered (store_reply_at event).refused)
+  abbrev pub ChangesByWriteOf : S → S → ShelfWrite → Event → Type 0
+  ChangesByWriteOf old new write event = ChangesByWrite old new write (answered (store_reply_at event).refused)
 
   -- nothing of it was written
   abbrev pub IsUnwrittenBy : S → S → ShelfWrite → Type 0
-  IsUnwrittenBy old new write = Turns (standing old) (standing new) false (maps_after write (standing old).maps)
+  IsUnwrittenBy old new write = Changes (standing old) (standing new) false (maps_after write (standing old).maps)
 
 module _ {S : Type 0} (standing : S → Standing) (failed : S → S → Call → Type 0) where
   -- An event of a seat, with what the lent shelf answered to it, joined the history. It was told what the

@@ -48,7 +48,7 @@ events_of client form place [] = []
 events_of client form place (a ∷ more) = Line client (InList form place) a.0 a.1 ∷ events_of client form (place + 1) more
 
 -- What the entries of a list are, said of them as a whole: the events of its first requests, all of one seat;
--- each told what the player tells at its place; nothing follows one that ends the list; and where none does,
+-- each told what the player tells at its position; nothing follows one that ends the list; and where none does,
 -- no request is left out.
 pub record AreEntries (seat : ℕ) (i : Image) (client : ℕ) (form : ListForm) (place : ℕ) (requests : List Answered) (entries : List LogEntry) : Type 0 where
   pub events : map {B = ℕ × Event} (λ h. (h.seat, h.event)) entries ≡ take (length entries) (map {B = ℕ × Event} (λ event. (seat, event)) (events_of client form place requests))
@@ -110,7 +110,7 @@ stop_from done tolds command cause = record { done = done; tolds = tolds; comman
 abbrev pub stop_text : Stop → List ℕ
 stop_text stop = flat_map (λ t. t.answer.text) stop.tolds ++ ack_line 52 stop.done stop.command (fault_text stop.cause)
 
--- none of these entries' events passed a limit at its place
+-- none of these entries' events passed a limit at its position
 abbrev pub AllWithin : Image → List LogEntry → Type 0
 AllWithin i [] = Unit {0}
 AllWithin i (h ∷ hs) = (limit_of h.seat i h.event ≡ None) × AllWithin (next_image h.seat i h.event) hs

@@ -24,10 +24,10 @@ use Rattle.transitions.specs.declared.shelf_calls.StoreReply.{StoreReply}
 use Rattle.partition.specs.Step.{sender}
 use Rattle.partition.specs.World.{PartWorld, World, WorldTransition, Differs, DiffersForAll, DiffersWithin, IsPending, is_told, raised_at}
 
--- a player's order and its decoder's work, of which no subsystem speaks: the random round, the place in the
+-- a player's order and its decoder's work, of which no subsystem speaks: the random round, the offset in the
 -- song, the jobs and the fade
 abbrev pub with_order_of : PlayerState → PlayerState → PlayerState
-with_order_of p other = record p { round = other.round; place = other.place; jobs = other.jobs; job = other.job; fade = other.fade; gave_up = other.gave_up }
+with_order_of p other = record p { round = other.round; offset = other.offset; jobs = other.jobs; job = other.job; fade = other.fade; gave_up = other.gave_up }
 
 -- what a partition owns is the same but for the order of play and the decoder's work, which outputs that are off
 -- are in it, how often they were moved, which have failed and which the last job is for, the messages that wait,
@@ -42,7 +42,7 @@ AgreesButForUnwatched before after =
     })
     × (pairs before.channels ≡ pairs after.channels)
 
--- each of some partitions agrees so with the one at its place of others
+-- each of some partitions agrees so with the one at its index of others
 abbrev pub AllAgree : List PartWorld → List PartWorld → Type 0
 AllAgree [] [] = Unit {0}
 AllAgree [] (after ∷ afters) = ⊥
@@ -55,7 +55,7 @@ abbrev pub AgreeButForUnwatched : World → World → Type 0
 AgreeButForUnwatched before after =
     (after ≡ record before { parts = after.parts; clients = after.clients; ended = after.ended }) × AllAgree before.parts after.parts
 
--- nothing that a subsystem speaks of differs between any partition and the one at its place
+-- nothing that a subsystem speaks of differs between any partition and the one at its index
 abbrev pub NoneDiffers : List PartWorld → List PartWorld → Type 0
 NoneDiffers (before ∷ befores) (after ∷ afters) =
     ((number : ℕ) (subsystem : Subsystem) → DiffersWithin number subsystem before after → ⊥) × NoneDiffers befores afters
@@ -78,7 +78,7 @@ IsIn x (y ∷ ys) = (y ≡ x) ⊎ IsIn x ys
 -- a client is there, in some partition and shown some tags, and this is what it waits for, if it waits
 abbrev pub Listens : ℕ → Option Subsystems → World → Type 0
 Listens number waiting w =
-    (place : ℕ) × (tags : List TagName) × IsIn (record { number = number; place = place; tags = tags; waiting = waiting }) w.clients
+    (index : ℕ) × (tags : List TagName) × IsIn (record { number = number; index = index; tags = tags; waiting = waiting }) w.clients
 
 -- a client is there, and waits for these
 abbrev pub WaitsFor : ℕ → Subsystems → World → Type 0

@@ -20,10 +20,10 @@ RefusesTransition i event t HistoryFull = ⊥
 
 -- what an event needs is refused where its frames could not be counted any more, or for want of memory
 abbrev pub RefusesFrames : FrameBooks → ℕ → List Part → Library → TransitionData → PartitionFault → Type 0
-RefusesFrames books place parts library t AtLimit = can_count_all (books_by books place parts library t) ≡ false
-RefusesFrames books place parts library t CutsAtLimit = ⊥
-RefusesFrames books place parts library t NoMemory = Unit {0}
-RefusesFrames books place parts library t HistoryFull = ⊥
+RefusesFrames books index parts library t AtLimit = can_count_all (books_by books index parts library t) ≡ false
+RefusesFrames books index parts library t CutsAtLimit = ⊥
+RefusesFrames books index parts library t NoMemory = Unit {0}
+RefusesFrames books index parts library t HistoryFull = ⊥
 
 -- why an event may be refused: for the limit that it would pass, or for want of memory, which may come first
 abbrev pub MayRefuse : Option PartitionFault → PartitionFault → Type 0

@@ -63,7 +63,7 @@ transition_run o asked part library read (command.Stickers command) = transition
 transition_run o asked part library read (command.Connection command) = transition_by (connection_result asked command)
 transition_run o asked part library read (command.Outputs command) = transition_by (outputs_result asked part command)
 transition_run o asked part library read (command.Messages command) = transition_by (messages_result asked part command)
-transition_run o asked part library read (command.Partitions command) = planned o.parts o.clients o.openings asked part.place command
+transition_run o asked part library read (command.Partitions command) = planned o.parts o.clients o.openings asked part.index command
 
 -- a client's wish leaves the daemon as it is; another command makes what it makes
 abbrev pub transition_wished : Asked → Client → TransitionData → Option Wish → TransitionData
@@ -170,9 +170,9 @@ transition_of o part library client (Line number stand request heard) =
     written_transition stand request heard.refused (transition_line o part library client stand request heard.read)
 transition_of o part library client ScanQuestion = record (quiet no_response) { report = if o.ended then Ended else ToScan (running library.scan) }
 transition_of o part library client (ScanResult songs second) = ended_scan library songs second
-transition_of o part library client (Want place owes) = want o.ended part owes
-transition_of o part library client (Have place number frames) = have o.ended part number frames
-transition_of o part library client (Failed place number partner) = failure part number partner
+transition_of o part library client (Want index owes) = want o.ended part owes
+transition_of o part library client (Have index number frames) = have o.ended part number frames
+transition_of o part library client (Failed index number partner) = failure part number partner
 transition_of o part library client (OutputTurn output written discarded failed) =
     or_ended o.ended (output_turn part output (Settles output written discarded failed))
 transition_of o part library client End = quiet no_response
@@ -198,9 +198,9 @@ sender (Disconnect number) = Some number
 sender (Line number stand request heard) = Some number
 sender ScanQuestion = None
 sender (ScanResult songs second) = None
-sender (Want place owes) = None
-sender (Have place number frames) = None
-sender (Failed place number partner) = None
+sender (Want index owes) = None
+sender (Have index number frames) = None
+sender (Failed index number partner) = None
 sender (OutputTurn output written discarded failed) = None
 sender End = None
 
@@ -218,29 +218,29 @@ abbrev pub sender_in : List Client → Event → Option Client
 sender_in clients event = client_among (sender event) clients
 
 -- the partition of a client; the first for one that is not there
-abbrev pub place_in : Option Client → ℕ
-place_in None = 0
-place_in (Some client) = client.place
+abbrev pub index_in : Option Client → ℕ
+index_in None = 0
+index_in (Some client) = client.index
 
 -- The partition that an event happens in: the one of the client that it comes from, the one whose job is asked
 -- for, decoded or failed, or the one of an output. The others happen in the first, where they change nothing.
-abbrev pub place_of : List Known → Option Client → Event → ℕ
-place_of parts client (Connect number) = place_in client
-place_of parts client (Disconnect number) = place_in client
-place_of parts client (Line number stand request heard) = place_in client
-place_of parts client ScanQuestion = 0
-place_of parts client (ScanResult songs second) = 0
-place_of parts client (Want place owes) = place
-place_of parts client (Have place number frames) = place
-place_of parts client (Failed place number partner) = place
-place_of parts client (OutputTurn output written discarded failed) = unwrap_or (holder output parts) 0
-place_of parts client End = 0
+abbrev pub index_of : List Known → Option Client → Event → ℕ
+index_of parts client (Connect number) = index_in client
+index_of parts client (Disconnect number) = index_in client
+index_of parts client (Line number stand request heard) = index_in client
+index_of parts client ScanQuestion = 0
+index_of parts client (ScanResult songs second) = 0
+index_of parts client (Want index owes) = index
+index_of parts client (Have index number frames) = index
+index_of parts client (Failed index number partner) = index
+index_of parts client (OutputTurn output written discarded failed) = unwrap_or (holder output parts) 0
+index_of parts client End = 0
 
-abbrev pub place_at : Image → Event → ℕ
-place_at i event = place_of (map known i.parts) (sender_in i.clients event) event
+abbrev pub index_at : Image → Event → ℕ
+index_at i event = index_of (map known i.parts) (sender_in i.clients event) event
 
 abbrev pub transition : Image → Event → TransitionData
-transition i event = transition_of (overview i) (part_at (place_at i event) i.parts) i.shared.library (sender_in i.clients event) event
+transition i event = transition_of (overview i) (part_at (index_at i event) i.parts) i.shared.library (sender_in i.clients event) event
 
 -- the client that goes to another partition by an event of this client
 abbrev pub moved_client : ℕ → ResponseData → Option ℕ
@@ -249,9 +249,9 @@ moved_client number response = entering number (move_of response)
 -- what a transition of an event of a partition raises for each client: everything for the one that goes to another
 -- partition; else what differs before and after it
 abbrev pub raised_by : ℕ → ℕ → List Part → Library → TransitionData → Client → Subsystems
-raised_by number place parts library t =
+raised_by number index parts library t =
     raised (moved_client number t.response) t.written (watched_all library parts)
-    (watched_all (library_after library t.scan) (parts_after library.rate place t parts))
+    (watched_all (library_after library t.scan) (parts_after library.rate index t parts))
 
 -- whether the daemon has ended, after an event
 abbrev pub ended_after : Bool → Event → Bool
@@ -260,15 +260,15 @@ ended_after ended _ = ended
 
 -- what it raises, in an image
 abbrev pub raised_of : Image → Event → TransitionData → Client → Subsystems
-raised_of i event t = raised_by (sender_number event) (place_at i event) i.parts i.shared.library t
+raised_of i event t = raised_by (sender_number event) (index_at i event) i.parts i.shared.library t
 
 abbrev pub report_at : Image → Event → TransitionData → Report
-report_at i event t = report_of (place_at i event) i.parts i.shared.library t
+report_at i event t = report_of (index_at i event) i.parts i.shared.library t
 
 -- the image after a transition, with its clients
 abbrev pub after_transition : Image → Event → TransitionData → Image
 after_transition i event t = record {
-  parts = parts_after i.shared.library.rate (place_at i event) t i.parts;
+  parts = parts_after i.shared.library.rate (index_at i event) t i.parts;
   shared = record i.shared {
     library = library_after i.shared.library t.scan;
     books = books_after i.shared.books t.effect (report_at i event t);
@@ -295,16 +295,16 @@ told i event = told_by i event (transition i event)
 
 -- the numbers of frames after a transition of an event of a partition
 abbrev pub books_by : FrameBooks → ℕ → List Part → Library → TransitionData → FrameBooks
-books_by books place parts library t = books_after books t.effect (report_of place parts library t)
+books_by books index parts library t = books_after books t.effect (report_of index parts library t)
 
 -- whether the frames that a transition tells of can be counted with all others
 abbrev pub counts_frames : Image → Event → TransitionData → Bool
-counts_frames i event t = can_count_all (books_by i.shared.books (place_at i event) i.parts i.shared.library t)
+counts_frames i event t = can_count_all (books_by i.shared.books (index_at i event) i.parts i.shared.library t)
 
 -- whether a transition leaves the numbers of cuts, starts, jobs and scans, and how often an output was moved, at
 -- or below their limit
 abbrev pub keeps_limits : Image → Event → TransitionData → Bool
-keeps_limits i event t = keeps_all_numbers (place_at i event) i.parts i.shared.library t
+keeps_limits i event t = keeps_all_numbers (index_at i event) i.parts i.shared.library t
 
 -- why an event of a seat is refused, if it is: the seat made 2^63-1 events, or the frames could not be
 -- counted any more; or a number would be above its limit

@@ -29,7 +29,7 @@ use Rattle.partition.specs.Image.{Image}
 use Rattle.transitions.specs.Transitions.{TransitionData}
 use Rattle.player_state.specs.Libraries.{library_after}
 use Rattle.transitions.specs.Shelves.{changes_lists, changes_stickers}
-use Rattle.partition.specs.Step.{transition, moved_client, sender_number, after_transition, ended_after, place_at, report_at, told_by}
+use Rattle.partition.specs.Step.{transition, moved_client, sender_number, after_transition, ended_after, index_at, report_at, told_by}
 use Rattle.partition_table.specs.Parts.{carried_in, known, outputs_moved}
 use Rattle.partition_table.specs.declared.crossing.Crossing.{Crossing}
 use Rattle.partition_table.specs.declared.crossing.Crossing.TheVariants.{Stays, Opens, Closes, Brings}
@@ -40,7 +40,7 @@ use Rattle.player_state.specs.declared.outputs.Carried.{Carried}
 -- a client, the partition that it is in, the tags that it is shown, and what it waits for, if it waits
 pub record Listener : Type 0 where
   pub number : ℕ
-  pub place : ℕ
+  pub index : ℕ
   pub tags : List TagName
   pub waiting : Option Subsystems
 
@@ -48,7 +48,7 @@ pub record Listener : Type 0 where
 -- is played, the volume, the outputs, who listens to which channel and the messages that wait, and how many
 -- frames were decoded
 pub record PartWorld : Type 0 where
-  pub place : ℕ
+  pub index : ℕ
   pub name : List ℕ
   pub past : List (List Entry)
   pub limits : Greatest
@@ -84,13 +84,13 @@ pub record Trace : Type 0 where
 
 -- the first partition of a number
 abbrev pub world_at : ℕ → List PartWorld → Option PartWorld
-world_at place [] = None
-world_at place (p ∷ ps) = if p.place == place then Some p else world_at place ps
+world_at index [] = None
+world_at index (p ∷ ps) = if p.index == index then Some p else world_at index ps
 
 -- what the subsystems speak of, of a partition and of all
 abbrev pub watched_by : PartWorld → Watched
 watched_by p = record {
-  place = p.place;
+  index = p.index;
   name = p.name;
   queue = present p.past;
   player = p.player;
@@ -138,15 +138,15 @@ DiffersForAll Partition m = names_in m.before ≢ names_in m.after
 DiffersForAll _ m = ⊥
 
 -- the partition of the client of a number; the first for one that is not there
-abbrev pub place_of : ℕ → List Listener → ℕ
-place_of number [] = 0
-place_of number (l ∷ ls) = if l.number == number then l.place else place_of number ls
+abbrev pub index_of : ℕ → List Listener → ℕ
+index_of number [] = 0
+index_of number (l ∷ ls) = if l.number == number then l.index else index_of number ls
 
 -- the part that a subsystem speaks of for a client that is in a partition differs between the worlds before and
 -- after an event
 abbrev pub DiffersAt : ℕ → ℕ → Subsystem → WorldTransition → Type 0
-DiffersAt number place subsystem m =
-    DiffersForAll subsystem m ⊎ DiffersBetween number subsystem (world_at place m.before.parts) (world_at place m.after.parts)
+DiffersAt number index subsystem m =
+    DiffersForAll subsystem m ⊎ DiffersBetween number subsystem (world_at index m.before.parts) (world_at index m.after.parts)
 
 -- by an event a client goes to another partition
 abbrev pub GoesBy : ℕ → WorldTransition → Type 0
@@ -155,11 +155,11 @@ GoesBy number m = is_this (moved_client (sender_number m.event) m.transition.res
 -- A subsystem is raised for a client: it goes to another partition, where all is new to it, or the part of which
 -- the subsystem speaks differs where it is
 abbrev pub Differs : ℕ → Subsystem → WorldTransition → Type 0
-Differs number subsystem m = GoesBy number m ⊎ DiffersAt number (place_of number m.before.clients) subsystem m
+Differs number subsystem m = GoesBy number m ⊎ DiffersAt number (index_of number m.before.clients) subsystem m
 
 -- the client of a number in its partition, whatever it is shown and whatever is pending for it
 abbrev pub seated : ℕ → World → Client
-seated number w = record (newcomer number) { place = place_of number w.clients }
+seated number w = record (newcomer number) { index = index_of number w.clients }
 
 -- what an event raised for a client: everything where it goes to another partition, and else the subsystems whose
 -- parts differ between the worlds before and after it
@@ -180,7 +180,7 @@ is_learning Learn = true
 is_learning Resume = false
 is_learning Join = false
 is_learning (Show tags) = false
-is_learning (Enter place) = false
+is_learning (Enter index) = false
 
 -- a client was sent a notice: after another's event, or as the answer to its own `idle`
 abbrev pub is_told : ℕ → WorldTransition → Bool
@@ -221,7 +221,7 @@ pub record IsPending (number : ℕ) (subsystem : Subsystem) (world_transitions :
 abbrev pub client_in : List WorldTransition → Listener → Client
 client_in world_transitions k = record {
   number = k.number;
-  place = k.place;
+  index = k.index;
   tags = k.tags;
   pending = record { waiting = k.waiting; changed = pending_for k.number world_transitions };
 }
@@ -229,7 +229,7 @@ client_in world_transitions k = record {
 abbrev pub listener_of : Client → Listener
 listener_of client = record {
   number = client.number;
-  place = client.place;
+  index = client.index;
   tags = client.tags;
   waiting = client.pending.waiting;
 }
@@ -261,7 +261,7 @@ books_of world_transitions = record {
 -- as it is
 abbrev pub part_in : PartWorld → Part
 part_in p = record {
-  place = p.place;
+  index = p.index;
   name = p.name;
   queue = state_of p.limits.max_queue p.limits.max_version p.limits.max_id p.past;
   player = p.player;
@@ -307,9 +307,9 @@ part_world_after rate part p effect = record p {
 
 -- the first partition of a number does this
 abbrev pub parts_changed : ℕ → ℕ → Effect → List PartWorld → List PartWorld
-parts_changed rate place effect [] = []
-parts_changed rate place effect (p ∷ ps) =
-    if p.place == place then part_world_after rate (part_in p) p effect ∷ ps else p ∷ parts_changed rate place effect ps
+parts_changed rate index effect [] = []
+parts_changed rate index effect (p ∷ ps) =
+    if p.index == index then part_world_after rate (part_in p) p effect ∷ ps else p ∷ parts_changed rate index effect ps
 
 abbrev pub limits_of : Part → Greatest
 limits_of part = record {
@@ -322,7 +322,7 @@ limits_of part = record {
 -- what a partition owns, with these queues as its past
 abbrev pub part_world_of : List (List Entry) → Part → PartWorld
 part_world_of past part = record {
-  place = part.place;
+  index = part.index;
   name = part.name;
   past = past;
   limits = limits_of part;
@@ -344,19 +344,19 @@ with_world p ps = if nat_lt (length ps) 16 then ps ++ p ∷ [] else ps
 -- an output comes to the partition of a number as it is carried, and is in no other
 abbrev pub world_moved_output : ℕ → ℕ → Option Carried → PartWorld → PartWorld
 world_moved_output output to None p = p
-world_moved_output output to (Some c) p = record p { outputs = outputs_moved output (p.place == to) c p.outputs }
+world_moved_output output to (Some c) p = record p { outputs = outputs_moved output (p.index == to) c p.outputs }
 
 -- what passes between the partitions
 abbrev pub worlds_moved : Crossing → List PartWorld → List PartWorld
 worlds_moved Stays ps = ps
 worlds_moved (Opens p) ps = with_world (unplayed p) ps
-worlds_moved (Closes place) ps = filter (λ (p : PartWorld). not (p.place == place)) ps
+worlds_moved (Closes index) ps = filter (λ (p : PartWorld). not (p.index == index)) ps
 worlds_moved (Brings output to) ps = map (world_moved_output output to (carried_in output to (map known (map part_in ps)))) ps
 
 -- the world after a transition, of which the image of the world before it is known
 abbrev pub world_after_transition : World → Image → Event → TransitionData → World
 world_after_transition w i event t = record {
-  parts = worlds_moved t.crossing (parts_changed w.library.rate (place_at i event) t.effect w.parts);
+  parts = worlds_moved t.crossing (parts_changed w.library.rate (index_at i event) t.effect w.parts);
   library = library_after w.library t.scan;
   clients = map listener_of (after_transition i event t).clients;
   ended = ended_after w.ended event;

@@ -9,11 +9,11 @@ ghost use Rattle.transitions.specs.Shelves.{is_ok_read};
 ghost use Rattle.transitions.specs.Transitions.{IsOfCommand};
 ghost use Rattle.partition.specs.Applying.{ActsForEvent, FitsEvent, OkGives, OkGivesAsked, OkGivesCommand};
 ghost use Rattle.partition.specs.Applying.{OkGivesLine, OkGivesRequest, WritesAlone};
-ghost use Rattle.partition.specs.Applying.{place_in_state, run_in as run_in_lem};
+ghost use Rattle.partition.specs.Applying.{index_in_state, run_in as run_in_lem};
 ghost use Rattle.partition.specs.Image.{image_of_state};
-ghost use Rattle.partition.specs.Lent.{ReadsFor, TurnsByRead};
+ghost use Rattle.partition.specs.Lent.{ReadsFor, ChangesByRead};
 ghost use Rattle.partition.specs.Step.{asked_by as asked_by_lem, ends_waiting as ends_waiting_lem};
-ghost use Rattle.partition.specs.Step.{place_in as place_in_lem, place_of as place_of_lem};
+ghost use Rattle.partition.specs.Step.{index_in as index_in_lem, index_of as index_of_lem};
 ghost use Rattle.partition.specs.Step.{sender_in as sender_in_lem, response_to_new, transition};
 ghost use Rattle.partition.specs.Step.{failure as failure_lem, have as have_lem, want as want_lem};
 ghost use Rattle.partition.specs.Step.{ended_scan, output_turn};
@@ -51,7 +51,7 @@ pub(crate) fn transition_of_event(
     ensures lone { IfOk result (ActsForEvent state.now event.now) }
 {
     let client = sender_in(&state.clients, event);
-    let part = state.parts.at(place_of(&state.parts, client, event));
+    let part = state.parts.at(index_of(&state.parts, client, event));
     match event {
         Event::Connect(_) => Ok(Transition::only(connect(alloc, &state.clients, client)?)),
         Event::Disconnect(number) => Ok(Transition::departs(alloc, *number)),
@@ -85,10 +85,10 @@ pub(crate) fn transition_of_event(
 }
 
 /// The partition that an event happens in, by its number.
-pub(crate) fn place_of_event(state: &State, event: &Event) -> u8
-    ensures { result ≡ place_in_state state.now event.now }
+pub(crate) fn index_of_event(state: &State, event: &Event) -> u8
+    ensures { result ≡ index_in_state state.now event.now }
 {
-    place_of(&state.parts, sender_in(&state.clients, event), event)
+    index_of(&state.parts, sender_in(&state.clients, event), event)
 }
 
 /// The client that an event comes from, if it is there.
@@ -110,22 +110,22 @@ fn sender_in(clients: &[Client], event: &Event) -> Option<Client>
 
 /// The partition that an event happens in: of its client, if that is there, of its job, or of its output; the
 /// first for all others, which change nothing in it.
-fn place_of(parts: &Parts, client: Option<Client>, event: &Event) -> u8
-    ensures { result ≡ place_of_lem (map known parts.now) client event.now }
+fn index_of(parts: &Parts, client: Option<Client>, event: &Event) -> u8
+    ensures { result ≡ index_of_lem (map known parts.now) client event.now }
 {
     match event {
-        Event::Connect(_) | Event::Disconnect(_) | Event::Line(_, _, _, _) => place_in(client),
-        Event::Want(place, _) | Event::Have(place, _, _) | Event::Failed(place, _, _) => *place,
+        Event::Connect(_) | Event::Disconnect(_) | Event::Line(_, _, _, _) => index_in(client),
+        Event::Want(index, _) | Event::Have(index, _, _) | Event::Failed(index, _, _) => *index,
         Event::OutputTurn(output, _, _, _) => parts.holder(*output).unwrap_or(0),
         Event::ScanQuestion | Event::ScanResult(_, _) | Event::End => 0,
     }
 }
 
-fn place_in(client: Option<Client>) -> u8
-    ensures { result ≡ place_in_lem client }
+fn index_in(client: Option<Client>) -> u8
+    ensures { result ≡ index_in_lem client }
 {
     match client {
-        Some(client) => client.place,
+        Some(client) => client.index,
         None => 0,
     }
 }
@@ -247,7 +247,7 @@ pub(crate) fn ask_shelf<S: Shelf>(
     shelf: &mut S,
     event: &Event,
 ) -> Result<Read, AllocError>
-    ensures turns { TurnsByRead S.standing shelf.old shelf.new (is_ok_read result) }
+    ensures changes { ChangesByRead S.standing shelf.old shelf.new (is_ok_read result) }
     ensures read { ReadsFor S.standing S.failed shelf.old shelf.new library.now clients.now event.now result }
 {
     let Event::Line(number, stand, request, _) = event else {
@@ -384,7 +384,7 @@ fn run(
                 &state.clients,
                 state.openings,
                 asked,
-                part.place,
+                part.index,
                 command,
             )
         }

@@ -25,10 +25,10 @@ ghost use Rattle.partition.specs.declared.partition.PartitionFault.{PartitionFau
 ghost use Rattle.connected_clients.specs.Clients.{notified};
 ghost use Rattle.partition.specs.Image.{counted, image_of_state};
 ghost use Rattle.partition.specs.Lent.{HasCause, IsRefusedIn, RecordsIn, ServesEvent};
-ghost use Rattle.partition.specs.Lent.{IsUnwrittenBy, IsWriteReply, TurnsByWriteOf};
+ghost use Rattle.partition.specs.Lent.{IsUnwrittenBy, IsWriteReply, ChangesByWriteOf};
 ghost use Rattle.partition.specs.Applying.{AddsEntry, HearsRefusal, OkGives, outcome_with};
 ghost use Rattle.partition.specs.Applying.{AnswersEvent, IsWithinLimits, NotifiesOfEvent, RefusesEvent};
-ghost use Rattle.partition.specs.Applying.{ReportsEvent, image_after, place_in_state};
+ghost use Rattle.partition.specs.Applying.{ReportsEvent, image_after, index_in_state};
 ghost use Rattle.partition.specs.Applying.{ActsForEvent, FitsEvent, IsAlone, IsStill};
 ghost use Rattle.partition.specs.Applying.{AnswersBy, IsImageAfter, NotifiesBy, PassesNoLimit};
 ghost use Rattle.partition.specs.Applying.{RefusesTransitionIn, ReportsBy};
@@ -42,13 +42,13 @@ ghost use Rattle.player_state.specs.declared.effect.CommandEffect.TheVariants.{R
 ghost use Rattle.player_state.specs.declared.effect.Effect.TheVariants.{ByCommand};
 ghost use Rattle.connected_clients.specs.Fingerprint.{changes_listeners_in, raised_in};
 ghost use Rattle.connected_clients.specs.Rooms.{is_waiting, listed, room_in};
-ghost use Rattle.connected_clients.specs.Settled.{AllSettled, HasRoom, nothing};
-ghost use Rattle.transitions.specs.Shelves.{LeavesUnchanged, is_wanting, is_written};
+ghost use Rattle.connected_clients.specs.UpToDate.{AllUpToDate, HasRoom, nothing};
+ghost use Rattle.transitions.specs.Shelves.{LeavesUnchanged, is_out_of_memory, is_written};
 ghost use Rattle.partition.specs.Step.{counts_frames, keeps_limits, transition as transition_at};
 ghost use Rattle.partition.specs.Step.{ended_after as ended_after_lem, moved_client as moved_client_lem, sender_number as sender_number_lem};
 ghost use Rattle.player_events.specs.Events.{store_reply_at, with_store_reply, name_at, stand_of};
 
-use crate::event_transitions::{ask_shelf, place_of_event, transition_of_event};
+use crate::event_transitions::{ask_shelf, index_of_event, transition_of_event};
 use crate::lent::write;
 use crate::partition::PartitionFault;
 use crate::prepare::{Prepared, changes, prepare_step, prepare_write};
@@ -97,7 +97,7 @@ pub(crate) fn record_event<S: Shelf>(
 ) -> Result<Outcome, PartitionFault>
     requires seat { seat < 16 }
     requires count { nat_le 9223372036854775807 (slice_index_or state.old.made seat 0) ≡ false }
-    requires settled { AllSettled state.old.clients.items }
+    requires up_to_date { AllUpToDate state.old.clients.items }
     ensures ok { RecordsIn S.Shelf state.old state.new log.old log.new shelf.old shelf.new seat event result }
     ensures refused { IfErr result (IsRefusedIn S.Shelf state.old shelf.old shelf.new seat event) }
     ensures unchanged { OnErr result (image_of_state state.new ≡ image_of_state state.old) }
@@ -159,7 +159,7 @@ fn apply_event<S: Shelf>(
     event: &mut Event,
 ) -> Result<Applied, PartitionFault>
     requires space { vec_len state.old.clients < vec_capacity state.old.clients }
-    requires settled { AllSettled state.old.clients.items }
+    requires up_to_date { AllUpToDate state.old.clients.items }
     ensures event { event.new ≡ with_store_reply event.old (store_reply_at event.new) }
     ensures image { OnOk result (image_of_state state.new ≡ image_after state.old event.new) }
     ensures answer { IfOk result (AnswersEvent state.old event.new) }
@@ -192,7 +192,7 @@ fn apply_transition(
     transition: Transition,
 ) -> Result<Applied, PartitionFault>
     requires space { vec_len state.old.clients < vec_capacity state.old.clients }
-    requires settled { AllSettled state.old.clients.items }
+    requires up_to_date { AllUpToDate state.old.clients.items }
     requires fits { FitsEvent state.old event.now transition }
     requires acts { ActsForEvent state.old event.now transition }
     requires unwritten { is_written transition.written ≡ false }
@@ -208,8 +208,8 @@ fn apply_transition(
         return Ok(apply_still(state, event, transition));
     }
     let number = sender_number(event);
-    let place = place_of_event(state, event);
-    let (prepared, books) = match prepare_step(alloc, state, place, &transition) {
+    let index = index_of_event(state, event);
+    let (prepared, books) = match prepare_step(alloc, state, index, &transition) {
         Ok(made) => made,
         Err(fault) => {
             return Err(fault);
@@ -217,9 +217,9 @@ fn apply_transition(
     };
     let Prepared { notices, before } = prepared;
     let database = changes_songs(&transition, &state.library);
-    let subscription = changes_listeners(&state.parts, place, &transition.effect);
+    let subscription = changes_listeners(&state.parts, index, &transition.effect);
     let moved_client = moved_client(number, &transition.response);
-    let telling = transition.carry_out(&mut state.parts, place, &mut state.library)?;
+    let telling = transition.carry_out(&mut state.parts, index, &mut state.library)?;
     state.books = books;
     state.ended = ended_after(state.ended, event);
     let unwritten = ShelfWrite::Nothing;
@@ -237,7 +237,7 @@ fn apply_transition(
 /// Applies what changes nothing: nobody hears of it but the client that it comes from.
 fn apply_still(state: &mut State, event: &Event, transition: Transition) -> Applied
     requires space { vec_len state.old.clients < vec_capacity state.old.clients }
-    requires settled { AllSettled state.old.clients.items }
+    requires up_to_date { AllUpToDate state.old.clients.items }
     requires still { IsStill transition }
     ensures image { IsImageAfter state.old event.now transition state.new }
     ensures answer { AnswersBy transition result }
@@ -255,7 +255,7 @@ fn apply_still(state: &mut State, event: &Event, transition: Transition) -> Appl
 /// what the client does.
 fn answer_sender(state: &mut State, event: &Event, transition: Transition) -> Telling
     requires space { vec_len state.old.clients < vec_capacity state.old.clients }
-    requires settled { AllSettled state.old.clients.items }
+    requires up_to_date { AllUpToDate state.old.clients.items }
     requires still { IsStill transition }
     ensures image { IsImageAfter state.old event.now transition state.new }
     ensures answer { result.response.answer ≡ transition.response.answer }
@@ -265,8 +265,8 @@ fn answer_sender(state: &mut State, event: &Event, transition: Transition) -> Te
     ensures limits { keeps_limits (image_of_state state.old) event.now transition ≡ true }
 {
     state.books.rest();
-    let place = place_of_event(state, event);
-    is_within_still(&state.parts, place);
+    let index = index_of_event(state, event);
+    is_within_still(&state.parts, index);
     state.ended = ended_after(state.ended, event);
     let report = transition.report.into_report();
     let Telling {
@@ -285,15 +285,15 @@ fn move_sender(clients: &mut Vec<Client>, sender: u32, response: &Response)
     if response.next().closes() {
         leave(clients, sender);
     } else {
-        make_move(clients, sender, response.moves());
+        make_move(clients, sender, response.client_move());
     }
 }
 
 /// Whether an event makes other clients of its partition listen, or to other channels.
-fn changes_listeners(parts: &Parts, place: u8, effect: &Effect) -> bool
-    ensures { result ≡ changes_listeners_in (part_at place parts.now) effect.now }
+fn changes_listeners(parts: &Parts, index: u8, effect: &Effect) -> bool
+    ensures { result ≡ changes_listeners_in (part_at index parts.now) effect.now }
 {
-    match parts.at(place) {
+    match parts.at(index) {
         Some(part) => changes_subscriptions(&part.channels, effect),
         None => false,
     }
@@ -306,7 +306,7 @@ fn moved_client(number: u32, response: &Response) -> Option<u32>
     if response.next().closes() {
         return None;
     }
-    match response.moves() {
+    match response.client_move() {
         Move::Enter(_) => Some(number),
         _ => None,
     }
@@ -322,7 +322,7 @@ fn write_transition<S: Shelf>(
     transition: Transition,
 ) -> Result<Applied, PartitionFault>
     requires space { vec_len state.old.clients < vec_capacity state.old.clients }
-    requires settled { AllSettled state.old.clients.items }
+    requires up_to_date { AllUpToDate state.old.clients.items }
     requires transition { transition ≡ transition_at (image_of_state state.old) event.old }
     requires alone { IsAlone transition }
     requires written { is_written transition.written ≡ true }
@@ -333,34 +333,34 @@ fn write_transition<S: Shelf>(
     ensures report { IfOk result (ReportsEvent state.old event.new) }
     ensures notices { IfOk result (NotifiesOfEvent state.old event.new) }
     ensures within { OnOk result (IsWithinLimits state.old event.new) }
-    ensures turns { OnOk result (TurnsByWriteOf S.standing shelf.old shelf.new transition.written event.new) }
+    ensures changes { OnOk result (ChangesByWriteOf S.standing shelf.old shelf.new transition.written event.new) }
     ensures answers { OnOk result (IsWriteReply S.Shelf shelf.old shelf.new transition.written event.new) }
-    ensures ample { OnOk result (is_wanting (store_reply_at event.new).refused ≡ false) }
+    ensures ample { OnOk result (is_out_of_memory (store_reply_at event.new).refused ≡ false) }
     ensures memory { IfErr result (λ fault. fault ≡ PartitionFault.NoMemory) }
     ensures unchanged { OnErr result (IsUnwrittenBy S.standing shelf.old shelf.new transition.written) }
     ensures err { OnErr result (image_of_state state.new ≡ image_of_state state.old) }
 {
-    let place = place_of_event(state, event);
-    let Ok((prepared, refusals)) = prepare_write(alloc, state, place, event) else {
+    let index = index_of_event(state, event);
+    let Ok((prepared, refusals)) = prepare_write(alloc, state, index, event) else {
         return Err(PartitionFault::NoMemory);
     };
     let transition = write_out(state, shelf, event, transition, refusals)?;
-    Ok(tell_written(state, place, event, transition, prepared))
+    Ok(tell_written(state, index, event, transition, prepared))
 }
 
 /// Tells of what was written to the shelf, or why it was not: the transition does nothing else.
 fn tell_written(
     state: &mut State,
-    place: u8,
+    index: u8,
     event: &Event,
     transition: Transition,
     prepared: Prepared,
 ) -> Applied
     requires space { vec_len state.old.clients < vec_capacity state.old.clients }
-    requires settled { AllSettled state.old.clients.items }
+    requires up_to_date { AllUpToDate state.old.clients.items }
     requires alone { IsAlone transition }
-    requires place { place ≡ place_in_state state.old event.now }
-    requires before { HasReadings state.old Crossing.Stays place prepared }
+    requires index { index ≡ index_in_state state.old event.now }
+    requires before { HasReadings state.old Crossing.Stays index prepared }
     requires room { HasRoomForWaiting state.old prepared }
     requires none { listed prepared.notices ≡ [] }
     ensures image { IsImageAfter state.old event.now transition state.new }
@@ -373,7 +373,7 @@ fn tell_written(
     let Prepared { notices, before } = prepared;
     state.books.rest();
     state.ended = ended_after(state.ended, event);
-    is_within_still(&state.parts, place);
+    is_within_still(&state.parts, index);
     let number = sender_number(event);
     let moved_client = moved_client(number, &transition.response);
     let raised = before.changed(
@@ -389,10 +389,10 @@ fn tell_written(
 }
 
 /// What is true of each partition: its numbers are within their limit.
-fn is_within_still(parts: &Parts, place: u8)
-    ensures { (rate : ℕ) → is_within_in rate (part_at place parts.now) (ByCommand Rests) ≡ true }
+fn is_within_still(parts: &Parts, index: u8)
+    ensures { (rate : ℕ) → is_within_in rate (part_at index parts.now) (ByCommand Rests) ≡ true }
 {
-    if let Some(part) = parts.at(place) {
+    if let Some(part) = parts.at(index) {
         let _ = done(part);
     }
 }
@@ -414,9 +414,9 @@ fn write_out<S: Shelf>(
     ensures event { HearsRefusal event.old event.new }
     ensures transition { OkGives result (transition_at (image_of_state state.now) event.new) }
     ensures alone { IfOk result IsAlone }
-    ensures turns { OnOk result (TurnsByWriteOf S.standing shelf.old shelf.new transition.written event.new) }
+    ensures changes { OnOk result (ChangesByWriteOf S.standing shelf.old shelf.new transition.written event.new) }
     ensures answers { OnOk result (IsWriteReply S.Shelf shelf.old shelf.new transition.written event.new) }
-    ensures ample { OnOk result (is_wanting (store_reply_at event.new).refused ≡ false) }
+    ensures ample { OnOk result (is_out_of_memory (store_reply_at event.new).refused ≡ false) }
     ensures unchanged { OnErr result (IsUnwrittenBy S.standing shelf.old shelf.new transition.written) }
 {
     match write(shelf, &transition.written) {
@@ -438,7 +438,7 @@ fn tell(
     mut notices: Notices,
 ) -> Applied
     requires room { vec_len clients.old < vec_capacity clients.old }
-    requires settled { AllSettled clients.old.items }
+    requires up_to_date { AllUpToDate clients.old.items }
     requires notices { HasRoom (raised_in raised.now) clients.old.items (room_in notices) }
     requires none { listed notices ≡ [] }
     ensures clients { HearRaised number raised.now telling.response clients.old.items clients.new.items }
@@ -454,7 +454,7 @@ fn tell(
 
 /// Tells the clients what was raised, and lets the one that the event comes from do what it does. The notices
 /// join the list.
-#[tactic(auto, using(crate::proofs::Settled::fewer_wanted, crate::proofs::Settled::settled_filter))]
+#[tactic(auto, using(crate::proofs::UpToDate::fewer_waiting, crate::proofs::UpToDate::up_to_date_filter))]
 fn tell_clients(
     clients: &mut Vec<Client>,
     number: u32,
@@ -463,7 +463,7 @@ fn tell_clients(
     notices: &mut Notices,
 )
     requires room { vec_len clients.old < vec_capacity clients.old }
-    requires settled { AllSettled clients.old.items }
+    requires up_to_date { AllUpToDate clients.old.items }
     requires empty { listed notices.old ≡ [] }
     requires notices { HasRoom (raised_in raised.now) clients.old.items (room_in notices.old) }
     ensures clients { HearRaised number raised.now response.now clients.old.items clients.new.items }
@@ -477,15 +477,15 @@ fn tell_clients(
     }
     tell_all(clients, raised, notices);
     if !closing {
-        make_move(clients, number, response.moves());
+        make_move(clients, number, response.client_move());
     }
 }
 
 /// Tells the clients what was raised. Where nothing was, none is looked at: each was told already what it
 /// waits for.
-#[tactic(auto, using(crate::proofs::Settled::same_clients, crate::proofs::Settled::no_notices))]
+#[tactic(auto, using(crate::proofs::UpToDate::same_clients, crate::proofs::UpToDate::no_notices))]
 fn tell_all(clients: &mut [Client], raised: &Raised, notices: &mut Notices)
-    requires settled { AllSettled clients.old }
+    requires up_to_date { AllUpToDate clients.old }
     requires empty { listed notices.old ≡ [] }
     requires notices { HasRoom (raised_in raised.now) clients.old (room_in notices.old) }
     ensures clients { clients.new ≡ map (notified (raised_in raised.now)) clients.old }

@@ -1,12 +1,12 @@
 //! What is written to the lent shelf.
-ghost use Rattle.partition.specs.Lent.{AnswersWrite, TurnsByWrite};
+ghost use Rattle.partition.specs.Lent.{AnswersWrite, ChangesByWrite};
 
 use shelf::{Shelf, ShelfFault};
 use transitions::ShelfWrite;
 
 /// Writes to the shelf.
 pub(crate) fn write<S: Shelf>(shelf: &mut S, written: &ShelfWrite) -> Result<(), ShelfFault>
-    ensures turns { TurnsByWrite S.standing shelf.old shelf.new written.now result }
+    ensures changes { ChangesByWrite S.standing shelf.old shelf.new written.now result }
     ensures answers { AnswersWrite S.standing S.failed shelf.old shelf.new written.now result }
 {
     match written {

@@ -32,7 +32,7 @@ ghost use Rattle.partition.specs.Legal.{HasDistinctIds, IsPast};
 ghost use Rattle.partition.specs.Step.{limit_of, told as told_of};
 ghost use Rattle.partition.specs.Steps.{JoinsTold, RefusesStep};
 ghost use Rattle.player_events.specs.Events.{is_line};
-ghost use Rattle.connected_clients.specs.Settled.{AllSettled};
+ghost use Rattle.connected_clients.specs.UpToDate.{AllUpToDate};
 ghost use Rattle.partition.specs.Since.{AllHavePending, books_of_all};
 ghost use Rattle.partition.specs.Applying.{AreBytesOfLast, OkGives, made_by};
 ghost use Rattle.player_events.specs.Sizes.{window_bytes as window_bytes_lem};
@@ -185,7 +185,7 @@ impl Partition {
     ///
     /// `HistoryFull` where the window was full and there was no memory to fold it: nothing changed.
     /// `CutsAtLimit` where the event would raise a number above the greatest, `AtLimit` where it could not be
-    /// counted or its frames could not; want of memory may come in their place, but not in that of a seat
+    /// counted or its frames could not; want of memory may come instead of them, but not in that of a seat
     /// which made 2^63-1 events. The shelf keeps its maps.
     pub fn apply<S: Shelf>(
         &mut self,
@@ -394,7 +394,7 @@ impl Partition {
     /// The events of the window, the first one first.
     pub fn history(&self) -> &[Logged]
         ensures window { result.now ≡ self.now.window }
-        // Every reply is the one-thread player's at its place in the history.
+        // Every reply is the one-thread player's at its position in the history.
         ensures told { AreTold self.now.base self.now.window }
         // The present state is the base stepped through the window, with its versions, stamps, marks and ids.
         ensures present { self.now.present ≡ replay self.now.base self.now.window }
@@ -424,7 +424,7 @@ impl Partition {
     fn legal(&self)
         ensures legal { IsPast self.now }
         ensures replayed { self.now.present ≡ replay self.now.base self.now.window }
-        ensures settled { AllSettled self.now.present.clients }
+        ensures up_to_date { AllUpToDate self.now.present.clients }
     {
         replays_worlds();
         are_distinct(self.state.parts.items());
@@ -448,17 +448,17 @@ impl Partition {
     }
 
     /// The partition of a number, if there is one.
-    pub fn part(&self, place: u8) -> Option<&Part>
-        ensures { option_copied result ≡ part_at place self.now.present.parts }
+    pub fn part(&self, index: u8) -> Option<&Part>
+        ensures { option_copied result ≡ part_at index self.now.present.parts }
     {
-        self.state.parts.at(place)
+        self.state.parts.at(index)
     }
 
     /// The number of the partition of this name, if there is one.
-    pub fn place_named(&self, name: &str) -> Option<u8>
+    pub fn index_named(&self, name: &str) -> Option<u8>
         ensures { result ≡ named name.now (map known self.now.present.parts) }
     {
-        self.state.parts.place_named(name)
+        self.state.parts.index_named(name)
     }
 
     /// The number of the partition that an output is in, if it is in one.

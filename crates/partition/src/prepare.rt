@@ -32,16 +32,16 @@ impl Prepared {
     fn with_room(
         alloc: Global,
         crossing: &Crossing,
-        place: u8,
+        index: u8,
         state: &State,
     ) -> Result<Prepared, AllocError>
         ensures notices { IfOk result (λ prepared. listed prepared.notices ≡ []) }
         ensures room { IfOk result (HasRoomForWaiting state.now) }
-        ensures before { IfOk result (HasReadings state.now crossing.now place) }
+        ensures before { IfOk result (HasReadings state.now crossing.now index) }
     {
         Ok(Prepared {
             notices: Notices::with_room(alloc, waiting(&state.clients))?,
-            before: Fingerprint::of(alloc, crossing, place, &state.parts, &state.library)?,
+            before: Fingerprint::of(alloc, crossing, index, &state.parts, &state.library)?,
         })
     }
 }
@@ -54,30 +54,30 @@ impl Prepared {
 pub(crate) fn prepare_step(
     alloc: Global,
     state: &State,
-    place: u8,
+    index: u8,
     transition: &Transition,
 ) -> Result<(Prepared, FrameCounts), PartitionFault>
-    requires acts { ActsAt state.now place transition.now }
+    requires acts { ActsAt state.now index transition.now }
     ensures notices { IfOk result (λ made. listed made.0.notices ≡ []) }
     ensures room { IfOk result (λ made. HasRoomForWaiting state.now made.0) }
-    ensures before { IfOk result (λ made. HasReadings state.now transition.now.crossing place made.0) }
-    ensures counted { OnOk result (can_count_all (books_in state.now place transition.now) ≡ true) }
-    ensures books { IfOk result (λ made. made.1 ≡ books_in state.now place transition.now) }
-    ensures refused { IfErr result (λ fault. RefusesFramesIn state.now place transition.now fault) }
+    ensures before { IfOk result (λ made. HasReadings state.now transition.now.crossing index made.0) }
+    ensures counted { OnOk result (can_count_all (books_in state.now index transition.now) ≡ true) }
+    ensures books { IfOk result (λ made. made.1 ≡ books_in state.now index transition.now) }
+    ensures refused { IfErr result (λ fault. RefusesFramesIn state.now index transition.now fault) }
 {
-    let Some(books) = books_after(state, place, transition) else {
+    let Some(books) = books_after(state, index, transition) else {
         return Err(PartitionFault::AtLimit);
     };
-    let prepared = Prepared::with_room(alloc, &transition.crossing, place, state)?;
+    let prepared = Prepared::with_room(alloc, &transition.crossing, index, state)?;
     Ok((prepared, books))
 }
 
 /// The books after a transition, if its frames can be counted with all others.
-fn books_after(state: &State, place: u8, transition: &Transition) -> Option<FrameCounts>
-    requires { ActsAt state.now place transition.now }
-    ensures { IsBooked result (books_in state.now place transition.now) }
+fn books_after(state: &State, index: u8, transition: &Transition) -> Option<FrameCounts>
+    requires { ActsAt state.now index transition.now }
+    ensures { IsBooked result (books_in state.now index transition.now) }
 {
-    match state.parts.at(place) {
+    match state.parts.at(index) {
         Some(part) => state.books.after(part, &transition.effect),
         None => {
             state.books.rest();
@@ -90,15 +90,15 @@ fn books_after(state: &State, place: u8, transition: &Transition) -> Option<Fram
 pub(crate) fn prepare_write(
     alloc: Global,
     state: &State,
-    place: u8,
+    index: u8,
     event: &Event,
 ) -> Result<(Prepared, Refusals), AllocError>
     ensures notices { IfOk result (λ made. listed made.0.notices ≡ []) }
     ensures room { IfOk result (λ made. HasRoomForWaiting state.now made.0) }
-    ensures before { IfOk result (λ made. HasReadings state.now Crossing.Stays place made.0) }
+    ensures before { IfOk result (λ made. HasReadings state.now Crossing.Stays index made.0) }
     ensures refusals { IfOk result (λ made. made.1 ≡ (stand_of event.now, name_at event.now)) }
 {
-    let prepared = Prepared::with_room(alloc, &Crossing::Stays, place, state)?;
+    let prepared = Prepared::with_room(alloc, &Crossing::Stays, index, state)?;
     let refusals = refusals_of(alloc, event)?;
     Ok((prepared, refusals))
 }
@@ -109,14 +109,14 @@ pub(crate) fn changes(transition: &Transition) -> bool
     ensures { result ≡ false → IsStill transition.now }
 {
     let still = transition.scan.stays() & transition.effect.rests() & transition.crossing.stays();
-    !still | enters(transition.response.moves())
+    !still | enters(transition.response.client_move())
 }
 
 /// Whether a client goes to another partition by this.
-fn enters(moves: Move) -> bool
-    ensures { result ≡ false → GoesNowhere moves }
+fn enters(client_move: Move) -> bool
+    ensures { result ≡ false → GoesNowhere client_move }
 {
-    matches!(moves, Move::Enter(_))
+    matches!(client_move, Move::Enter(_))
 }
 
 /// The answers to the line of an event for each refusal of the shelf; for another event they are never given.

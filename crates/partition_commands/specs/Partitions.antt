@@ -16,7 +16,7 @@ use Rattle.player_state.specs.declared.effect.CommandEffect.TheVariants.{Leaves,
 use Rattle.player_state.specs.declared.state.Client.{Client}
 use Rattle.partition_table.specs.declared.crossing.Crossing.TheVariants.{Opens, Closes, Brings}
 use Rattle.partition_table.specs.Openings.{OpeningsData}
-use Rattle.partition_table.specs.Parts.{Known, free_place, holder, holds_any_in, known_at, named, opening_part}
+use Rattle.partition_table.specs.Parts.{Known, free_index, holder, holds_any_in, known_at, named, opening_part}
 use Rattle.transitions.specs.declared.asked.Asked.{Asked}
 use Rattle.transitions.specs.CommandResults.{bad_name, refusal, shows}
 use Rattle.transitions.specs.Transitions.{TransitionData, crosses, enters, transition_by}
@@ -32,14 +32,14 @@ LeavesAtMost client t = (t.effect ≡ ByCommand Rests) ⊎ (t.effect ≡ ByComma
 -- what all know of a client: its number, and the partition that it is in
 pub record Seated : Type 0 where
   pub number : ℕ
-  pub place : ℕ
+  pub index : ℕ
 
 abbrev pub seated : Client → Seated
-seated k = record { number = k.number; place = k.place }
+seated k = record { number = k.number; index = k.index }
 
 -- whether a client is in a partition
 abbrev pub is_in : ℕ → List Seated → Bool
-is_in place ks = list_any (λ (k : Seated). k.place == place) ks
+is_in index ks = list_any (λ (k : Seated). k.index == index) ks
 
 -- a byte of a partition's name: an ASCII letter, a digit, `_` or `-`
 abbrev pub is_name_byte : ℕ → Bool
@@ -88,31 +88,31 @@ outputs_elsewhere [] = no_outputs
 outputs_elsewhere (f ∷ fs) = all_elsewhere f.outputs
 
 abbrev pub opens : List Known → OpeningsData → Asked → List ℕ → ℕ → TransitionData
-opens fs openings asked name place = crosses asked (Opens (opening_part openings place name (outputs_elsewhere fs)))
+opens fs openings asked name index = crosses asked (Opens (opening_part openings index name (outputs_elsewhere fs)))
 
 abbrev pub begins : List Known → OpeningsData → Asked → List ℕ → Option ℕ → TransitionData
 begins fs openings asked name None = refused asked System (codes "too many partitions")
-begins fs openings asked name (Some place) = opens fs openings asked name place
+begins fs openings asked name (Some index) = opens fs openings asked name index
 
 -- a partition of a new name comes, at the least number that is free, if there are fewer than 16
 abbrev pub new_partition : List Known → OpeningsData → Asked → List ℕ → TransitionData
 new_partition fs openings asked name =
     by_name asked name
     (if is_some (named name fs) then refused asked Exist (codes "partition exists")
-    else begins fs openings asked name (if nat_le 16 (length fs) then None else free_place fs))
+    else begins fs openings asked name (if nat_le 16 (length fs) then None else free_index fs))
 
 -- whether a client or an output is in a partition
 abbrev pub is_used : List Known → List Seated → ℕ → Bool
-is_used fs ks place = is_in place ks || holds_any_in (known_at place fs)
+is_used fs ks index = is_in index ks || holds_any_in (known_at index fs)
 
 abbrev pub ends_at : List Known → List Seated → Asked → ℕ → TransitionData
-ends_at fs ks asked place =
-    if place == 0 then refused asked Argument (codes "partition is the default")
-    else (if is_used fs ks place then refused asked System (codes "partition is in use") else crosses asked (Closes place))
+ends_at fs ks asked index =
+    if index == 0 then refused asked Argument (codes "partition is the default")
+    else (if is_used fs ks index then refused asked System (codes "partition is in use") else crosses asked (Closes index))
 
 abbrev pub ends : List Known → List Seated → Asked → Option ℕ → TransitionData
 ends fs ks asked None = no_partition asked
-ends fs ks asked (Some place) = ends_at fs ks asked place
+ends fs ks asked (Some index) = ends_at fs ks asked index
 
 -- a partition ends that no client and no output is in; the one of number 0 is always there
 abbrev pub delete_partition : List Known → List Seated → Asked → List ℕ → TransitionData
@@ -128,7 +128,7 @@ no_output asked = refused asked NoExist (codes "no such output")
 
 abbrev pub brings : Asked → ℕ → ℕ → Option ℕ → TransitionData
 brings asked output own None = no_output asked
-brings asked output own (Some place) = if place == own then done asked else crosses asked (Brings output own)
+brings asked output own (Some index) = if index == own then done asked else crosses asked (Brings output own)
 
 abbrev pub moves : List Known → Asked → ℕ → Option ℕ → TransitionData
 moves fs asked own None = no_output asked

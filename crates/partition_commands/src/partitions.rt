@@ -43,7 +43,7 @@ pub fn partition(
     if !is_partition_name(name) {
         return Transition::bad_name(alloc, asked, name);
     }
-    go(alloc, asked, own, parts.place_named(name))
+    go(alloc, asked, own, parts.index_named(name))
 }
 
 fn go(alloc: Global, asked: Asked, own: u8, found: Option<u8>) -> Result<Transition, AllocError>
@@ -87,13 +87,13 @@ pub fn new_partition(
     if !is_partition_name(name) {
         return Transition::bad_name(alloc, asked, name);
     }
-    if parts.place_named(name).is_some() {
+    if parts.index_named(name).is_some() {
         return Transition::refuses(alloc, asked, ErrorNumber::Exist, "partition exists");
     }
     if parts.len() >= MAX_PARTS {
         return begin(alloc, parts, openings, asked, name, None);
     }
-    begin(alloc, parts, openings, asked, name, parts.free_place())
+    begin(alloc, parts, openings, asked, name, parts.free_index())
 }
 
 fn begin(
@@ -102,13 +102,13 @@ fn begin(
     openings: Openings,
     asked: Asked,
     name: &str,
-    place: Option<u8>,
+    index: Option<u8>,
 ) -> Result<Transition, AllocError>
-    ensures transition { IsPlanned result (begins_lem (map known parts.now) openings asked name.now place) }
+    ensures transition { IsPlanned result (begins_lem (map known parts.now) openings asked name.now index) }
     ensures leaves { IfOk result (LeavesAtMost asked.client) }
 {
-    match place {
-        Some(place) => open(alloc, parts, openings, asked, name, place),
+    match index {
+        Some(index) => open(alloc, parts, openings, asked, name, index),
         None => Transition::refuses(alloc, asked, ErrorNumber::System, "too many partitions"),
     }
 }
@@ -119,14 +119,14 @@ fn open(
     openings: Openings,
     asked: Asked,
     name: &str,
-    place: u8,
+    index: u8,
 ) -> Result<Transition, AllocError>
-    ensures transition { IsPlanned result (opens_lem (map known parts.now) openings asked name.now place) }
+    ensures transition { IsPlanned result (opens_lem (map known parts.now) openings asked name.now index) }
     ensures leaves { IfOk result (LeavesAtMost asked.client) }
 {
     let own_name = SharedText::new(alloc, name)?;
     let outputs = no_outputs_of(alloc, parts)?;
-    let part = opened(alloc, openings, place, own_name, outputs);
+    let part = opened(alloc, openings, index, own_name, outputs);
     Transition::crosses(alloc, asked, Crossing::Opens(NewPart::new(alloc, part)?))
 }
 
@@ -154,8 +154,8 @@ pub fn delete_partition(
     if !is_partition_name(name) {
         return Transition::bad_name(alloc, asked, name);
     }
-    match parts.place_named(name) {
-        Some(place) => end_at(alloc, parts, clients, asked, place),
+    match parts.index_named(name) {
+        Some(index) => end_at(alloc, parts, clients, asked, index),
         None => Transition::refuses(alloc, asked, ErrorNumber::NoExist, "no such partition"),
     }
 }
@@ -165,12 +165,12 @@ fn end_at(
     parts: &Parts,
     clients: &[Client],
     asked: Asked,
-    place: u8,
+    index: u8,
 ) -> Result<Transition, AllocError>
-    ensures transition { IsPlanned result (ends_at_lem (map known parts.now) (map seated clients.now) asked place) }
+    ensures transition { IsPlanned result (ends_at_lem (map known parts.now) (map seated clients.now) asked index) }
     ensures leaves { IfOk result (LeavesAtMost asked.client) }
 {
-    if place == 0 {
+    if index == 0 {
         return Transition::refuses(
             alloc,
             asked,
@@ -178,24 +178,24 @@ fn end_at(
             "partition is the default",
         );
     }
-    if is_used(parts, clients, place) {
+    if is_used(parts, clients, index) {
         return Transition::refuses(alloc, asked, ErrorNumber::System, "partition is in use");
     }
-    Transition::crosses(alloc, asked, Crossing::Closes(place))
+    Transition::crosses(alloc, asked, Crossing::Closes(index))
 }
 
 /// Whether a client or an output is in a partition.
-fn is_used(parts: &Parts, clients: &[Client], place: u8) -> bool
-    ensures { result ≡ is_used_lem (map known parts.now) (map seated clients.now) place }
+fn is_used(parts: &Parts, clients: &[Client], index: u8) -> bool
+    ensures { result ≡ is_used_lem (map known parts.now) (map seated clients.now) index }
 {
-    is_in(clients, place) || parts.holds_any(place)
+    is_in(clients, index) || parts.holds_any(index)
 }
 
-fn is_in(clients: &[Client], place: u8) -> bool
-    ensures { result ≡ is_in_lem place (map seated clients.now) }
+fn is_in(clients: &[Client], index: u8) -> bool
+    ensures { result ≡ is_in_lem index (map seated clients.now) }
 {
     for client in clients {
-        if client.place == place {
+        if client.index == index {
             return true;
         }
     }
@@ -231,7 +231,7 @@ fn bring(
     ensures leaves { IfOk result (LeavesAtMost asked.client) }
 {
     match holder {
-        Some(place) if place == own => done(alloc, asked),
+        Some(index) if index == own => done(alloc, asked),
         Some(_) => Transition::crosses(alloc, asked, Crossing::Brings(output, own)),
         None => Transition::refuses(alloc, asked, ErrorNumber::NoExist, "no such output"),
     }
@@ -242,12 +242,12 @@ fn output_named(parts: &Parts, name: &str) -> Option<usize>
     ensures { result ≡ output_named_lem name.now (map known parts.now) }
 {
     match parts.items() {
-        [part, ..] => place_among(part.outputs.names(), name),
+        [part, ..] => index_among(part.outputs.names(), name),
         [] => None,
     }
 }
 
-fn place_among(names: &[SharedText], name: &str) -> Option<usize>
+fn index_among(names: &[SharedText], name: &str) -> Option<usize>
     ensures { result ≡ position (λ own. bytes_eq own name.now) names.now }
 {
     names.iter().position(|own| own.as_str() == name)

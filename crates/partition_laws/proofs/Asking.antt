@@ -4,7 +4,7 @@ use Rattle.std.specs.Prelude.{filter, slice_index_or, slice_set}
 use Rattle.std.proofs.lemmas.Bool.{eq-eqb, eqb-true}
 use Rattle.std.proofs.lemmas.List.{get_or-set_other}
 use Rattle.player_core.specs.declared.state.Job.{Job}
-use Rattle.player_state.specs.Effects.{asked_for, outputs_after, part_after, report_after, wanted}
+use Rattle.player_state.specs.Effects.{asked_for, outputs_after, part_after, report_after, due_job}
 use Rattle.player_state.specs.Outputs.{OutputsData, brought, is_enabled, is_output, owes_any, released, turned}
 use Rattle.player_state.specs.declared.effect.AudioStep.TheVariants.{Settles, Wants}
 use Rattle.player_state.specs.declared.effect.CommandEffect.TheVariants.{Switches}
@@ -23,24 +23,24 @@ use Rattle.transitions.specs.Transitions.{TransitionData}
 use Rattle.player_events.specs.declared.event.Event.{Event}
 use Rattle.player_events.specs.declared.event.Event.TheVariants.{Have, Want}
 use Rattle.partition.specs.Image.{Image, overview}
-use Rattle.partition.specs.Step.{next_image, place_at, sender_in, told, transition, want}
+use Rattle.partition.specs.Step.{next_image, index_at, sender_in, told, transition, want}
 use Rattle.partition_laws.specs.Apart.{after_events}
 use Rattle.partition_laws.specs.Moves.{AreApart}
 use Rattle.partition_laws.specs.Owing.{GivesNoJob, gives_job, is_job}
 use Rattle.partition_laws.specs.Reports.{is_fed_at}
 use Rattle.partition_laws.proofs.Crossings.{off_at}
 use Rattle.partition_laws.proofs.Moves.{set_false}
-use Rattle.partition_laws.proofs.Rebuilt.{found_place}
+use Rattle.partition_laws.proofs.Rebuilt.{found_index}
 use Rattle.partition_laws.proofs.Reports.{asked_is, fed_is, feed_is, have_report}
 use Rattle.partition_laws.proofs.Transitions.{IsProper, proper}
 
-module _ (place : ℕ) (P : ℕ → ℕ → Type 0) where
+module _ (index : ℕ) (P : ℕ → ℕ → Type 0) where
   -- the frames of a partition's last job are for outputs that have the property, each moved so often
   abbrev pub AsksOnly : OutputsData → Type 0
   AsksOnly outputs = (output : ℕ) → slice_index_or outputs.asked output false ≡ true → P output (slice_index_or outputs.moves output 0)
 
   abbrev PartAsksOnly : Part → Type 0
-  PartAsksOnly p = (p.place == place) ≡ true → AsksOnly p.outputs
+  PartAsksOnly p = (p.index == index) ≡ true → AsksOnly p.outputs
 
   abbrev pub AllAskOnly : List Part → Type 0
   AllAskOnly [] = Unit {0}
@@ -56,22 +56,22 @@ module _ (place : ℕ) (P : ℕ → ℕ → Type 0) where
 
   only_after : (rate : ℕ) (p : Part) (effect : Effect) (report : Report) → is_job (report_after rate p effect report) ≡ false → AsksOnly p.outputs → AsksOnly (outputs_after rate p effect)
   only_after rate p (ByCommand (Switches output on)) report e a = a
-  only_after rate p (ByAudio (Wants waits)) report e a = only_without_job (wanted rate p waits).job p.outputs e a
+  only_after rate p (ByAudio (Wants waits)) report e a = only_without_job (due_job rate p waits).job p.outputs e a
   only_after rate p (ByAudio (Settles output written discarded failed)) report e a = only_turned output failed p.outputs a
   only_after rate p _ report e a = a
 
   only_changed : (rate at : ℕ) (effect : Effect) (report : Report) (ps : List Part)
-      → ((at == place) ≡ true → is_job (report_in rate (part_at at ps) effect report) ≡ false) → AllAskOnly ps → AllAskOnly (changed rate at effect ps)
+      → ((at == index) ≡ true → is_job (report_in rate (part_at at ps) effect report) ≡ false) → AllAskOnly ps → AllAskOnly (changed rate at effect ps)
   only_changed rate at effect report [] none a = tt
   only_changed rate at effect report (p ∷ ps) none a =
-      let cases : (b : Bool) → (p.place == at) ≡ b → ((at == place) ≡ true → is_job (report_in rate (if b then Some p else part_at at ps) effect report) ≡ false)
+      let cases : (b : Bool) → (p.index == at) ≡ b → ((at == index) ≡ true → is_job (report_in rate (if b then Some p else part_at at ps) effect report) ≡ false)
       → AllAskOnly (if b then part_after rate p effect ∷ ps else p ∷ changed rate at effect ps) =
-      λ b. elim b as (λ b. (p.place == at) ≡ b → ((at == place) ≡ true → is_job (report_in rate (if b then Some p else part_at at ps) effect report) ≡ false)
+      λ b. elim b as (λ b. (p.index == at) ≡ b → ((at == index) ≡ true → is_job (report_in rate (if b then Some p else part_at at ps) effect report) ≡ false)
       → AllAskOnly (if b then part_after rate p effect ∷ ps else p ∷ changed rate at effect ps)) [
-        | true ↦ λ f given. (λ e. only_after rate p effect report (given (ap (λ n. n == place) (sym (eqb-true p.place at f)) ∙ e)) (a.0 e), a.1)
+        | true ↦ λ f given. (λ e. only_after rate p effect report (given (ap (λ n. n == index) (sym (eqb-true p.index at f)) ∙ e)) (a.0 e), a.1)
         | false ↦ λ f given. (a.0, only_changed rate at effect report ps given a.1)
       ] in
-      cases (p.place == at) refl none
+      cases (p.index == at) refl none
 
   only_added : (new : Part) (ps : List Part) → AsksOnly new.outputs → AllAskOnly ps → AllAskOnly (ps ++ new ∷ [])
   only_added new [] own a = (λ e. own, tt)
@@ -105,97 +105,97 @@ module _ (place : ℕ) (P : ℕ → ℕ → Type 0) where
   only_moved : (own to : ℕ) (c : Option Carried) (ps : List Part) → AllAskOnly ps → AllAskOnly (map (moved_output own to c) ps)
   only_moved own to c [] a = tt
   only_moved own to None (p ∷ ps) a = (a.0, only_moved own to None ps a.1)
-  only_moved own to (Some c) (p ∷ ps) a = (λ e. only_brought p.outputs own (a.0 e) c (p.place == to), only_moved own to (Some c) ps a.1)
+  only_moved own to (Some c) (p ∷ ps) a = (λ e. only_brought p.outputs own (a.0 e) c (p.index == to), only_moved own to (Some c) ps a.1)
 
   only_crossed : (openings : OpeningsData) (own : ℕ) (c : Crossing) (ps : List Part) → IsProper openings own c → AllAskOnly ps → AllAskOnly (parts_moved c ps)
   only_crossed openings own Stays ps is a = a
   only_crossed openings own (Opens new) ps is a =
-      let none : AsksOnly (opening_part openings new.place new.name (shown_outputs new.outputs)).outputs = λ output e. (let clash : true ≡ false = sym e ∙ off_at output in cc) in
+      let none : AsksOnly (opening_part openings new.index new.name (shown_outputs new.outputs)).outputs = λ output e. (let clash : true ≡ false = sym e ∙ off_at output in cc) in
       let asks : AsksOnly new.outputs = subst (λ (p : Part). AsksOnly p.outputs) (sym is) none in
       elim (nat_lt (length ps) 16) as (λ b. AllAskOnly (if b then ps ++ new ∷ [] else ps)) [ true ↦ only_added new ps asks a | false ↦ a ]
-  only_crossed openings own (Closes gone) ps is a = only_filtered (λ (p : Part). not (p.place == gone)) ps a
+  only_crossed openings own (Closes gone) ps is a = only_filtered (λ (p : Part). not (p.index == gone)) ps a
   only_crossed openings own (Brings output to) ps is a = only_moved output to (carried_in output to (map known ps)) ps a
 
   -- what an event does to its own partition decides it
-  only_by : (seat : ℕ) (i : Image) (event : Event) → AllAskOnly (changed i.shared.library.rate (place_at i event) (transition i event).effect i.parts) → AllAskOnly (next_image seat i event).parts
+  only_by : (seat : ℕ) (i : Image) (event : Event) → AllAskOnly (changed i.shared.library.rate (index_at i event) (transition i event).effect i.parts) → AllAskOnly (next_image seat i event).parts
   unfolding next_image
   only_by seat i event a =
       let t : TransitionData = transition i event in
-      let is : IsProper (overview i).openings (place_at i event) t.crossing =
-      proper (overview i) (part_at (place_at i event) i.parts) i.shared.library (sender_in i.clients event) (place_at i event) event
-      (λ p f. found_place i.shared.openings (place_at i event) i.parts p f) in
-      only_crossed (overview i).openings (place_at i event) t.crossing (changed i.shared.library.rate (place_at i event) t.effect i.parts) is a
+      let is : IsProper (overview i).openings (index_at i event) t.crossing =
+      proper (overview i) (part_at (index_at i event) i.parts) i.shared.library (sender_in i.clients event) (index_at i event) event
+      (λ p f. found_index i.shared.openings (index_at i event) i.parts p f) in
+      only_crossed (overview i).openings (index_at i event) t.crossing (changed i.shared.library.rate (index_at i event) t.effect i.parts) is a
 
-  only_next : (seat : ℕ) (i : Image) (event : Event) → gives_job place i event ≡ false → AllAskOnly i.parts → AllAskOnly (next_image seat i event).parts
+  only_next : (seat : ℕ) (i : Image) (event : Event) → gives_job index i event ≡ false → AllAskOnly i.parts → AllAskOnly (next_image seat i event).parts
   unfolding told
   only_next seat i event e a =
       let t : TransitionData = transition i event in
-      let report : Report = report_in i.shared.library.rate (part_at (place_at i event) i.parts) t.effect t.report in
-      only_by seat i event (only_changed i.shared.library.rate (place_at i event) t.effect t.report i.parts (λ f. sym (ap (λ b. b && is_job report) f) ∙ e) a)
+      let report : Report = report_in i.shared.library.rate (part_at (index_at i event) i.parts) t.effect t.report in
+      only_by seat i event (only_changed i.shared.library.rate (index_at i event) t.effect t.report i.parts (λ f. sym (ap (λ b. b && is_job report) f) ∙ e) a)
 
-  pub only_over : (i : Image) (es : List (ℕ × Event)) → GivesNoJob place i es → AllAskOnly i.parts → AllAskOnly (after_events i es).parts
+  pub only_over : (i : Image) (es : List (ℕ × Event)) → GivesNoJob index i es → AllAskOnly i.parts → AllAskOnly (after_events i es).parts
   only_over i [] g a = a
   only_over i (e ∷ es) g a = only_over (next_image e.0 i e.1) es g.1 (only_next e.0 i e.1 g.0 a)
 
-  only_at : (p : Part) (ps : List Part) → AllAskOnly ps → part_at place ps ≡ Some p → AsksOnly p.outputs
+  only_at : (p : Part) (ps : List Part) → AllAskOnly ps → part_at index ps ≡ Some p → AsksOnly p.outputs
   only_at p [] a e = cc
   only_at p (x ∷ ps) a e =
-      let cases : (b : Bool) → (x.place == place) ≡ b → (if b then Some x else part_at place ps) ≡ Some p → AsksOnly p.outputs =
-      λ b. elim b as (λ b. (x.place == place) ≡ b → (if b then Some x else part_at place ps) ≡ Some p → AsksOnly p.outputs) [
+      let cases : (b : Bool) → (x.index == index) ≡ b → (if b then Some x else part_at index ps) ≡ Some p → AsksOnly p.outputs =
+      λ b. elim b as (λ b. (x.index == index) ≡ b → (if b then Some x else part_at index ps) ≡ Some p → AsksOnly p.outputs) [
         | true ↦ λ g f. (let same : x ≡ p = cc in subst (λ (y : Part). AsksOnly y.outputs) same (a.0 g))
         | false ↦ λ g f. only_at p ps a.1 f
       ] in
-      cases (x.place == place) refl e
+      cases (x.index == index) refl e
 
-  only_elsewhere : (ps : List Part) → known_at place (map known ps) ≡ None → AllAskOnly ps
+  only_elsewhere : (ps : List Part) → known_at index (map known ps) ≡ None → AllAskOnly ps
   only_elsewhere [] e = tt
   only_elsewhere (p ∷ ps) e =
-      let cases : (b : Bool) → (p.place == place) ≡ b → (if b then Some (known p) else known_at place (map known ps)) ≡ None → AllAskOnly (p ∷ ps) =
-      λ b. elim b as (λ b. (p.place == place) ≡ b → (if b then Some (known p) else known_at place (map known ps)) ≡ None → AllAskOnly (p ∷ ps)) [
+      let cases : (b : Bool) → (p.index == index) ≡ b → (if b then Some (known p) else known_at index (map known ps)) ≡ None → AllAskOnly (p ∷ ps) =
+      λ b. elim b as (λ b. (p.index == index) ≡ b → (if b then Some (known p) else known_at index (map known ps)) ≡ None → AllAskOnly (p ∷ ps)) [
         | true ↦ λ g f. cc
         | false ↦ λ g f. (λ t. (let clash : true ≡ false = sym t ∙ g in cc), only_elsewhere ps f)
       ] in
-      cases (p.place == place) refl e
+      cases (p.index == index) refl e
 
-  only_asked : (rate : ℕ) (effect : Effect) (p : Part) (ps : List Part) → AreApart (map known ps) → part_at place ps ≡ Some p → AsksOnly (outputs_after rate p effect)
-      → AllAskOnly (changed rate place effect ps)
+  only_asked : (rate : ℕ) (effect : Effect) (p : Part) (ps : List Part) → AreApart (map known ps) → part_at index ps ≡ Some p → AsksOnly (outputs_after rate p effect)
+      → AllAskOnly (changed rate index effect ps)
   only_asked rate effect p [] apart e own = cc
   only_asked rate effect p (q ∷ ps) apart e own =
-      let cases : (b : Bool) → (q.place == place) ≡ b → (if b then Some q else part_at place ps) ≡ Some p → AllAskOnly (if b then part_after rate q effect ∷ ps else q ∷ changed rate place effect ps) =
-      λ b. elim b as (λ b. (q.place == place) ≡ b → (if b then Some q else part_at place ps) ≡ Some p → AllAskOnly (if b then part_after rate q effect ∷ ps else q ∷ changed rate place effect ps)) [
+      let cases : (b : Bool) → (q.index == index) ≡ b → (if b then Some q else part_at index ps) ≡ Some p → AllAskOnly (if b then part_after rate q effect ∷ ps else q ∷ changed rate index effect ps) =
+      λ b. elim b as (λ b. (q.index == index) ≡ b → (if b then Some q else part_at index ps) ≡ Some p → AllAskOnly (if b then part_after rate q effect ∷ ps else q ∷ changed rate index effect ps)) [
         | true ↦ λ g f.
             let same : q ≡ p = cc in
-            (λ t. subst (λ (y : Part). AsksOnly (outputs_after rate y effect)) (sym same) own, only_elsewhere ps (subst (λ n. known_at n (map known ps) ≡ None) (eqb-true q.place place g) apart.0))
+            (λ t. subst (λ (y : Part). AsksOnly (outputs_after rate y effect)) (sym same) own, only_elsewhere ps (subst (λ n. known_at n (map known ps) ≡ None) (eqb-true q.index index g) apart.0))
         | false ↦ λ g f. (λ t. (let clash : true ≡ false = sym t ∙ g in cc), only_asked rate effect p ps apart.3 f own)
       ] in
-      cases (q.place == place) refl e
+      cases (q.index == index) refl e
 
   -- the job is given to a partition which is there, before the end, and for outputs that have the property
   module _ (rate : ℕ) (owes : List Bool) (ps : List Part) where
     abbrev pub BeginsWith : Part → Type 0
-    BeginsWith p = part_at place ps ≡ Some p → is_job (ToDecode (wanted rate p (owes_any p.outputs owes)).job) ≡ true
+    BeginsWith p = part_at index ps ≡ Some p → is_job (ToDecode (due_job rate p (owes_any p.outputs owes)).job) ≡ true
         → AsksOnly (outputs_after rate p (ByAudio (Wants (owes_any p.outputs owes))))
 
-    only_begun : (ended : Bool) (part : Option Part) → part_at place ps ≡ part → AreApart (map known ps) → ((p : Part) → BeginsWith p)
-        → is_job (report_in rate part (want ended part owes).effect (want ended part owes).report) ≡ true → AllAskOnly (changed rate place (want ended part owes).effect ps)
+    only_begun : (ended : Bool) (part : Option Part) → part_at index ps ≡ part → AreApart (map known ps) → ((p : Part) → BeginsWith p)
+        → is_job (report_in rate part (want ended part owes).effect (want ended part owes).report) ≡ true → AllAskOnly (changed rate index (want ended part owes).effect ps)
     only_begun true None at apart begins e = cc
     only_begun false None at apart begins e = cc
     only_begun true (Some p) at apart begins e = cc
     only_begun false (Some p) at apart begins e = only_asked rate (ByAudio (Wants (owes_any p.outputs owes))) p ps apart at (begins p at e)
 
   pub only_first : (seat : ℕ) (owes : List Bool) (i : Image) → AreApart (overview i).parts → ((p : Part) → BeginsWith i.shared.library.rate owes i.parts p)
-      → gives_job place i (Want place owes) ≡ true → AllAskOnly (next_image seat i (Want place owes)).parts
+      → gives_job index i (Want index owes) ≡ true → AllAskOnly (next_image seat i (Want index owes)).parts
   unfolding told
   only_first seat owes i apart begins e =
-      let t : TransitionData = transition i (Want place owes) in
-      let report : Report = report_in i.shared.library.rate (part_at place i.parts) t.effect t.report in
-      only_by seat i (Want place owes) (only_begun i.shared.library.rate owes i.parts i.shared.ended (part_at place i.parts) refl apart begins (sym (ap (λ b. b && is_job report) (eq-eqb place place refl)) ∙ e))
+      let t : TransitionData = transition i (Want index owes) in
+      let report : Report = report_in i.shared.library.rate (part_at index i.parts) t.effect t.report in
+      only_by seat i (Want index owes) (only_begun i.shared.library.rate owes i.parts i.shared.ended (part_at index i.parts) refl apart begins (sym (ap (λ b. b && is_job report) (eq-eqb index index refl)) ∙ e))
 
   -- what is fed has the property
-  pub only_fed : (i : Image) (number frames : ℕ) (feed : Feed) → AllAskOnly i.parts → (told i (Have place number frames)).report ≡ ToFeed (Some feed)
+  pub only_fed : (i : Image) (number frames : ℕ) (feed : Feed) → AllAskOnly i.parts → (told i (Have index number frames)).report ≡ ToFeed (Some feed)
       → (output moves : ℕ) → is_fed_at feed output ≡ Some moves → P output moves
   only_fed i number frames feed asks f output moves h =
-      let x = feed_is i.shared.library.rate number frames i.shared.ended (part_at place i.parts) feed (sym (have_report i place number frames) ∙ f) in
+      let x = feed_is i.shared.library.rate number frames i.shared.ended (part_at index i.parts) feed (sym (have_report i index number frames) ∙ f) in
       let p : Part = x.0 in
       let own = asked_is (slice_index_or p.outputs.asked output false) (is_enabled p.outputs output) (slice_index_or p.outputs.moves output 0) moves
       (fed_is p.outputs output moves (sym (ap (λ (outputs : List (Option ℕ)). slice_index_or outputs output None) x.2) ∙ h)) in

@@ -24,10 +24,10 @@ nothing_left A true = refl
 nothing_left A false = refl
 
 module _ (n : ℕ) where
-  pub at_seat : (ks : List Client) → seat_of n (map seated ks) ≡ option_map (λ (k : Client). k.place) (client_of n ks)
+  pub at_seat : (ks : List Client) → seat_of n (map seated ks) ≡ option_map (λ (k : Client). k.index) (client_of n ks)
   at_seat [] = refl
   at_seat (k ∷ ks) =
-      elim (k.number == n) as (λ b. (if b then Some k.place else seat_of n (map seated ks)) ≡ option_map (λ (k : Client). k.place) (if b then Some k else client_of n ks))
+      elim (k.number == n) as (λ b. (if b then Some k.index else seat_of n (map seated ks)) ≡ option_map (λ (k : Client). k.index) (if b then Some k else client_of n ks))
       [ true ↦ refl | false ↦ at_seat ks ]
 
   pub found_number : (ks : List Client) (k : Client) → client_of n ks ≡ Some k → k.number ≡ n
@@ -82,7 +82,7 @@ does m Learn o = option_map (at m (λ p. fresh)) o
 does m Resume o = option_map (at m cancelled) o
 does m Join o = or_else o (Some (newcomer m))
 does m (Show tags) o = option_map (shown m tags) o
-does m (Enter place) o = option_map (entered m place) o
+does m (Enter index) o = option_map (entered m index) o
 
 at_other : (m : ℕ) (f : Pending → Pending) (k : Client) → (k.number == m) ≡ false → at m f k ≡ k
 at_other m f k e = ap (λ b. if b then record k { pending = f k.pending } else k) e
@@ -90,8 +90,8 @@ at_other m f k e = ap (λ b. if b then record k { pending = f k.pending } else k
 shown_other : (m : ℕ) (tags : List TagName) (k : Client) → (k.number == m) ≡ false → shown m tags k ≡ k
 shown_other m tags k e = ap (λ b. if b then record k { tags = tags } else k) e
 
-entered_other : (m place : ℕ) (k : Client) → (k.number == m) ≡ false → entered m place k ≡ k
-entered_other m place k e = ap (λ b. if b then record k { place = place; pending = everything } else k) e
+entered_other : (m index : ℕ) (k : Client) → (k.number == m) ≡ false → entered m index k ≡ k
+entered_other m index k e = ap (λ b. if b then record k { index = index; pending = everything } else k) e
 
 module _ (m : ℕ) where
   own_joined : (ks : List Client) → client_of m (joined m ks) ≡ or_else (client_of m ks) (Some (newcomer m))
@@ -109,7 +109,7 @@ module _ (m : ℕ) where
   own_moved Resume ks = client_mapped m (at m cancelled) (at_keeps m cancelled) ks
   own_moved Join ks = own_joined ks
   own_moved (Show tags) ks = client_mapped m (shown m tags) (shown_keeps m tags) ks
-  own_moved (Enter place) ks = client_mapped m (entered m place) (entered_keeps m place) ks
+  own_moved (Enter index) ks = client_mapped m (entered m index) (entered_keeps m index) ks
 
   module _ (n : ℕ) (apart : (m == n) ≡ false) where
     other_mapped : (f : Client → Client) → ((k : Client) → (f k).number ≡ k.number) → ((k : Client) → (k.number == m) ≡ false → f k ≡ k) → (ks : List Client)
@@ -135,7 +135,7 @@ module _ (m : ℕ) where
     other_moved Resume ks = other_mapped (at m cancelled) (at_keeps m cancelled) (at_other m cancelled) ks
     other_moved Join ks = other_joined ks
     other_moved (Show tags) ks = other_mapped (shown m tags) (shown_keeps m tags) (shown_other m tags) ks
-    other_moved (Enter place) ks = other_mapped (entered m place) (entered_keeps m place) (entered_other m place) ks
+    other_moved (Enter index) ks = other_mapped (entered m index) (entered_keeps m index) (entered_other m index) ks
 
 -- the notices to a client, by the client
 abbrev pub notices_in : (Client → Subsystems) → Option Client → List Notice
@@ -207,14 +207,14 @@ module _ (m : ℕ) (r : Client → Subsystems) (a : ResponseData) (ks : List Cli
 
 -- what all know of the clients then, by what all knew
 abbrev pub seat_entered : ℕ → ℕ → Seated → Seated
-seat_entered m place s = if s.number == m then record s { place = place } else s
+seat_entered m index s = if s.number == m then record s { index = index } else s
 
 abbrev pub seats_joined : ℕ → List Seated → List Seated
 seats_joined m ss = if is_some (seat_of m ss) then ss else insert ss (position_or_len (λ (s : Seated). nat_lt m s.number) ss) (seated (newcomer m))
 
 abbrev pub seats_moved : ℕ → Move → List Seated → List Seated
 seats_moved m Join ss = seats_joined m ss
-seats_moved m (Enter place) ss = map (seat_entered m place) ss
+seats_moved m (Enter index) ss = map (seat_entered m index) ss
 seats_moved m _ ss = ss
 
 abbrev pub seats_staying : ℕ → ResponseData → List Seated → List Seated
@@ -233,13 +233,13 @@ seated_at m f k = elim (k.number == m) as (λ b. seated (if b then record k { pe
 seated_shown : (m : ℕ) (tags : List TagName) (k : Client) → seated (shown m tags k) ≡ seated k
 seated_shown m tags k = elim (k.number == m) as (λ b. seated (if b then record k { tags = tags } else k) ≡ seated k) [ true ↦ refl | false ↦ refl ]
 
-seated_entered : (m place : ℕ) (k : Client) → seated (entered m place k) ≡ seat_entered m place (seated k)
-seated_entered m place k =
-    elim (k.number == m) as (λ b. seated (if b then record k { place = place; pending = everything } else k) ≡ (if b then record (seated k) { place = place } else seated k)) [ true ↦ refl | false ↦ refl ]
+seated_entered : (m index : ℕ) (k : Client) → seated (entered m index k) ≡ seat_entered m index (seated k)
+seated_entered m index k =
+    elim (k.number == m) as (λ b. seated (if b then record k { index = index; pending = everything } else k) ≡ (if b then record (seated k) { index = index } else seated k)) [ true ↦ refl | false ↦ refl ]
 
-all_entered : (m place : ℕ) (ks : List Client) → map seated (map (entered m place) ks) ≡ map (seat_entered m place) (map seated ks)
-all_entered m place [] = refl
-all_entered m place (k ∷ ks) = λ i. seated_entered m place k i ∷ all_entered m place ks i
+all_entered : (m index : ℕ) (ks : List Client) → map seated (map (entered m index) ks) ≡ map (seat_entered m index) (map seated ks)
+all_entered m index [] = refl
+all_entered m index (k ∷ ks) = λ i. seated_entered m index k i ∷ all_entered m index ks i
 
 seated_inserted : (ks : List Client) (i : ℕ) (x : Client) → map seated (insert ks i x) ≡ insert (map seated ks) i (seated x)
 seated_inserted [] zero x = refl
@@ -247,11 +247,11 @@ seated_inserted [] (suc i) x = refl
 seated_inserted (k ∷ ks) zero x = refl
 seated_inserted (k ∷ ks) (suc i) x = ap (λ (ss : List Seated). seated k ∷ ss) (seated_inserted ks i x)
 
-place_seated : (m : ℕ) (ks : List Client) → position_or_len (λ (k : Client). nat_lt m k.number) ks ≡ position_or_len (λ (s : Seated). nat_lt m s.number) (map seated ks)
-place_seated m [] = refl
-place_seated m (k ∷ ks) = ap (λ n. cond (not (nat_lt m k.number)) (1 + n) 0) (place_seated m ks)
+index_seated : (m : ℕ) (ks : List Client) → position_or_len (λ (k : Client). nat_lt m k.number) ks ≡ position_or_len (λ (s : Seated). nat_lt m s.number) (map seated ks)
+index_seated m [] = refl
+index_seated m (k ∷ ks) = ap (λ n. cond (not (nat_lt m k.number)) (1 + n) 0) (index_seated m ks)
 
-some_is : (o : Option Client) → is_some o ≡ is_some (option_map (λ (k : Client). k.place) o)
+some_is : (o : Option Client) → is_some o ≡ is_some (option_map (λ (k : Client). k.index) o)
 some_is None = refl
 some_is (Some k) = refl
 
@@ -259,7 +259,7 @@ seated_joined : (m : ℕ) (ks : List Client) → map seated (joined m ks) ≡ se
 seated_joined m ks =
     let i : ℕ = position_or_len (λ (k : Client). nat_lt m k.number) ks in
     let more : map seated (insert ks i (newcomer m)) ≡ insert (map seated ks) (position_or_len (λ (s : Seated). nat_lt m s.number) (map seated ks)) (seated (newcomer m)) =
-    seated_inserted ks i (newcomer m) ∙ ap (λ n. insert (map seated ks) n (seated (newcomer m))) (place_seated m ks) in
+    seated_inserted ks i (newcomer m) ∙ ap (λ n. insert (map seated ks) n (seated (newcomer m))) (index_seated m ks) in
     let there : is_some (client_of m ks) ≡ is_some (seat_of m (map seated ks)) = some_is (client_of m ks) ∙ ap is_some (sym (at_seat m ks)) in
     elim (is_some (client_of m ks)) as (λ b. map seated (if b then ks else insert ks i (newcomer m))
     ≡ (if b then map seated ks else insert (map seated ks) (position_or_len (λ (s : Seated). nat_lt m s.number) (map seated ks)) (seated (newcomer m)))) [ true ↦ refl | false ↦ more ]
@@ -272,7 +272,7 @@ seated_moved m Learn ks = seated_alike (at m (λ p. fresh)) (seated_at m (λ p. 
 seated_moved m Resume ks = seated_alike (at m cancelled) (seated_at m cancelled) ks
 seated_moved m Join ks = seated_joined m ks
 seated_moved m (Show tags) ks = seated_alike (shown m tags) (seated_shown m tags) ks
-seated_moved m (Enter place) ks = all_entered m place ks
+seated_moved m (Enter index) ks = all_entered m index ks
 
 seated_others : (m : ℕ) (ks : List Client) → map seated (filter (is_other m) ks) ≡ filter (λ (s : Seated). not (s.number == m)) (map seated ks)
 seated_others m [] = refl

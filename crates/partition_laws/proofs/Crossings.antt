@@ -12,7 +12,7 @@ use Rattle.player_state.specs.declared.state.Client.{Client}
 use Rattle.player_state.specs.declared.state.Library.{Library}
 use Rattle.player_state.specs.declared.state.Part.{Part}
 use Rattle.partition_table.specs.Openings.{OpeningsData}
-use Rattle.partition_table.specs.Parts.{Known, changed, free_place, has_place, holder, holds_any_in, known_at, named}
+use Rattle.partition_table.specs.Parts.{Known, changed, free_index, has_index, holder, holds_any_in, known_at, named}
 use Rattle.partition_table.specs.declared.crossing.Crossing.TheVariants.{Closes, Brings}
 use Rattle.partition_table.proofs.Looks.{known_changed, known_crossed, knowns_changed, knowns_moved}
 use Rattle.transitions.specs.CommandResults.{bad_name}
@@ -24,8 +24,8 @@ use Rattle.partition_commands.specs.Partitions.{Seated, begins, brings, by_name,
 use Rattle.player_events.specs.declared.event.Event.{Event}
 use Rattle.player_events.specs.declared.event.Event.TheVariants.{Connect, Disconnect, Line, ScanQuestion, ScanResult, Want, Have, Failed, OutputTurn, End}
 use Rattle.partition.specs.Image.{Image, Overview, overview}
-use Rattle.partition.specs.Step.{absent, asked_by, next_image, place_at, sender_in, transition, transition_line, transition_of, written_transition}
-use Rattle.partition_laws.specs.Moves.{AreApart, HasEight, MovesRise, MovesTellPlaces, OpensApart, StaysApart}
+use Rattle.partition.specs.Step.{absent, asked_by, next_image, index_at, sender_in, transition, transition_line, transition_of, written_transition}
+use Rattle.partition_laws.specs.Moves.{AreApart, HasEight, MovesRise, MovesTellSpots, OpensApart, StaysApart}
 use Rattle.partition_laws.proofs.Moves.{IsSafe, Stepped, stepped}
 use Rattle.partition_laws.proofs.Transitions.{line_kind, line_nowhere}
 
@@ -77,36 +77,36 @@ module _ (fs : List Known) (ks : List Seated) (openings : OpeningsData) (asked :
 
   safe_ends : (o : Option ℕ) → Safe (ends fs ks asked o)
   safe_ends None = tt
-  safe_ends (Some place) =
+  safe_ends (Some index) =
       let a : TransitionData = refused asked Argument (codes "partition is the default") in
       let b : TransitionData = refused asked System (codes "partition is in use") in
-      let c : TransitionData = crosses asked (Closes place) in
-      let used : (u : Bool) → is_used fs ks place ≡ u → Safe (if u then b else c) =
-      λ u. elim u as (λ u. is_used fs ks place ≡ u → Safe (if u then b else c))
-      [ true ↦ λ e. tt | false ↦ λ e. (second_off (is_in place ks) (holds_any_in (known_at place fs)) e, refl) ] in
-      safe_if (place == 0) a (if is_used fs ks place then b else c) tt (used (is_used fs ks place) refl)
+      let c : TransitionData = crosses asked (Closes index) in
+      let used : (u : Bool) → is_used fs ks index ≡ u → Safe (if u then b else c) =
+      λ u. elim u as (λ u. is_used fs ks index ≡ u → Safe (if u then b else c))
+      [ true ↦ λ e. tt | false ↦ λ e. (second_off (is_in index ks) (holds_any_in (known_at index fs)) e, refl) ] in
+      safe_if (index == 0) a (if is_used fs ks index then b else c) tt (used (is_used fs ks index) refl)
 
   safe_brings : (output : ℕ) (o : Option ℕ) → Safe (brings asked output own o)
   safe_brings output None = tt
-  safe_brings output (Some place) = safe_if (place == own) (done asked) (crosses asked (Brings output own)) tt tt
+  safe_brings output (Some index) = safe_if (index == own) (done asked) (crosses asked (Brings output own)) tt tt
 
   safe_moves : (o : Option ℕ) → Safe (moves fs asked own o)
   safe_moves None = tt
   safe_moves (Some output) = safe_brings output (holder output fs)
 
-  safe_begins : (name : List ℕ) (o : Option ℕ) → ((place : ℕ) → o ≡ Some place → known_at place fs ≡ None) → Safe (begins fs openings asked name o)
+  safe_begins : (name : List ℕ) (o : Option ℕ) → ((index : ℕ) → o ≡ Some index → known_at index fs ≡ None) → Safe (begins fs openings asked name o)
   safe_begins name None free = tt
-  safe_begins name (Some place) free = (free place refl, eight_elsewhere fs, none_elsewhere fs)
+  safe_begins name (Some index) free = (free index refl, eight_elsewhere fs, none_elsewhere fs)
 
   safe_goes : (o : Option ℕ) → Safe (goes asked own o)
   safe_goes None = tt
   safe_goes (Some to) = safe_if (to == own) (done asked) (enters asked to) tt tt
 
   -- the number of a new partition is that of no other
-  free_is : (place : ℕ) → (if nat_le 16 (length fs) then None else free_place fs) ≡ Some place → known_at place fs ≡ None
-  free_is place =
-      elim (nat_le 16 (length fs)) as (λ b. (if b then None else free_place fs) ≡ Some place → known_at place fs ≡ None)
-      [ true ↦ λ e. cc | false ↦ λ e. none_is (known_at place fs) (found (λ n. not (has_place n fs)) (range_with_len 0 16) place e) ]
+  free_is : (index : ℕ) → (if nat_le 16 (length fs) then None else free_index fs) ≡ Some index → known_at index fs ≡ None
+  free_is index =
+      elim (nat_le 16 (length fs)) as (λ b. (if b then None else free_index fs) ≡ Some index → known_at index fs ≡ None)
+      [ true ↦ λ e. cc | false ↦ λ e. none_is (known_at index fs) (found (λ n. not (has_index n fs)) (range_with_len 0 16) index e) ]
 
   pub safe : (it : PartitionCommand) → Safe (planned fs ks openings asked own it)
   unfolding planned
@@ -115,7 +115,7 @@ module _ (fs : List Known) (ks : List Seated) (openings : OpeningsData) (asked :
   safe (MoveOutput name) = safe_moves (output_named name fs)
   safe (NewPartition name) =
       let there : Bool = is_some (named name fs) in
-      let at : Option ℕ = if nat_le 16 (length fs) then None else free_place fs in
+      let at : Option ℕ = if nat_le 16 (length fs) then None else free_index fs in
       let a : TransitionData = refused asked Exist (codes "partition exists") in
       safe_named name (if there then a else begins fs openings asked name at) (safe_if there a (begins fs openings asked name at) tt (safe_begins name at free_is))
   safe (Partition name) = safe_named name (goes asked own (named name fs)) (safe_goes (named name fs))
@@ -134,7 +134,7 @@ safe_line o (Some p) library (Some k) stand request heard =
     elim (line_kind o library k p stand heard.read request heard.refused) [
       | inl a ↦ subst (IsSafe o.parts t.effect) (sym a.0) tt
       | inr (inl w) ↦ subst (IsSafeOf o) (sym w.2) tt
-      | inr (inr q) ↦ subst (IsSafeOf o) (sym q.3) (safe o.parts o.clients o.openings (asked_by k q.0 stand) p.place q.1)
+      | inr (inr q) ↦ subst (IsSafeOf o) (sym q.3) (safe o.parts o.clients o.openings (asked_by k q.0 stand) p.index q.1)
     ]
 
 safe_of : (o : Overview) (part : Option Part) (library : Library) (client : Option Client) (event : Event) → IsSafeOf o (transition_of o part library client event)
@@ -156,18 +156,18 @@ safe_of o part library client End = tt
 
 -- what all know of the partitions after an event
 next_known : (seat : ℕ) (i : Image) (event : Event)
-    → (overview (next_image seat i event)).parts ≡ knowns_moved (transition i event).crossing (knowns_changed (place_at i event) (transition i event).effect (overview i).parts)
+    → (overview (next_image seat i event)).parts ≡ knowns_moved (transition i event).crossing (knowns_changed (index_at i event) (transition i event).effect (overview i).parts)
 unfolding next_image
 next_known seat i event =
     let t : TransitionData = transition i event in
     let rate : ℕ = i.shared.library.rate in
-    known_crossed t.crossing (changed rate (place_at i event) t.effect i.parts) ∙ ap (knowns_moved t.crossing) (known_changed rate (place_at i event) t.effect i.parts)
+    known_crossed t.crossing (changed rate (index_at i event) t.effect i.parts) ∙ ap (knowns_moved t.crossing) (known_changed rate (index_at i event) t.effect i.parts)
 
 step : (seat : ℕ) (i : Image) (event : Event) → AreApart (overview i).parts → Stepped (overview i).parts (overview (next_image seat i event)).parts
 step seat i event a =
     let t : TransitionData = transition i event in
     let safe : IsSafe (overview i).parts t.effect t.crossing = safe_of (overview i) _ i.shared.library (sender_in i.clients event) event in
-    subst (Stepped (overview i).parts) (sym (next_known seat i event)) (stepped (place_at i event) t.effect t.crossing (overview i).parts a safe)
+    subst (Stepped (overview i).parts) (sym (next_known seat i event)) (stepped (index_at i event) t.effect t.crossing (overview i).parts a safe)
 
 pub opens_apart : OpensApart
 opens_apart setup library eight = (refl, record { here = eight.here; moves = eight.moves }, λ output is. refl, tt)
@@ -183,15 +183,15 @@ moves_rise seat i event output a =
 same_or_less : (n : ℕ) → n ≤ n
 same_or_less n = omega arith
 
-pub moves_tell_places : MovesTellPlaces
-moves_tell_places i [] output before a is = (before, is, (same_or_less before.moves, λ e. refl))
-moves_tell_places i (e ∷ es) output before a is =
+pub moves_tell_spots : MovesTellSpots
+moves_tell_spots i [] output before a is = (before, is, (same_or_less before.moves, λ e. refl))
+moves_tell_spots i (e ∷ es) output before a is =
     let next : Image = next_image e.0 i e.1 in
     let apart : AreApart (overview next).parts = stays_apart e.0 i e.1 a in
     elim ((moves_rise e.0 i e.1 output a).somewhere before is) [
-      | inl same ↦ moves_tell_places next es output before apart same
+      | inl same ↦ moves_tell_spots next es output before apart same
       | inr s ↦ (
-          let rest = moves_tell_places next es output s.0 apart s.1 in
+          let rest = moves_tell_spots next es output s.0 apart s.1 in
           let more : s.0.moves ≡ before.moves + 1 = s.2.moves in
           let least : s.0.moves ≤ rest.0.moves = rest.2.0 in
           let above : before.moves + 1 ≤ rest.0.moves = omega (arith, more, least) in

@@ -6,7 +6,7 @@ use Rattle.std.proofs.lemmas.List.{get_or_past}
 use Rattle.player_core.specs.Decoding as decoding
 use Rattle.player_core.specs.Player.{is_playing}
 use Rattle.player_core.specs.declared.state.Job.{Job}
-use Rattle.player_state.specs.Effects.{asked_for, entries, outputs_after, wanted}
+use Rattle.player_state.specs.Effects.{asked_for, entries, outputs_after, due_job}
 use Rattle.player_state.specs.Outputs.{OutputsData, any_enabled, is_output, owes_any}
 use Rattle.player_state.specs.declared.effect.AudioStep.TheVariants.{Wants}
 use Rattle.player_state.specs.declared.effect.Effect.TheVariants.{ByAudio}
@@ -17,12 +17,12 @@ use Rattle.player_events.specs.declared.event.Event.TheVariants.{Want}
 use Rattle.partition.specs.Image.{Image}
 use Rattle.partition.specs.Step.{next_image}
 use Rattle.partition_laws.specs.Apart.{after_events}
-use Rattle.partition_laws.specs.Moves.{AreApart, HasEight, HasPlaces, IsAt}
+use Rattle.partition_laws.specs.Moves.{AreApart, HasEight, IsDisjoint, IsAt}
 use Rattle.partition_laws.specs.Owing.{FeedsNoNewcomer, FeedsOweNothing, is_job}
 use Rattle.partition_laws.proofs.Asking.{AsksOnly, only_fed, only_first, only_over}
 use Rattle.partition_laws.proofs.Reports.{is_at}
 
-module _ (place : ℕ) (owes : List Bool) where
+module _ (index : ℕ) (owes : List Bool) where
   -- no frames waited in the ring of an output
   abbrev OwesNone : ℕ → ℕ → Type 0
   OwesNone output moves = slice_index_or owes output false ≡ false
@@ -61,7 +61,7 @@ module _ (place : ℕ) (owes : List Bool) where
       ]
 
   module _ (rate : ℕ) (p : Part) (eight : HasEight p.outputs) where
-    owed_none : (waits : Bool) → is_job (ToDecode (wanted rate p waits).job) ≡ true → waits ≡ false
+    owed_none : (waits : Bool) → is_job (ToDecode (due_job rate p waits).job) ≡ true → waits ≡ false
     owed_none false e = refl
     owed_none true e =
         let by : (plays on : Bool) → is_job (ToDecode (if plays && on && not true then decoding.want_of rate p.player (entries p) p.player.current else decoding.nothing p.player).job) ≡ true → true ≡ false =
@@ -71,39 +71,39 @@ module _ (place : ℕ) (owes : List Bool) where
         ] in
         by (is_playing p.player.playback) (any_enabled p.outputs) e
 
-    none_given : (job : Option Job) → is_job (ToDecode job) ≡ true → owes_any p.outputs owes ≡ false → AsksOnly place OwesNone (asked_for job p.outputs)
+    none_given : (job : Option Job) → is_job (ToDecode job) ≡ true → owes_any p.outputs owes ≡ false → AsksOnly index OwesNone (asked_for job p.outputs)
     none_given None e f = cc
     none_given (Some job) e f = none_owing p.outputs eight f
 
-    none_wanted : is_job (ToDecode (wanted rate p (owes_any p.outputs owes)).job) ≡ true → AsksOnly place OwesNone (outputs_after rate p (ByAudio (Wants (owes_any p.outputs owes))))
-    none_wanted e = none_given (wanted rate p (owes_any p.outputs owes)).job e (owed_none (owes_any p.outputs owes) e)
+    none_due : is_job (ToDecode (due_job rate p (owes_any p.outputs owes)).job) ≡ true → AsksOnly index OwesNone (outputs_after rate p (ByAudio (Wants (owes_any p.outputs owes))))
+    none_due e = none_given (due_job rate p (owes_any p.outputs owes)).job e (owed_none (owes_any p.outputs owes) e)
 
-  eight_at : (p : Part) (ps : List Part) → AreApart (map known ps) → part_at place ps ≡ Some p → HasEight p.outputs
+  eight_at : (p : Part) (ps : List Part) → AreApart (map known ps) → part_at index ps ≡ Some p → HasEight p.outputs
   eight_at p [] apart e = cc
   eight_at p (q ∷ ps) apart e =
-      let cases : (b : Bool) → (if b then Some q else part_at place ps) ≡ Some p → HasEight p.outputs =
-      λ b. elim b as (λ b. (if b then Some q else part_at place ps) ≡ Some p → HasEight p.outputs) [
+      let cases : (b : Bool) → (if b then Some q else part_at index ps) ≡ Some p → HasEight p.outputs =
+      λ b. elim b as (λ b. (if b then Some q else part_at index ps) ≡ Some p → HasEight p.outputs) [
         | true ↦ λ f. (let same : q ≡ p = cc in subst (λ (y : Part). HasEight y.outputs) same (record { here = apart.1.here; moves = apart.1.moves }))
         | false ↦ λ f. eight_at p ps apart.3 f
       ] in
-      cases (q.place == place) e
+      cases (q.index == index) e
 
 pub feeds_owe_nothing : FeedsOweNothing
-feeds_owe_nothing i seat place owes es has e g number frames feed f output moves h =
-    let P : ℕ → ℕ → Type 0 = OwesNone place owes in
-    let begun : Image = next_image seat i (Want place owes) in
-    let first = only_first place P seat owes i has.places (λ p at job. none_wanted place owes i.shared.library.rate p (eight_at place owes p i.parts has.places at) job) e in
-    only_fed place P (after_events begun es) number frames feed (only_over place P begun es g first) f output moves h
+feeds_owe_nothing i seat index owes es has e g number frames feed f output moves h =
+    let P : ℕ → ℕ → Type 0 = OwesNone index owes in
+    let begun : Image = next_image seat i (Want index owes) in
+    let first = only_first index P seat owes i has.disjoint (λ p at job. none_due index owes i.shared.library.rate p (eight_at index owes p i.parts has.disjoint at) job) e in
+    only_fed index P (after_events begun es) number frames feed (only_over index P begun es g first) f output moves h
 
 -- an output is in the partition, moved so often
-asked_at : (i : Image) (place : ℕ) (p : Part) (job : Option Job) → HasPlaces i → part_at place i.parts ≡ Some p → is_job (ToDecode job) ≡ true
-    → AsksOnly place (λ output moves. IsAt output i (record { place = place; moves = moves })) (asked_for job p.outputs)
-asked_at i place p None places at e = cc
-asked_at i place p (Some job) places at e = λ output here. is_at i place p output places at here
+asked_at : (i : Image) (index : ℕ) (p : Part) (job : Option Job) → IsDisjoint i → part_at index i.parts ≡ Some p → is_job (ToDecode job) ≡ true
+    → AsksOnly index (λ output moves. IsAt output i (record { index = index; moves = moves })) (asked_for job p.outputs)
+asked_at i index p None disjoint at e = cc
+asked_at i index p (Some job) disjoint at e = λ output here. is_at i index p output disjoint at here
 
 pub feeds_no_newcomer : FeedsNoNewcomer
-feeds_no_newcomer i seat place owes es has e g number frames feed f output moves h =
-    let P : ℕ → ℕ → Type 0 = λ output moves. IsAt output i (record { place = place; moves = moves }) in
-    let begun : Image = next_image seat i (Want place owes) in
-    let first = only_first place P seat owes i has.places (λ p at job. asked_at i place p (wanted i.shared.library.rate p (owes_any p.outputs owes)).job has.places at job) e in
-    only_fed place P (after_events begun es) number frames feed (only_over place P begun es g first) f output moves h
+feeds_no_newcomer i seat index owes es has e g number frames feed f output moves h =
+    let P : ℕ → ℕ → Type 0 = λ output moves. IsAt output i (record { index = index; moves = moves }) in
+    let begun : Image = next_image seat i (Want index owes) in
+    let first = only_first index P seat owes i has.disjoint (λ p at job. asked_at i index p (due_job i.shared.library.rate p (owes_any p.outputs owes)).job has.disjoint at job) e in
+    only_fed index P (after_events begun es) number frames feed (only_over index P begun es g first) f output moves h

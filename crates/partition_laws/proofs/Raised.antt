@@ -36,24 +36,24 @@ spoken goes number before after shelf l m fs gs =
       partition = not (same_names (names_known fs) (names_known gs));
     })
 
-at_watched : (place : ℕ) (ps : List Part) → watched_at place (map watched_of ps) ≡ option_map watched_of (part_at place ps)
-at_watched place [] = refl
-at_watched place (p ∷ ps) =
-    elim (p.place == place) as (λ b. (if b then Some (watched_of p) else watched_at place (map watched_of ps)) ≡ option_map watched_of (if b then Some p else part_at place ps))
-    [ true ↦ refl | false ↦ at_watched place ps ]
+at_watched : (index : ℕ) (ps : List Part) → watched_at index (map watched_of ps) ≡ option_map watched_of (part_at index ps)
+at_watched index [] = refl
+at_watched index (p ∷ ps) =
+    elim (p.index == index) as (λ b. (if b then Some (watched_of p) else watched_at index (map watched_of ps)) ≡ option_map watched_of (if b then Some p else part_at index ps))
+    [ true ↦ refl | false ↦ at_watched index ps ]
 
 names_are : (ps : List Part) → names_of (map watched_of ps) ≡ names_known (map known ps)
 names_are [] = refl
 names_are (p ∷ ps) = ap (λ (names : List (List ℕ)). p.name ∷ names) (names_are ps)
 
-pub raised_is : (place m at : ℕ) (ps : List Part) (l : Library) (t : TransitionData) (k : Client) → k.place ≡ place
+pub raised_is : (index m at : ℕ) (ps : List Part) (l : Library) (t : TransitionData) (k : Client) → k.index ≡ index
     → raised_by m at ps l t k
-    ≡ spoken (is_this (moved_client m t.response) k.number) k.number (part_at place ps) (part_at place (parts_after l.rate at t ps)) (shelf_changes t.written) l (library_after l t.scan)
+    ≡ spoken (is_this (moved_client m t.response) k.number) k.number (part_at index ps) (part_at index (parts_after l.rate at t ps)) (shelf_changes t.written) l (library_after l t.scan)
     (map known ps) (map known (parts_after l.rate at t ps))
-raised_is place m at ps l t k e =
+raised_is index m at ps l t k e =
     let qs : List Part = parts_after l.rate at t ps in
-    let before : watched_at k.place (map watched_of ps) ≡ option_map watched_of (part_at place ps) = ap (λ n. watched_at n (map watched_of ps)) e ∙ at_watched place ps in
-    let after : watched_at k.place (map watched_of qs) ≡ option_map watched_of (part_at place qs) = ap (λ n. watched_at n (map watched_of qs)) e ∙ at_watched place qs in
+    let before : watched_at k.index (map watched_of ps) ≡ option_map watched_of (part_at index ps) = ap (λ n. watched_at n (map watched_of ps)) e ∙ at_watched index ps in
+    let after : watched_at k.index (map watched_of qs) ≡ option_map watched_of (part_at index qs) = ap (λ n. watched_at n (map watched_of qs)) e ∙ at_watched index qs in
     λ i. if is_this (moved_client m t.response) k.number then all else raised_between k.number (before i) (after i) (record none {
       database = not (same_songs l.songs (library_after l t.scan).songs);
       update = differ l.scan.runs (library_after l t.scan).scan.runs;

@@ -22,7 +22,7 @@ use Rattle.player_state.specs.declared.state.Client.{Client}
 use Rattle.player_state.specs.declared.state.Library.{Library}
 use Rattle.player_state.specs.declared.state.Part.{Part}
 use Rattle.partition_table.specs.Openings.{OpeningsData}
-use Rattle.partition_table.specs.Parts.{Known, free_place, holder, named, opening_part, report_in, shown_outputs}
+use Rattle.partition_table.specs.Parts.{Known, free_index, holder, named, opening_part, report_in, shown_outputs}
 use Rattle.partition_table.specs.declared.crossing.Crossing.{Crossing}
 use Rattle.partition_table.specs.declared.crossing.Crossing.TheVariants.{Stays, Opens, Closes, Brings}
 use Rattle.transitions.specs.Answers.{Answer, ResponseData, closes, refused_by_shelf, refuses, refuses_command, shut, stays, succeeds, tells}
@@ -58,7 +58,7 @@ use Rattle.partition_laws.specs.Apart.{comes_to, is_of_none, passes, reaches}
 -- a crossing of an event of a partition: what comes is as at its opening, and an output comes to this one
 abbrev pub IsProper : OpeningsData → ℕ → Crossing → Type 0
 IsProper openings own Stays = Unit {0}
-IsProper openings own (Opens new) = new ≡ opening_part openings new.place new.name (shown_outputs new.outputs)
+IsProper openings own (Opens new) = new ≡ opening_part openings new.index new.name (shown_outputs new.outputs)
 IsProper openings own (Closes gone) = Unit {0}
 IsProper openings own (Brings output to) = to ≡ own
 
@@ -120,16 +120,16 @@ module _ (fs : List Known) (ks : List Seated) (openings : OpeningsData) (asked :
 
   plain_ends : (o : Option ℕ) → Plain (ends fs ks asked o)
   plain_ends None = plain_refused NoExist (codes "no such partition")
-  plain_ends (Some place) =
+  plain_ends (Some index) =
       let a : TransitionData = refused asked Argument (codes "partition is the default") in
       let b : TransitionData = refused asked System (codes "partition is in use") in
-      let c : TransitionData = crosses asked (Closes place) in
-      plain_if (place == 0) a (if is_used fs ks place then b else c) (plain_refused Argument (codes "partition is the default"))
-      (plain_if (is_used fs ks place) b c (plain_refused System (codes "partition is in use")) (plain_crosses (Closes place) tt))
+      let c : TransitionData = crosses asked (Closes index) in
+      plain_if (index == 0) a (if is_used fs ks index then b else c) (plain_refused Argument (codes "partition is the default"))
+      (plain_if (is_used fs ks index) b c (plain_refused System (codes "partition is in use")) (plain_crosses (Closes index) tt))
 
   plain_brings : (output : ℕ) (o : Option ℕ) → Plain (brings asked output own o)
   plain_brings output None = plain_refused NoExist (codes "no such output")
-  plain_brings output (Some place) = plain_if (place == own) (done asked) (crosses asked (Brings output own)) plain_done (plain_crosses (Brings output own) refl)
+  plain_brings output (Some index) = plain_if (index == own) (done asked) (crosses asked (Brings output own)) plain_done (plain_crosses (Brings output own) refl)
 
   plain_moves : (o : Option ℕ) → Plain (moves fs asked own o)
   plain_moves None = plain_refused NoExist (codes "no such output")
@@ -137,9 +137,9 @@ module _ (fs : List Known) (ks : List Seated) (openings : OpeningsData) (asked :
 
   plain_begins : (name : List ℕ) (o : Option ℕ) → Plain (begins fs openings asked name o)
   plain_begins name None = plain_refused System (codes "too many partitions")
-  plain_begins name (Some place) =
-      plain_crosses (Opens (opening_part openings place name (outputs_elsewhere fs)))
-      (ap (λ (outputs : OutputsData). opening_part openings place name outputs) (sym (nothing_here fs)))
+  plain_begins name (Some index) =
+      plain_crosses (Opens (opening_part openings index name (outputs_elsewhere fs)))
+      (ap (λ (outputs : OutputsData). opening_part openings index name outputs) (sym (nothing_here fs)))
 
   plain_goes : (o : Option ℕ) → Plain (goes asked own o)
   plain_goes None = plain_refused NoExist (codes "no such partition")
@@ -152,7 +152,7 @@ module _ (fs : List Known) (ks : List Seated) (openings : OpeningsData) (asked :
   plain (MoveOutput name) = plain_moves (output_named name fs)
   plain (NewPartition name) =
       let there : Bool = is_some (named name fs) in
-      let at : Option ℕ = if nat_le 16 (length fs) then None else free_place fs in
+      let at : Option ℕ = if nat_le 16 (length fs) then None else free_index fs in
       let a : TransitionData = refused asked Exist (codes "partition exists") in
       plain_named name (if there then a else begins fs openings asked name at)
       (plain_if there a (begins fs openings asked name at) (plain_refused Exist (codes "partition exists")) (plain_begins name at))
@@ -168,11 +168,11 @@ module _ (fs : List Known) (ks : List Seated) (openings : OpeningsData) (client 
 
   ends_same : (o : Option ℕ) → ends fs ks one o ≡ ends fs ks two o
   ends_same None = refl
-  ends_same (Some place) = refl
+  ends_same (Some index) = refl
 
   brings_same : (output : ℕ) (o : Option ℕ) → brings one output own o ≡ brings two output own o
   brings_same output None = refl
-  brings_same output (Some place) = refl
+  brings_same output (Some index) = refl
 
   moves_same : (o : Option ℕ) → moves fs one own o ≡ moves fs two own o
   moves_same None = refl
@@ -180,7 +180,7 @@ module _ (fs : List Known) (ks : List Seated) (openings : OpeningsData) (client 
 
   begins_same : (own_name : List ℕ) (o : Option ℕ) → begins fs openings one own_name o ≡ begins fs openings two own_name o
   begins_same own_name None = refl
-  begins_same own_name (Some place) = refl
+  begins_same own_name (Some index) = refl
 
   goes_same : (o : Option ℕ) → goes one own o ≡ goes two own o
   goes_same None = refl
@@ -193,7 +193,7 @@ module _ (fs : List Known) (ks : List Seated) (openings : OpeningsData) (client 
   planned_same (MoveOutput of) = moves_same (output_named of fs)
   planned_same (NewPartition of) =
       let there : Bool = is_some (named of fs) in
-      let at : Option ℕ = if nat_le 16 (length fs) then None else free_place fs in
+      let at : Option ℕ = if nat_le 16 (length fs) then None else free_index fs in
       ap (λ (t : TransitionData). if is_partition_name of then (if there then refused one Exist (codes "partition exists") else t) else transition_by (bad_name one of)) (begins_same of at)
   planned_same (Partition of) = ap (λ (t : TransitionData). if is_partition_name of then t else transition_by (bad_name one of)) (goes_same (named of fs))
 
@@ -214,7 +214,7 @@ Wishes k stand t = (name : Name) × (wish : Wish) × (t ≡ quiet (wished (asked
 -- one of the five commands of partitions
 abbrev pub Plans : Overview → Client → Part → Stand → Request → TransitionData → Type 0
 Plans o k part stand request t =
-    (name : Name) × (it : PartitionCommand) × (request ≡ Run name (command.Partitions it)) × (t ≡ planned o.parts o.clients o.openings (asked_by k name stand) part.place it)
+    (name : Name) × (it : PartitionCommand) × (request ≡ Run name (command.Partitions it)) × (t ≡ planned o.parts o.clients o.openings (asked_by k name stand) part.index it)
 
 -- a line of a client that is there, in a partition that is
 module _ (o : Overview) (library : Library) (k : Client) (part : Part) (stand : Stand) (read : Read) where
@@ -262,8 +262,8 @@ module _ (o : Overview) (library : Library) (k : Client) (part : Part) (stand : 
   written_kind request fault t (inl a) = inl (written_answers request fault t a)
   written_kind request fault t (inr (inl w)) = inr (inl (w.0, w.1, ap (written_transition stand request fault) w.2))
   written_kind request fault t (inr (inr p)) =
-      let u : TransitionData = planned o.parts o.clients o.openings (asked_by k p.0 stand) part.place p.1 in
-      let unwritten : is_written u.written ≡ false = (plain o.parts o.clients o.openings (asked_by k p.0 stand) part.place p.1).unwritten in
+      let u : TransitionData = planned o.parts o.clients o.openings (asked_by k p.0 stand) part.index p.1 in
+      let unwritten : is_written u.written ≡ false = (plain o.parts o.clients o.openings (asked_by k p.0 stand) part.index p.1).unwritten in
       inr (inr (p.0, p.1, p.2, ap (written_transition stand request fault) p.3 ∙ ap (λ b. if b then once_written stand request fault u else u) unwritten))
 
   pub line_kind : (request : Request) (fault : Option ShelfFault) → Kind request (written_transition stand request fault (transition_line o (Some part) library (Some k) stand request read))
@@ -303,26 +303,26 @@ module _ (o : Overview) (library : Library) (k : Client) (stand : Stand) (read :
   line_nowhere request fault = written_nowhere request fault (transition_line o None library (Some k) stand request read) (in_nowhere request)
 
 -- a wish leads to no other partition
-idles_comes : (place : ℕ) (named : Subsystems) (o : Option Subsystems) → comes_to place (move_of (idles named o)) ≡ false
-idles_comes place named None = refl
-idles_comes place named (Some names) = refl
+idles_comes : (index : ℕ) (named : Subsystems) (o : Option Subsystems) → comes_to index (move_of (idles named o)) ≡ false
+idles_comes index named None = refl
+idles_comes index named (Some names) = refl
 
-resumes_comes : (place : ℕ) (k : Client) → comes_to place (move_of (resumes k)) ≡ false
-resumes_comes place k =
-    elim (is_some k.pending.waiting) as (λ b. comes_to place (move_of (if b then record { answer = tells (codes "OK\n"); move = Resume } else stays (tells (codes "")))) ≡ false)
+resumes_comes : (index : ℕ) (k : Client) → comes_to index (move_of (resumes k)) ≡ false
+resumes_comes index k =
+    elim (is_some k.pending.waiting) as (λ b. comes_to index (move_of (if b then record { answer = tells (codes "OK\n"); move = Resume } else stays (tells (codes "")))) ≡ false)
     [ true ↦ refl | false ↦ refl ]
 
-wish_comes : (place : ℕ) (k : Client) (name : Name) (stand : Stand) (wish : Wish) → comes_to place (move_of (wished (asked_by k name stand) k wish)) ≡ false
-wish_comes place k name Alone (ToWait names) = idles_comes place names (notice_of (waits names k.pending))
-wish_comes place k name Alone ToGoOn = resumes_comes place k
-wish_comes place k name Alone (ToShow choice) = refl
-wish_comes place k name (InList form at) (ToWait names) = refl
-wish_comes place k name (InList form at) ToGoOn = refl
-wish_comes place k name (InList form at) (ToShow choice) = refl
+wish_comes : (index : ℕ) (k : Client) (name : Name) (stand : Stand) (wish : Wish) → comes_to index (move_of (wished (asked_by k name stand) k wish)) ≡ false
+wish_comes index k name Alone (ToWait names) = idles_comes index names (notice_of (waits names k.pending))
+wish_comes index k name Alone ToGoOn = resumes_comes index k
+wish_comes index k name Alone (ToShow choice) = refl
+wish_comes index k name (InList form at) (ToWait names) = refl
+wish_comes index k name (InList form at) ToGoOn = refl
+wish_comes index k name (InList form at) (ToShow choice) = refl
 
-unreached : (place : ℕ) (fs : List Known) (t : TransitionData) → t.crossing ≡ Stays → comes_to place (move_of t.response) ≡ false → reaches place fs t ≡ false
-unreached place fs t stays comes =
-    ap (λ b. b || passes place fs t.crossing) comes ∙ ap (passes place fs) stays
+unreached : (index : ℕ) (fs : List Known) (t : TransitionData) → t.crossing ≡ Stays → comes_to index (move_of t.response) ≡ false → reaches index fs t ≡ false
+unreached index fs t stays comes =
+    ap (λ b. b || passes index fs t.crossing) comes ∙ ap (passes index fs) stays
 
 -- a line that reaches a partition is one of the five commands
 pub record Reached (o : Overview) (stand : Stand) (request : Request) (part : Option Part) (client : Option Client) (t : TransitionData) : Type 0 where
@@ -333,52 +333,52 @@ pub record Reached (o : Overview) (stand : Stand) (request : Request) (part : Op
   pub client_is : client ≡ Some k
   pub part_is : part ≡ Some p
   pub request_is : request ≡ Run name (command.Partitions it)
-  pub is : t ≡ planned o.parts o.clients o.openings (asked_by k name stand) p.place it
+  pub is : t ≡ planned o.parts o.clients o.openings (asked_by k name stand) p.index it
 
-pub reached : (place : ℕ) (o : Overview) (library : Library) (part : Option Part) (client : Option Client) (stand : Stand) (request : Request) (heard : StoreReply)
-    → reaches place o.parts (written_transition stand request heard.refused (transition_line o part library client stand request heard.read)) ≡ true
+pub reached : (index : ℕ) (o : Overview) (library : Library) (part : Option Part) (client : Option Client) (stand : Stand) (request : Request) (heard : StoreReply)
+    → reaches index o.parts (written_transition stand request heard.refused (transition_line o part library client stand request heard.read)) ≡ true
     → Reached o stand request part client (written_transition stand request heard.refused (transition_line o part library client stand request heard.read))
-reached place o library part None stand request heard r = cc
-reached place o library None (Some k) stand request heard r =
+reached index o library part None stand request heard r = cc
+reached index o library None (Some k) stand request heard r =
     let t : TransitionData = written_transition stand request heard.refused (transition_line o None library (Some k) stand request heard.read) in
     let R : Type 0 = Reached o stand request None (Some k) t in
-    let none : reaches place o.parts t ≡ false → R = λ e. (let clash : true ≡ false = sym r ∙ e in cc) in
+    let none : reaches index o.parts t ≡ false → R = λ e. (let clash : true ≡ false = sym r ∙ e in cc) in
     elim (line_nowhere o library k stand heard.read request heard.refused) [
-      | inl a ↦ none (unreached place o.parts t a.0 (ap (comes_to place) a.1))
-      | inr w ↦ none (unreached place o.parts t (ap (λ (u : TransitionData). u.crossing) w.2) (ap (λ (u : TransitionData). comes_to place (move_of u.response)) w.2 ∙ wish_comes place k w.0 stand w.1))
+      | inl a ↦ none (unreached index o.parts t a.0 (ap (comes_to index) a.1))
+      | inr w ↦ none (unreached index o.parts t (ap (λ (u : TransitionData). u.crossing) w.2) (ap (λ (u : TransitionData). comes_to index (move_of u.response)) w.2 ∙ wish_comes index k w.0 stand w.1))
     ]
-reached place o library (Some p) (Some k) stand request heard r =
+reached index o library (Some p) (Some k) stand request heard r =
     let t : TransitionData = written_transition stand request heard.refused (transition_line o (Some p) library (Some k) stand request heard.read) in
     let R : Type 0 = Reached o stand request (Some p) (Some k) t in
-    let none : reaches place o.parts t ≡ false → R = λ e. (let clash : true ≡ false = sym r ∙ e in cc) in
+    let none : reaches index o.parts t ≡ false → R = λ e. (let clash : true ≡ false = sym r ∙ e in cc) in
     elim (line_kind o library k p stand heard.read request heard.refused) [
-      | inl a ↦ none (unreached place o.parts t a.0 (ap (comes_to place) a.1))
-      | inr (inl w) ↦ none (unreached place o.parts t (ap (λ (u : TransitionData). u.crossing) w.2) (ap (λ (u : TransitionData). comes_to place (move_of u.response)) w.2 ∙ wish_comes place k w.0 stand w.1))
+      | inl a ↦ none (unreached index o.parts t a.0 (ap (comes_to index) a.1))
+      | inr (inl w) ↦ none (unreached index o.parts t (ap (λ (u : TransitionData). u.crossing) w.2) (ap (λ (u : TransitionData). comes_to index (move_of u.response)) w.2 ∙ wish_comes index k w.0 stand w.1))
       | inr (inr q) ↦ record { k = k; p = p; name = q.0; it = q.1; client_is = refl; part_is = refl; request_is = q.2; is = q.3 }
     ]
 
 -- events that are no line reach no other partition
-pub others_stay : (place : ℕ) (o : Overview) (part : Option Part) (library : Library) (client : Option Client) (event : Event)
+pub others_stay : (index : ℕ) (o : Overview) (part : Option Part) (library : Library) (client : Option Client) (event : Event)
     → ((number : ℕ) (stand : Stand) (request : Request) (heard : StoreReply) → event ≡ Line number stand request heard → ⊥)
-    → reaches place o.parts (transition_of o part library client event) ≡ false
-others_stay place o part library (Some k) (Connect number) unlined = refl
-others_stay place o part library None (Connect number) unlined =
+    → reaches index o.parts (transition_of o part library client event) ≡ false
+others_stay index o part library (Some k) (Connect number) unlined = refl
+others_stay index o part library None (Connect number) unlined =
     let full : Bool = nat_le 64 (length o.clients) in
-    elim full as (λ b. reaches place o.parts (quiet (if b then stays shut else greeting)) ≡ false) [ true ↦ refl | false ↦ refl ]
-others_stay place o part library client (Disconnect number) unlined = refl
-others_stay place o part library client (Line number stand request heard) unlined = absurd (unlined number stand request heard refl)
-others_stay place o part library client ScanQuestion unlined = refl
-others_stay place o part library client (ScanResult songs second) unlined = refl
-others_stay place o None library client (Want at owes) unlined = refl
-others_stay place o (Some part) library client (Want at owes) unlined = refl
-others_stay place o None library client (Have at number frames) unlined = refl
-others_stay place o (Some part) library client (Have at number frames) unlined = refl
-others_stay place o None library client (Failed at number partner) unlined = refl
-others_stay place o (Some part) library client (Failed at number partner) unlined = refl
-others_stay place o None library client (OutputTurn output written discarded failed) unlined = refl
-others_stay place o (Some part) library client (OutputTurn output written discarded failed) unlined =
-    elim (is_output part.outputs output) as (λ b. reaches place o.parts (or_ended o.ended (if b then acts (Settles output written discarded failed) else absent)) ≡ false) [ true ↦ refl | false ↦ refl ]
-others_stay place o part library client End unlined = refl
+    elim full as (λ b. reaches index o.parts (quiet (if b then stays shut else greeting)) ≡ false) [ true ↦ refl | false ↦ refl ]
+others_stay index o part library client (Disconnect number) unlined = refl
+others_stay index o part library client (Line number stand request heard) unlined = absurd (unlined number stand request heard refl)
+others_stay index o part library client ScanQuestion unlined = refl
+others_stay index o part library client (ScanResult songs second) unlined = refl
+others_stay index o None library client (Want at owes) unlined = refl
+others_stay index o (Some part) library client (Want at owes) unlined = refl
+others_stay index o None library client (Have at number frames) unlined = refl
+others_stay index o (Some part) library client (Have at number frames) unlined = refl
+others_stay index o None library client (Failed at number partner) unlined = refl
+others_stay index o (Some part) library client (Failed at number partner) unlined = refl
+others_stay index o None library client (OutputTurn output written discarded failed) unlined = refl
+others_stay index o (Some part) library client (OutputTurn output written discarded failed) unlined =
+    elim (is_output part.outputs output) as (λ b. reaches index o.parts (or_ended o.ended (if b then acts (Settles output written discarded failed) else absent)) ≡ false) [ true ↦ refl | false ↦ refl ]
+others_stay index o part library client End unlined = refl
 
 -- an event that comes from no client answers none
 pub speechless : (o : Overview) (part : Option Part) (library : Library) (client : Option Client) (event : Event) → sender event ≡ None → (transition_of o part library client event).response ≡ no_response
@@ -400,7 +400,7 @@ speechless o part library client End e = refl
 
 -- what passes between partitions is proper
 proper_line : (o : Overview) (part : Option Part) (library : Library) (client : Option Client) (own : ℕ) (stand : Stand) (request : Request) (heard : StoreReply)
-    → ((p : Part) → part ≡ Some p → p.place ≡ own)
+    → ((p : Part) → part ≡ Some p → p.index ≡ own)
     → IsProper o.openings own (written_transition stand request heard.refused (transition_line o part library client stand request heard.read)).crossing
 proper_line o part library None own stand request heard has = tt
 proper_line o None library (Some k) own stand request heard has =
@@ -414,13 +414,13 @@ proper_line o (Some p) library (Some k) own stand request heard has =
       | inl a ↦ by Stays a.0 tt
       | inr (inl w) ↦ by Stays (ap (λ (u : TransitionData). u.crossing) w.2) tt
       | inr (inr q) ↦ (
-          let u : TransitionData = planned o.parts o.clients o.openings (asked_by k q.0 stand) p.place q.1 in
-          let proper : IsProper o.openings p.place u.crossing = (plain o.parts o.clients o.openings (asked_by k q.0 stand) p.place q.1).proper in
+          let u : TransitionData = planned o.parts o.clients o.openings (asked_by k q.0 stand) p.index q.1 in
+          let proper : IsProper o.openings p.index u.crossing = (plain o.parts o.clients o.openings (asked_by k q.0 stand) p.index q.1).proper in
           by u.crossing (ap (λ (u : TransitionData). u.crossing) q.3) (subst (λ n. IsProper o.openings n u.crossing) (has p refl) proper)
           )
     ]
 
-pub proper : (o : Overview) (part : Option Part) (library : Library) (client : Option Client) (own : ℕ) (event : Event) → ((p : Part) → part ≡ Some p → p.place ≡ own)
+pub proper : (o : Overview) (part : Option Part) (library : Library) (client : Option Client) (own : ℕ) (event : Event) → ((p : Part) → part ≡ Some p → p.index ≡ own)
     → IsProper o.openings own (transition_of o part library client event).crossing
 proper o part library client own (Connect number) has = tt
 proper o part library client own (Disconnect number) has = tt
@@ -479,7 +479,7 @@ calm_line o (Some p) library (Some k) stand request heard =
     elim (line_kind o library k p stand heard.read request heard.refused) [
       | inl a ↦ inl (calm_stay (move_of t.response) a.1)
       | inr (inl w) ↦ calm_wish k w.0 stand w.1 t w.2
-      | inr (inr q) ↦ inl (subst (λ (u : TransitionData). IsCalm (move_of u.response)) (sym q.3) (plain o.parts o.clients o.openings (asked_by k q.0 stand) p.place q.1).calm)
+      | inr (inr q) ↦ inl (subst (λ (u : TransitionData). IsCalm (move_of u.response)) (sym q.3) (plain o.parts o.clients o.openings (asked_by k q.0 stand) p.index q.1).calm)
     ]
 
 calm_by : (t : TransitionData) → t.response ≡ no_response → IsCalm (move_of t.response)
@@ -505,4 +505,4 @@ calm_or_idles o part library client End = inl tt
 pub reached_silent : (o : Overview) (stand : Stand) (request : Request) (part : Option Part) (client : Option Client) (t : TransitionData) → Reached o stand request part client t
     → (rate : ℕ) (own : Option Part) → report_in rate own t.effect t.report ≡ Nothing
 reached_silent o stand request part client t r rate own =
-    subst (λ (u : TransitionData). report_in rate own u.effect u.report ≡ Nothing) (sym r.is) ((plain o.parts o.clients o.openings (asked_by r.k r.name stand) r.p.place r.it).silent rate own)
+    subst (λ (u : TransitionData). report_in rate own u.effect u.report ≡ Nothing) (sym r.is) ((plain o.parts o.clients o.openings (asked_by r.k r.name stand) r.p.index r.it).silent rate own)

@@ -12,11 +12,11 @@ use Rattle.partition_laws.specs.Apart.{after_events}
 
 -- the partition that an output is in, and how often it was moved
 pub record Spot : Type 0 where
-  pub place : ℕ
+  pub index : ℕ
   pub moves : ℕ
 
 abbrev pub spot : ℕ → Known → Spot
-spot output f = record { place = f.place; moves = slice_index_or f.outputs.moves output 0 }
+spot output f = record { index = f.index; moves = slice_index_or f.outputs.moves output 0 }
 
 -- where an output is, if it is anywhere
 abbrev pub where_is : ℕ → Image → Option Spot
@@ -37,20 +37,20 @@ HoldsAlone f fs = (output : ℕ) → is_output f.outputs output ≡ true → hol
 -- no number is that of two partitions, and no output is in two
 abbrev pub AreApart : List Known → Type 0
 AreApart [] = Unit {0}
-AreApart (f ∷ fs) = (known_at f.place fs ≡ None) × HasEight f.outputs × HoldsAlone f fs × AreApart fs
+AreApart (f ∷ fs) = (known_at f.index fs ≡ None) × HasEight f.outputs × HoldsAlone f fs × AreApart fs
 
-abbrev pub HasPlaces : Image → Type 0
-HasPlaces i = AreApart (overview i).parts
+abbrev pub IsDisjoint : Image → Type 0
+IsDisjoint i = AreApart (overview i).parts
 
 abbrev pub OpensApart : Type 0
-OpensApart = (setup : Setup) (library : Library) → HasEight setup.outputs → HasPlaces (opening setup library)
+OpensApart = (setup : Setup) (library : Library) → HasEight setup.outputs → IsDisjoint (opening setup library)
 
 abbrev pub StaysApart : Type 0
-StaysApart = (seat : ℕ) (i : Image) (event : Event) → HasPlaces i → HasPlaces (next_image seat i event)
+StaysApart = (seat : ℕ) (i : Image) (event : Event) → IsDisjoint i → IsDisjoint (next_image seat i event)
 
 -- an output that was at a spot is in another partition, and was moved once more
 pub record Moved (before after : Spot) : Type 0 where
-  pub place : after.place ≢ before.place
+  pub index : after.index ≢ before.index
   pub moves : after.moves ≡ before.moves + 1
 
 abbrev pub HasMoved : ℕ → Image → Spot → Type 0
@@ -64,13 +64,13 @@ pub record Rises (seat : ℕ) (i : Image) (event : Event) (output : ℕ) : Type 
       → IsAt output (next_image seat i event) before ⊎ HasMoved output (next_image seat i event) before
 
 abbrev pub MovesRise : Type 0
-MovesRise = (seat : ℕ) (i : Image) (event : Event) (output : ℕ) → HasPlaces i → Rises seat i event output
+MovesRise = (seat : ℕ) (i : Image) (event : Event) (output : ℕ) → IsDisjoint i → Rises seat i event output
 
 -- the moves of an output did not fall, and where they are as before, the output is where it was
 abbrev pub IsLater : Spot → Spot → Type 0
 IsLater before after = (before.moves ≤ after.moves) × (before.moves ≡ after.moves → before ≡ after)
 
 -- so it is over every list of events
-abbrev pub MovesTellPlaces : Type 0
-MovesTellPlaces = (i : Image) (es : List (ℕ × Event)) (output : ℕ) (before : Spot) → HasPlaces i → IsAt output i before
+abbrev pub MovesTellSpots : Type 0
+MovesTellSpots = (i : Image) (es : List (ℕ × Event)) (output : ℕ) (before : Spot) → IsDisjoint i → IsAt output i before
     → (after : Spot) × IsAt output (after_events i es) after × IsLater before after

@@ -11,7 +11,7 @@ use Rattle.player_events.specs.declared.event.Event.TheVariants.{Have, OutputTur
 use Rattle.partition.specs.Image.{Image, opening}
 use Rattle.partition.specs.Step.{next_image, told}
 use Rattle.partition.specs.declared.state.Setup.{Setup}
-use Rattle.partition_laws.specs.Moves.{HasEight, HasPlaces, IsAt, Spot}
+use Rattle.partition_laws.specs.Moves.{HasEight, IsDisjoint, IsAt, Spot}
 
 -- the frames of a partition's last job are for outputs that are in it
 abbrev pub AsksHere : OutputsData → Type 0
@@ -23,7 +23,7 @@ AllAskHere (p ∷ ps) = AsksHere p.outputs × AllAskHere ps
 
 -- what is true of each daemon from its opening on
 pub record HasOutputs (i : Image) : Type 0 where
-  pub places : HasPlaces i
+  pub disjoint : IsDisjoint i
   pub asked : AllAskHere i.parts
 
 abbrev pub OpensWithOutputs : Type 0
@@ -40,7 +40,7 @@ IsTold i event moves = (live : Live) × ((told i event).report ≡ ToPlay (recor
 
 -- before the end each turn of an output is told so
 abbrev pub TurnsTellMoves : Type 0
-TurnsTellMoves = (i : Image) (output written discarded : ℕ) (failed : Bool) (s : Spot) → HasPlaces i → IsAt output i s
+TurnsTellMoves = (i : Image) (output written discarded : ℕ) (failed : Bool) (s : Spot) → IsDisjoint i → IsAt output i s
     → i.shared.ended ≡ false → IsTold i (OutputTurn output written discarded failed) s.moves
 
 abbrev pub is_fed_at : Feed → ℕ → Option ℕ
@@ -48,6 +48,6 @@ is_fed_at feed output = slice_index_or feed.outputs output None
 
 -- frames of a partition are fed to outputs that are in it, each with how often it was moved
 abbrev pub FeedsNameMoves : Type 0
-FeedsNameMoves = (i : Image) (place number frames : ℕ) (feed : Feed) → HasOutputs i
-    → (told i (Have place number frames)).report ≡ ToFeed (Some feed)
-    → (output moves : ℕ) → is_fed_at feed output ≡ Some moves → IsAt output i (record { place = place; moves = moves })
+FeedsNameMoves = (i : Image) (index number frames : ℕ) (feed : Feed) → HasOutputs i
+    → (told i (Have index number frames)).report ≡ ToFeed (Some feed)
+    → (output moves : ℕ) → is_fed_at feed output ≡ Some moves → IsAt output i (record { index = index; moves = moves })

@@ -1,6 +1,6 @@
 //! Laws of daemons with several partitions. A caller that calls one may use it; each does nothing.
 ghost use Rattle.partition_laws.specs.Apart.{EqualViewsHearTheSame, LeadsToLegal, OpensLegal, OthersMayBeLeftOut, StaysLegal};
-ghost use Rattle.partition_laws.specs.Moves.{MovesRise, MovesTellPlaces, OpensApart, StaysApart};
+ghost use Rattle.partition_laws.specs.Moves.{MovesRise, MovesTellSpots, OpensApart, StaysApart};
 ghost use Rattle.partition_laws.specs.Owing.{FeedsNoNewcomer, FeedsOweNothing};
 ghost use Rattle.partition_laws.specs.Reports.{FeedsNameMoves, KeepsOutputs, OpensWithOutputs, TurnsTellMoves};
 
@@ -30,7 +30,7 @@ pub fn moves_rise()
     ensures opening { OpensApart }
     ensures next { StaysApart }
     ensures rise { MovesRise }
-    ensures tell { MovesTellPlaces }
+    ensures tell { MovesTellSpots }
 {}
 
 /// The turn of an output is told how often the output was moved, and frames are fed to an output with how

@@ -3,7 +3,7 @@ use Rattle.std.proofs.Common.{◌≡◌, ◌≢◌, ℕ, ◌==◌, Bool, true, f
 use Rattle.std.specs.Prelude.{nat_lt, filter, option_map}
 use Rattle.std.proofs.lemmas.Bool.Decides.{nat_tests}
 use Rattle.player_core.specs.declared.state.Job.{Job}
-use Rattle.player_state.specs.Effects.{asked_for, outputs_after, part_after, wanted}
+use Rattle.player_state.specs.Effects.{asked_for, outputs_after, part_after, due_job}
 use Rattle.player_state.specs.Outputs.{OutputsData, brought, is_output, released, switched, turned}
 use Rattle.player_state.specs.declared.effect.Effect.{Effect}
 use Rattle.player_state.specs.declared.effect.Effect.TheVariants.{ByCommand, ByAudio}
@@ -28,44 +28,44 @@ or_nothing : {A : Type 0} (a : Option A) → a ≡ or_else a None
 or_nothing None = refl
 or_nothing (Some a) = refl
 
-module _ (place : ℕ) where
-  pub own_changed : (rate : ℕ) (effect : Effect) (ps : List Part) → part_at place (changed rate place effect ps) ≡ option_map (λ p. part_after rate p effect) (part_at place ps)
+module _ (index : ℕ) where
+  pub own_changed : (rate : ℕ) (effect : Effect) (ps : List Part) → part_at index (changed rate index effect ps) ≡ option_map (λ p. part_after rate p effect) (part_at index ps)
   own_changed rate effect [] = refl
   own_changed rate effect (p ∷ ps) = grind (arith, nat_tests, own_changed rate effect ps)
 
-  pub other_changed : (rate other : ℕ) (effect : Effect) (ps : List Part) → other ≢ place → part_at place (changed rate other effect ps) ≡ part_at place ps
+  pub other_changed : (rate other : ℕ) (effect : Effect) (ps : List Part) → other ≢ index → part_at index (changed rate other effect ps) ≡ part_at index ps
   other_changed rate other effect [] apart = refl
   other_changed rate other effect (p ∷ ps) apart = grind (arith, nat_tests, other_changed rate other effect ps apart)
 
-  pub at_known : (ps : List Part) → known_at place (map known ps) ≡ option_map known (part_at place ps)
+  pub at_known : (ps : List Part) → known_at index (map known ps) ≡ option_map known (part_at index ps)
   at_known [] = refl
   at_known (p ∷ ps) = grind (arith, nat_tests, at_known ps)
 
-  at_added : (new : Part) (ps : List Part) → part_at place (ps ++ new ∷ []) ≡ or_else (part_at place ps) (if new.place == place then Some new else None)
+  at_added : (new : Part) (ps : List Part) → part_at index (ps ++ new ∷ []) ≡ or_else (part_at index ps) (if new.index == index then Some new else None)
   at_added new [] = refl
   at_added new (p ∷ ps) =
-      elim (p.place == place) as (λ b. (if b then Some p else part_at place (ps ++ new ∷ [])) ≡ or_else (if b then Some p else part_at place ps) (if new.place == place then Some new else None))
+      elim (p.index == index) as (λ b. (if b then Some p else part_at index (ps ++ new ∷ [])) ≡ or_else (if b then Some p else part_at index ps) (if new.index == index then Some new else None))
       [ true ↦ refl | false ↦ at_added new ps ]
 
   -- a new part, if it is the one that is looked for
   abbrev pub if_new : Bool → Part → Option Part
-  if_new room new = if room then (if new.place == place then Some new else None) else None
+  if_new room new = if room then (if new.index == index then Some new else None) else None
 
-  at_opened : (new : Part) (ps : List Part) (room : Bool) → part_at place (if room then ps ++ new ∷ [] else ps) ≡ or_else (part_at place ps) (if_new room new)
+  at_opened : (new : Part) (ps : List Part) (room : Bool) → part_at index (if room then ps ++ new ∷ [] else ps) ≡ or_else (part_at index ps) (if_new room new)
   at_opened new ps true = at_added new ps
-  at_opened new ps false = or_nothing (part_at place ps)
+  at_opened new ps false = or_nothing (part_at index ps)
 
-  at_closed : (gone : ℕ) (ps : List Part) → part_at place (filter (λ (p : Part). not (p.place == gone)) ps) ≡ (if gone == place then None else part_at place ps)
-  at_closed gone [] = nothing_left Part (gone == place)
+  at_closed : (gone : ℕ) (ps : List Part) → part_at index (filter (λ (p : Part). not (p.index == gone)) ps) ≡ (if gone == index then None else part_at index ps)
+  at_closed gone [] = nothing_left Part (gone == index)
   at_closed gone (p ∷ ps) = grind (arith, nat_tests, at_closed gone ps)
 
-  pub at_mapped : (f : Part → Part) → ((p : Part) → (f p).place ≡ p.place) → (ps : List Part) → part_at place (map f ps) ≡ option_map f (part_at place ps)
+  pub at_mapped : (f : Part → Part) → ((p : Part) → (f p).index ≡ p.index) → (ps : List Part) → part_at index (map f ps) ≡ option_map f (part_at index ps)
   at_mapped f keeps [] = refl
   at_mapped f keeps (p ∷ ps) =
-      ap (λ n. if n == place then Some (f p) else part_at place (map f ps)) (keeps p)
-      ∙ elim (p.place == place) as (λ b. (if b then Some (f p) else part_at place (map f ps)) ≡ option_map f (if b then Some p else part_at place ps)) [ true ↦ refl | false ↦ at_mapped f keeps ps ]
+      ap (λ n. if n == index then Some (f p) else part_at index (map f ps)) (keeps p)
+      ∙ elim (p.index == index) as (λ b. (if b then Some (f p) else part_at index (map f ps)) ≡ option_map f (if b then Some p else part_at index ps)) [ true ↦ refl | false ↦ at_mapped f keeps ps ]
 
-pub moved_keeps : (output to : ℕ) (c : Option Carried) (p : Part) → (moved_output output to c p).place ≡ p.place
+pub moved_keeps : (output to : ℕ) (c : Option Carried) (p : Part) → (moved_output output to c p).index ≡ p.index
 moved_keeps output to None p = refl
 moved_keeps output to (Some c) p = refl
 
@@ -75,17 +75,17 @@ length-map_known (p ∷ ps) = grind (arith, length-map_known ps)
 
 -- what a crossing leaves of a part, by what all knew
 abbrev pub own_moved : ℕ → Crossing → List Known → Option Part → Option Part
-own_moved place Stays fs p = p
-own_moved place (Opens new) fs p = or_else p (if_new place (nat_lt (length fs) 16) new)
-own_moved place (Closes gone) fs p = if gone == place then None else p
-own_moved place (Brings output to) fs p = option_map (moved_output output to (carried_in output to fs)) p
+own_moved index Stays fs p = p
+own_moved index (Opens new) fs p = or_else p (if_new index (nat_lt (length fs) 16) new)
+own_moved index (Closes gone) fs p = if gone == index then None else p
+own_moved index (Brings output to) fs p = option_map (moved_output output to (carried_in output to fs)) p
 
-pub part_moved : (place : ℕ) (c : Crossing) (ps : List Part) → part_at place (parts_moved c ps) ≡ own_moved place c (map known ps) (part_at place ps)
-part_moved place Stays ps = refl
-part_moved place (Opens new) ps =
-    at_opened place new ps (nat_lt (length ps) 16) ∙ ap (λ n. or_else (part_at place ps) (if_new place (nat_lt n 16) new)) (sym (length-map_known ps))
-part_moved place (Closes gone) ps = at_closed place gone ps
-part_moved place (Brings output to) ps = at_mapped place (moved_output output to (carried_in output to (map known ps))) (moved_keeps output to (carried_in output to (map known ps))) ps
+pub part_moved : (index : ℕ) (c : Crossing) (ps : List Part) → part_at index (parts_moved c ps) ≡ own_moved index c (map known ps) (part_at index ps)
+part_moved index Stays ps = refl
+part_moved index (Opens new) ps =
+    at_opened index new ps (nat_lt (length ps) 16) ∙ ap (λ n. or_else (part_at index ps) (if_new index (nat_lt n 16) new)) (sym (length-map_known ps))
+part_moved index (Closes gone) ps = at_closed index gone ps
+part_moved index (Brings output to) ps = at_mapped index (moved_output output to (carried_in output to (map known ps))) (moved_keeps output to (carried_in output to (map known ps))) ps
 
 -- what all know of the outputs of a part after an event, by what all knew
 abbrev pub outputs_known : OutputsData → Effect → OutputsData
@@ -103,32 +103,32 @@ turned_known output false outputs = refl
 
 pub outputs_are_known : (rate : ℕ) (p : Part) (effect : Effect) → shown_outputs (outputs_after rate p effect) ≡ outputs_known (shown_outputs p.outputs) effect
 outputs_are_known rate p (ByCommand (Switches output on)) = refl
-outputs_are_known rate p (ByAudio (Wants owes)) = asked_unknown (wanted rate p owes).job p.outputs
+outputs_are_known rate p (ByAudio (Wants owes)) = asked_unknown (due_job rate p owes).job p.outputs
 outputs_are_known rate p (ByAudio (Settles output written discarded failed)) = turned_known output failed p.outputs
 outputs_are_known rate p _ = refl
 
 abbrev pub knowns_changed : ℕ → Effect → List Known → List Known
-knowns_changed place effect [] = []
-knowns_changed place effect (f ∷ fs) = if f.place == place then record f { outputs = outputs_known f.outputs effect } ∷ fs else f ∷ knowns_changed place effect fs
+knowns_changed index effect [] = []
+knowns_changed index effect (f ∷ fs) = if f.index == index then record f { outputs = outputs_known f.outputs effect } ∷ fs else f ∷ knowns_changed index effect fs
 
 abbrev known_with : Part → OutputsData → Known
-known_with p outputs = record { place = p.place; name = p.name; outputs = outputs }
+known_with p outputs = record { index = p.index; name = p.name; outputs = outputs }
 
 known_one : (rate : ℕ) (p : Part) (effect : Effect) → known (part_after rate p effect) ≡ record (known p) { outputs = outputs_known (shown_outputs p.outputs) effect }
 known_one rate p effect = ap (known_with p) (outputs_are_known rate p effect)
 
-pub known_changed : (rate place : ℕ) (effect : Effect) (ps : List Part) → map known (changed rate place effect ps) ≡ knowns_changed place effect (map known ps)
-known_changed rate place effect [] = refl
-known_changed rate place effect (p ∷ ps) =
-    elim (p.place == place) as (λ b. map known (if b then part_after rate p effect ∷ ps else p ∷ changed rate place effect ps)
-    ≡ (if b then record (known p) { outputs = outputs_known (shown_outputs p.outputs) effect } ∷ map known ps else known p ∷ knowns_changed place effect (map known ps))) [
+pub known_changed : (rate index : ℕ) (effect : Effect) (ps : List Part) → map known (changed rate index effect ps) ≡ knowns_changed index effect (map known ps)
+known_changed rate index effect [] = refl
+known_changed rate index effect (p ∷ ps) =
+    elim (p.index == index) as (λ b. map known (if b then part_after rate p effect ∷ ps else p ∷ changed rate index effect ps)
+    ≡ (if b then record (known p) { outputs = outputs_known (shown_outputs p.outputs) effect } ∷ map known ps else known p ∷ knowns_changed index effect (map known ps))) [
       | true ↦ ap (λ (f : Known). f ∷ map known ps) (known_one rate p effect)
-      | false ↦ ap (λ (fs : List Known). known p ∷ fs) (known_changed rate place effect ps)
+      | false ↦ ap (λ (fs : List Known). known p ∷ fs) (known_changed rate index effect ps)
     ]
 
 abbrev pub known_moved : ℕ → ℕ → Option Carried → Known → Known
 known_moved output to None f = f
-known_moved output to (Some c) f = record f { outputs = shown_outputs (outputs_moved output (f.place == to) c f.outputs) }
+known_moved output to (Some c) f = record f { outputs = shown_outputs (outputs_moved output (f.index == to) c f.outputs) }
 
 -- which outputs come or go does not depend on those that frames are for
 shown : (output : ℕ) (comes : Bool) (c : Carried) (outputs : OutputsData) → shown_outputs (outputs_moved output comes c outputs) ≡ shown_outputs (outputs_moved output comes c (shown_outputs outputs))
@@ -144,7 +144,7 @@ shown output false c outputs =
 known_moved_one : (output to : ℕ) (c : Option Carried) (p : Part) → known (moved_output output to c p) ≡ known_moved output to c (known p)
 known_moved_one output to None p = refl
 known_moved_one output to (Some c) p =
-    ap (known_with p) (shown output (p.place == to) c p.outputs)
+    ap (known_with p) (shown output (p.index == to) c p.outputs)
 
 known_mapped : (output to : ℕ) (c : Option Carried) (ps : List Part) → map known (map (moved_output output to c) ps) ≡ map (known_moved output to c) (map known ps)
 known_mapped output to c [] = refl
@@ -158,17 +158,17 @@ known_opened : (new : Part) (ps : List Part) (room : Bool) → map known (if roo
 known_opened new ps true = known_added new ps
 known_opened new ps false = refl
 
-known_closed : (gone : ℕ) (ps : List Part) → map known (filter (λ (p : Part). not (p.place == gone)) ps) ≡ filter (λ (f : Known). not (f.place == gone)) (map known ps)
+known_closed : (gone : ℕ) (ps : List Part) → map known (filter (λ (p : Part). not (p.index == gone)) ps) ≡ filter (λ (f : Known). not (f.index == gone)) (map known ps)
 known_closed gone [] = refl
 known_closed gone (p ∷ ps) =
-    elim (p.place == gone) as (λ b. map known (if not b then p ∷ filter (λ (p : Part). not (p.place == gone)) ps else filter (λ (p : Part). not (p.place == gone)) ps)
-    ≡ (if not b then known p ∷ filter (λ (f : Known). not (f.place == gone)) (map known ps) else filter (λ (f : Known). not (f.place == gone)) (map known ps)))
+    elim (p.index == gone) as (λ b. map known (if not b then p ∷ filter (λ (p : Part). not (p.index == gone)) ps else filter (λ (p : Part). not (p.index == gone)) ps)
+    ≡ (if not b then known p ∷ filter (λ (f : Known). not (f.index == gone)) (map known ps) else filter (λ (f : Known). not (f.index == gone)) (map known ps)))
     [ true ↦ known_closed gone ps | false ↦ ap (λ (fs : List Known). known p ∷ fs) (known_closed gone ps) ]
 
 abbrev pub knowns_moved : Crossing → List Known → List Known
 knowns_moved Stays fs = fs
 knowns_moved (Opens new) fs = if nat_lt (length fs) 16 then fs ++ known new ∷ [] else fs
-knowns_moved (Closes gone) fs = filter (λ (f : Known). not (f.place == gone)) fs
+knowns_moved (Closes gone) fs = filter (λ (f : Known). not (f.index == gone)) fs
 knowns_moved (Brings output to) fs = map (known_moved output to (carried_in output to fs)) fs
 
 -- what all know of the parts after a crossing, by what all knew
@@ -181,16 +181,16 @@ known_crossed (Closes gone) ps = known_closed gone ps
 known_crossed (Brings output to) ps = known_mapped output to (carried_in output to (map known ps)) ps
 
 -- where the parts are seen through something else, as the past of each, a change of it is the change seen through it
-module _ {A : Type 0} (see : A → Part) (rate place : ℕ) (effect : Effect) (after : A → A) (follows : (a : A) → see (after a) ≡ part_after rate (see a) effect) where
+module _ {A : Type 0} (see : A → Part) (rate index : ℕ) (effect : Effect) (after : A → A) (follows : (a : A) → see (after a) ≡ part_after rate (see a) effect) where
   abbrev pub changed_seen : List A → List A
   changed_seen [] = []
-  changed_seen (a ∷ xs) = if (see a).place == place then after a ∷ xs else a ∷ changed_seen xs
+  changed_seen (a ∷ xs) = if (see a).index == index then after a ∷ xs else a ∷ changed_seen xs
 
-  pub map-changed : (xs : List A) → map see (changed_seen xs) ≡ changed rate place effect (map see xs)
+  pub map-changed : (xs : List A) → map see (changed_seen xs) ≡ changed rate index effect (map see xs)
   map-changed [] = refl
   map-changed (a ∷ xs) =
-      elim ((see a).place == place) as (λ b. map see (if b then after a ∷ xs else a ∷ changed_seen xs)
-      ≡ (if b then part_after rate (see a) effect ∷ map see xs else see a ∷ changed rate place effect (map see xs))) [
+      elim ((see a).index == index) as (λ b. map see (if b then after a ∷ xs else a ∷ changed_seen xs)
+      ≡ (if b then part_after rate (see a) effect ∷ map see xs else see a ∷ changed rate index effect (map see xs))) [
         | true ↦ ap (λ (p : Part). p ∷ map see xs) (follows a)
         | false ↦ ap (λ (ps : List Part). see a ∷ ps) (map-changed xs)
       ]

@@ -19,8 +19,8 @@ use Rattle.partition_table.specs.Openings.{OpeningsData}
 
 -- a part to which nothing happened: at full volume, with no mode on, and with a generator made of its seed
 abbrev pub opening_part : OpeningsData → ℕ → List ℕ → OutputsData → Part
-opening_part openings place name outputs = record {
-  place = place;
+opening_part openings index name outputs = record {
+  index = index;
   name = name;
   queue = opened openings.greatest.max_queue openings.greatest.max_version openings.greatest.max_id;
   player = player.opened openings.greatest.max_cut (pcg32_of_seed (pcg32_seed 16 openings.random_start));
@@ -32,12 +32,12 @@ opening_part openings place name outputs = record {
 
 -- the first part of a number
 abbrev pub part_at : ℕ → List Part → Option Part
-part_at place [] = None
-part_at place (p ∷ ps) = if p.place == place then Some p else part_at place ps
+part_at index [] = None
+part_at index (p ∷ ps) = if p.index == index then Some p else part_at index ps
 
 -- what all know of a part: its number, its name, and the outputs that are in it, with their flags and moves
 pub record Known : Type 0 where
-  pub place : ℕ
+  pub index : ℕ
   pub name : List ℕ
   pub outputs : OutputsData
 
@@ -46,16 +46,16 @@ abbrev pub shown_outputs : OutputsData → OutputsData
 shown_outputs outputs = record outputs { asked = all_off }
 
 abbrev pub known : Part → Known
-known p = record { place = p.place; name = p.name; outputs = shown_outputs p.outputs }
+known p = record { index = p.index; name = p.name; outputs = shown_outputs p.outputs }
 
 abbrev pub known_at : ℕ → List Known → Option Known
-known_at place [] = None
-known_at place (f ∷ fs) = if f.place == place then Some f else known_at place fs
+known_at index [] = None
+known_at index (f ∷ fs) = if f.index == index then Some f else known_at index fs
 
 -- the number of the first part of a name
 abbrev pub named : List ℕ → List Known → Option ℕ
 named name [] = None
-named name (f ∷ fs) = if bytes_eq f.name name then Some f.place else named name fs
+named name (f ∷ fs) = if bytes_eq f.name name then Some f.index else named name fs
 
 -- the first part that an output is in
 abbrev pub holding : ℕ → List Known → Option Known
@@ -67,26 +67,26 @@ abbrev pub holds_any_in : Option Known → Bool
 holds_any_in None = false
 holds_any_in (Some f) = holds_any f.outputs
 
-abbrev pub place_of : Option Known → Option ℕ
-place_of None = None
-place_of (Some f) = Some f.place
+abbrev pub index_of : Option Known → Option ℕ
+index_of None = None
+index_of (Some f) = Some f.index
 
 -- the number of the part that an output is in
 abbrev pub holder : ℕ → List Known → Option ℕ
-holder output fs = place_of (holding output fs)
+holder output fs = index_of (holding output fs)
 
-abbrev pub has_place : ℕ → List Known → Bool
-has_place place fs = is_some (known_at place fs)
+abbrev pub has_index : ℕ → List Known → Bool
+has_index index fs = is_some (known_at index fs)
 
 -- the least number below 16 that no part has
-abbrev pub free_place : List Known → Option ℕ
-free_place fs = find (λ place. not (has_place place fs)) (range_with_len 0 16)
+abbrev pub free_index : List Known → Option ℕ
+free_index fs = find (λ index. not (has_index index fs)) (range_with_len 0 16)
 
 -- the first part of a number does this
 abbrev pub changed : ℕ → ℕ → Effect → List Part → List Part
-changed rate place effect [] = []
-changed rate place effect (p ∷ ps) =
-    if p.place == place then part_after rate p effect ∷ ps else p ∷ changed rate place effect ps
+changed rate index effect [] = []
+changed rate index effect (p ∷ ps) =
+    if p.index == index then part_after rate p effect ∷ ps else p ∷ changed rate index effect ps
 
 -- what it reports; where there is no part of this number, the report is as it was
 abbrev pub report_in : ℕ → Option Part → Effect → Report → Report
@@ -106,12 +106,12 @@ FitsIn (Some p) effect = Fits p effect
 -- what an output takes along from the part that it is in, if that is another one
 abbrev pub carried_from : ℕ → ℕ → Option Known → Option Carried
 carried_from output to None = None
-carried_from output to (Some f) = if f.place == to then None else Some (carried f.outputs output)
+carried_from output to (Some f) = if f.index == to then None else Some (carried f.outputs output)
 
 -- what an output takes along that comes to a part: nothing comes where there is no such part, where the output
 -- is nowhere, and where it is there already
 abbrev pub carried_in : ℕ → ℕ → List Known → Option Carried
-carried_in output to fs = if has_place to fs then carried_from output to (holding output fs) else None
+carried_in output to fs = if has_index to fs then carried_from output to (holding output fs) else None
 
 -- it has come once more
 abbrev pub once_more : Carried → Carried
@@ -125,7 +125,7 @@ outputs_moved output comes c outputs =
 
 abbrev pub moved_output : ℕ → ℕ → Option Carried → Part → Part
 moved_output output to None p = p
-moved_output output to (Some c) p = record p { outputs = outputs_moved output (p.place == to) c p.outputs }
+moved_output output to (Some c) p = record p { outputs = outputs_moved output (p.index == to) c p.outputs }
 
 -- a new part is behind the others; there are 16 at most
 abbrev pub with_part : Part → List Part → List Part
@@ -136,7 +136,7 @@ with_part p ps = if nat_lt (length ps) 16 then ps ++ p ∷ [] else ps
 abbrev pub parts_moved : Crossing → List Part → List Part
 parts_moved Stays ps = ps
 parts_moved (Opens p) ps = with_part p ps
-parts_moved (Closes place) ps = filter (λ (p : Part). not (p.place == place)) ps
+parts_moved (Closes index) ps = filter (λ (p : Part). not (p.index == index)) ps
 parts_moved (Brings output to) ps = map (moved_output output to (carried_in output to (map known ps))) ps
 
 -- an output that comes would have been moved more often than this

@@ -94,7 +94,7 @@ impl Crossing {
         match self {
             Crossing::Stays => {}
             Crossing::Opens(new) => add(parts, new.into_part()),
-            Crossing::Closes(place) => close(parts, place),
+            Crossing::Closes(index) => close(parts, index),
             Crossing::Brings(output, to) => {
                 let carried = carried_in(parts, output, to);
                 bring_to(parts, output, to, carried);
@@ -123,11 +123,11 @@ fn add(parts: &mut Vec<Part>, part: Part)
     }
 }
 
-fn close(parts: &mut Vec<Part>, place: u8)
-    ensures items { parts.new.items ≡ filter (λ part. not (part.place == place)) parts.old.items }
+fn close(parts: &mut Vec<Part>, index: u8)
+    ensures items { parts.new.items ≡ filter (λ part. not (part.index == index)) parts.old.items }
     ensures capacity { vec_capacity parts.new ≡ vec_capacity parts.old }
 {
-    parts.retain(|part| part.place != place);
+    parts.retain(|part| part.index != index);
 }
 
 /// An output comes to the partition of a number as it is carried, and is in no other.
@@ -153,7 +153,7 @@ fn bring_one(part: &mut Part, output: usize, to: u8, carried: Option<Carried>)
     ensures { part.new ≡ moved_output output to carried part.old }
 {
     if let Some(carried) = carried {
-        move_output(&mut part.outputs, output, part.place == to, carried);
+        move_output(&mut part.outputs, output, part.index == to, carried);
     }
 }
 

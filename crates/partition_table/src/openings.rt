@@ -64,11 +64,11 @@ impl Openings {
 pub fn opened(
     alloc: Global,
     openings: Openings,
-    place: u8,
+    index: u8,
     name: SharedText,
     outputs: Outputs,
 ) -> Part
-    ensures { result ≡ opening_part openings place name outputs }
+    ensures { result ≡ opening_part openings index name outputs }
 {
     let greatest = openings.greatest;
     let queue = Queue::new(
@@ -78,7 +78,7 @@ pub fn opened(
         greatest.max_id,
     );
     Part {
-        place,
+        index,
         name,
         queue,
         player: Player::new(alloc, openings.random_start, greatest.max_cut),

@@ -3,7 +3,7 @@ ghost use Rattle.std.specs.Prelude.{◌≡◌, ◌∷◌, ◌≤◌, ◌==◌, [
 ghost use Rattle.std.specs.List.{position_or_len};
 ghost use Rattle.player_state.specs.Outcomes.{Reports};
 ghost use Rattle.partition_table.specs.Outcomes.{IsAtLimitOnlyBeyond, IsDoneOnlyWithin};
-ghost use Rattle.partition_table.specs.Parts.{FitsIn, carried_in as carried_in_lem, changed, crosses_beyond, free_place as free_place_lem, has_place as has_place_lem, holder as holder_lem, holding as holding_lem, holds_any_in, is_within_in, known, known_at, named, part_at as part_at_lem, parts_moved, report_in};
+ghost use Rattle.partition_table.specs.Parts.{FitsIn, carried_in as carried_in_lem, changed, crosses_beyond, free_index as free_index_lem, has_index as has_index_lem, holder as holder_lem, holding as holding_lem, holds_any_in, is_within_in, known, known_at, named, part_at as part_at_lem, parts_moved, report_in};
 
 use crate::crossing::Crossing;
 use player_core::PlayerFault;
@@ -62,17 +62,17 @@ impl Parts {
     }
 
     /// The partition of a number, if there is one.
-    pub fn at(&self, place: u8) -> Option<&Part>
-        ensures { option_copied result ≡ part_at_lem place self.now }
+    pub fn at(&self, index: u8) -> Option<&Part>
+        ensures { option_copied result ≡ part_at_lem index self.now }
     {
-        part_at(&self.items, place)
+        part_at(&self.items, index)
     }
 
     /// The number of the partition of this name, if there is one.
-    pub fn place_named(&self, name: &str) -> Option<u8>
+    pub fn index_named(&self, name: &str) -> Option<u8>
         ensures { result ≡ named name.now (map known self.now) }
     {
-        place_named(&self.items, name)
+        index_named(&self.items, name)
     }
 
     /// The number of the partition that an output is in, if it is in one.
@@ -80,23 +80,23 @@ impl Parts {
         ensures { result ≡ holder_lem output (map known self.now) }
     {
         match holding(&self.items, output) {
-            Some(part) => Some(part.place),
+            Some(part) => Some(part.index),
             None => None,
         }
     }
 
     /// Whether an output is in the partition of a number.
-    pub fn holds_any(&self, place: u8) -> bool
-        ensures { result ≡ holds_any_in (known_at place (map known self.now)) }
+    pub fn holds_any(&self, index: u8) -> bool
+        ensures { result ≡ holds_any_in (known_at index (map known self.now)) }
     {
-        holds_any(&self.items, place)
+        holds_any(&self.items, index)
     }
 
     /// The least number below 16 that no partition has.
-    pub fn free_place(&self) -> Option<u8>
-        ensures { result ≡ free_place_lem (map known self.now) }
+    pub fn free_index(&self) -> Option<u8>
+        ensures { result ≡ free_index_lem (map known self.now) }
     {
-        (0..16).find(|place| !has_place(&self.items, *place))
+        (0..16).find(|index| !has_index(&self.items, *index))
     }
 
     /// Does to the partition of a number what an event asks for, and gives what is answered to a part of the
@@ -104,21 +104,21 @@ impl Parts {
     /// either.
     pub fn apply(
         &mut self,
-        place: u8,
+        index: u8,
         rate: &Rate,
         effect: Effect,
         report: Report,
     ) -> Result<Report, PlayerFault>
-        requires { FitsIn (part_at_lem place self.old) effect }
-        ensures parts { OnOk result (self.new ≡ changed rate.now place effect self.old) }
-        ensures report { Reports result (report_in rate.now (part_at_lem place self.old) effect report) }
-        ensures within { IsDoneOnlyWithin result (is_within_in rate.now (part_at_lem place self.old) effect) }
-        ensures limit { IsAtLimitOnlyBeyond result (is_within_in rate.now (part_at_lem place self.old) effect) }
+        requires { FitsIn (part_at_lem index self.old) effect }
+        ensures parts { OnOk result (self.new ≡ changed rate.now index effect self.old) }
+        ensures report { Reports result (report_in rate.now (part_at_lem index self.old) effect report) }
+        ensures within { IsDoneOnlyWithin result (is_within_in rate.now (part_at_lem index self.old) effect) }
+        ensures limit { IsAtLimitOnlyBeyond result (is_within_in rate.now (part_at_lem index self.old) effect) }
         ensures err { OnErr result (self.new ≡ self.old) }
     {
-        let index = index_of(&self.items, place);
-        if index < self.items.len() {
-            return apply_effect(&mut self.items[index], rate, effect, report);
+        let position = position_of(&self.items, index);
+        if position < self.items.len() {
+            return apply_effect(&mut self.items[position], rate, effect, report);
         }
         Ok(report)
     }
@@ -139,23 +139,23 @@ impl Parts {
     }
 }
 
-fn part_at(parts: &[Part], place: u8) -> Option<&Part>
-    ensures { option_copied result ≡ part_at_lem place parts.now }
+fn part_at(parts: &[Part], index: u8) -> Option<&Part>
+    ensures { option_copied result ≡ part_at_lem index parts.now }
 {
     for part in parts {
-        if part.place == place {
+        if part.index == index {
             return Some(part);
         }
     }
     None
 }
 
-fn place_named(parts: &[Part], name: &str) -> Option<u8>
+fn index_named(parts: &[Part], name: &str) -> Option<u8>
     ensures { result ≡ named name.now (map known parts.now) }
 {
     for part in parts {
         if part.name.as_str() == name {
-            return Some(part.place);
+            return Some(part.index);
         }
     }
     None
@@ -174,22 +174,22 @@ fn holding(parts: &[Part], output: usize) -> Option<&Part>
 }
 
 /// Whether an output is in the partition of a number.
-fn holds_any(parts: &[Part], place: u8) -> bool
-    ensures { result ≡ holds_any_in (known_at place (map known parts.now)) }
+fn holds_any(parts: &[Part], index: u8) -> bool
+    ensures { result ≡ holds_any_in (known_at index (map known parts.now)) }
 {
     for part in parts {
-        if part.place == place {
+        if part.index == index {
             return part.outputs.holds_any();
         }
     }
     false
 }
 
-fn has_place(parts: &[Part], place: u8) -> bool
-    ensures { result ≡ has_place_lem place (map known parts.now) }
+fn has_index(parts: &[Part], index: u8) -> bool
+    ensures { result ≡ has_index_lem index (map known parts.now) }
 {
     for part in parts {
-        if part.place == place {
+        if part.index == index {
             return true;
         }
     }
@@ -197,29 +197,29 @@ fn has_place(parts: &[Part], place: u8) -> bool
 }
 
 /// The first partition of a number; the number of partitions where none has it.
-fn index_of(parts: &[Part], place: u8) -> usize
-    ensures index { result ≡ position_or_len (λ part. part.place == place) parts.now }
+fn position_of(parts: &[Part], index: u8) -> usize
+    ensures position { result ≡ position_or_len (λ part. part.index == index) parts.now }
     ensures within { result ≤ length parts.now }
 {
-    let mut index = 0;
+    let mut position = 0;
     for part in parts {
-        if part.place == place {
-            return index;
+        if part.index == index {
+            return position;
         }
-        index += 1;
+        position += 1;
     }
-    index
+    position
 }
 
 /// What an output takes along that comes to a partition from another one.
 pub(crate) fn carried_in(parts: &[Part], output: usize, to: u8) -> Option<Carried>
     ensures { result ≡ carried_in_lem output to (map known parts.now) }
 {
-    if !has_place(parts, to) {
+    if !has_index(parts, to) {
         return None;
     }
     match holding(parts, output) {
-        Some(part) if part.place != to => Some(part.outputs.carried(output)),
+        Some(part) if part.index != to => Some(part.outputs.carried(output)),
         _ => None,
     }
 }

@@ -199,7 +199,7 @@ impl<L: Ledgers, R: Wait + Clock + Copy> Gates<L, R> {
                 let most = Duration::from_millis(LAST.saturating_sub(passed));
                 let left = watched.through.tally.finish(&self.rt, most);
                 if left > 0 {
-                    let _told = eprintln!(*host;
+                    let _printed = eprintln!(*host;
                         "music_daemon: output {number}: {} did not take {left} bytes that were written",
                         OneLine(watched.through.path.as_str())
                     );

@@ -49,11 +49,11 @@ eight_written {X} xs ys i x long =
     ∙ put_one (i + 1) (i + 2) _ _ b (omega arith)
     ∙ put_one i (i + 1) _ _ a refl) ys long
 
--- up to a place the elements are those that a function of the place gives
+-- up to an offset the elements are those that a function of the offset gives
 abbrev pub Filled : {X : Type 0} → (ℕ → List X) → ℕ → List (List X) → Type 0
 Filled f n xs = (k : ℕ) → k < n → get_or xs k [] ≡ f k
 
--- from a place on they are what they were
+-- from an offset on they are what they were
 abbrev pub Kept : {X : Type 0} → List (List X) → ℕ → List (List X) → Type 0
 Kept old n xs = (k : ℕ) → n ≤ k → get_or xs k [] ≡ get_or old k []
 
@@ -74,7 +74,7 @@ one_filled f xs y i n next le is filled k less = rw is (fill_by_more f xs i [] (
 pub one_kept : {X : Type 0} (old xs : List (List X)) (y : List X) (i n : ℕ) → i + 1 ≡ n → Kept old i xs → Kept old n (set xs i y)
 one_kept old xs y i n next kept k le = get_or-set_other xs i k y [] (λ e. omega (arith, e)) ∙ kept k (omega arith)
 
--- one of a list that a function of the place gives
+-- one of a list that a function of the offset gives
 pub ranged : {X : Type 0} (f : ℕ → List X) (xs : List (List X)) (n j : ℕ) → j < n → xs ≡ map f (range_with_len 0 n) → get_or xs j [] ≡ f j
 ranged f xs n j less is = ap (λ ys. get_or ys j []) is ∙ get_or-map-range_with_len f 0 n j j [] less (omega arith)
 

@@ -27,9 +27,9 @@ words_of (suc n) (a ∷ b ∷ bytes) long fits =
     let high : (a + 256 * (b + 256 * number_l 256 bytes)) / 65536 ≡ number_l 256 bytes = omega arith in
     λ i. low i ∷ (ap (digits_l 65536 n) high ∙ words_of n bytes (omega arith) fits.1.1) i
 
-pub each_fits : (f : ℕ → ℕ) → ((k : ℕ) → f k < 256) → (places : List ℕ) → Each1 (λ x. x < 256) (map f places)
+pub each_fits : (f : ℕ → ℕ) → ((k : ℕ) → f k < 256) → (offsets : List ℕ) → Each1 (λ x. x < 256) (map f offsets)
 each_fits f fits [] = tt
-each_fits f fits (k ∷ places) = (fits k, each_fits f fits places)
+each_fits f fits (k ∷ offsets) = (fits k, each_fits f fits offsets)
 
 -- a byte of the first and of the second of two vectors, of which the second begins eight bytes later
 pub in_first : (bytes others : List ℕ) (at k n : ℕ) → at + 24 ≤ length bytes → k < 16 → at + k ≡ n → get_or (chunk at 16 bytes ++ others) k 0 ≡ get_or bytes n 0

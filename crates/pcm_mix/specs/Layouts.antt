@@ -23,7 +23,7 @@ count Stereo = 2
 abbrev pub signed : ℕ → ℕ → ℤ
 signed half n = if nat_lt n half then pos n else (pos n -ℤ pos (2 * half))
 
--- the two bytes from a place on as a number, the low one first
+-- the two bytes from an offset on as a number, the low one first
 abbrev pub word_at : List ℕ → ℕ → ℕ
 word_at bytes at = slice_index bytes at + 256 * slice_index bytes (at + 1)
 
@@ -31,7 +31,7 @@ word_at bytes at = slice_index bytes at + 256 * slice_index bytes (at + 1)
 abbrev pub pair_at : List ℕ → ℕ → List ℤ
 pair_at words j = signed 32768 (slice_index words (2 * j)) ∷ signed 32768 (slice_index words (2 * j + 1)) ∷ []
 
--- The sample whose bytes begin at a place, the low byte first. 8 bits have silence at 128 and become the
+-- The sample whose bytes begin at an offset, the low byte first. 8 bits have silence at 128 and become the
 -- upper byte; of 24 bits the upper 16 are taken, so that the rest is rounded down.
 abbrev pub sample_at : Depth → List ℕ → ℕ → ℤ
 sample_at Eight bytes at = (pos (slice_index bytes at) -ℤ pos 128) *ℤ pos 256

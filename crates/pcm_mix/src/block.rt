@@ -13,7 +13,7 @@ pub struct Fading<'a> {
     /// As many frames of the other song as the block has.
     pub others: &'a [Frame],
     /// Which frame of the fade the block's first one is, from 0.
-    pub place: u32,
+    pub offset: u32,
     /// How many frames the whole fade has.
     pub len: u32,
 }
@@ -23,7 +23,7 @@ impl<'a> Model for Fading<'a> {
 
     ghost Value = { FadingData };
 
-    ghost view = { λ f. record { others = f.others.now; place = f.place; len = f.len } };
+    ghost view = { λ f. record { others = f.others.now; offset = f.offset; len = f.len } };
 }
 
 /// Makes a block of a job's frames: they are first faded, if the job has a part of a fade, and then set to
@@ -35,7 +35,7 @@ pub fn mix(frames: &mut [Frame], fading: Option<Fading>, volume: u8)
     ensures { frames.new ≡ block_of fading.entry volume frames.old }
 {
     if let Some(fading) = fading {
-        fade(frames, fading.others, fading.place, fading.len);
+        fade(frames, fading.others, fading.offset, fading.len);
     }
     gain(frames, volume);
 }

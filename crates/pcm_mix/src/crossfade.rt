@@ -4,35 +4,35 @@ ghost use Rattle.pcm_mix.specs.Samples.{faded, faded_frame, faded_frames};
 
 use crate::Frame;
 
-/// Fades frames into others. The first of them is the frame at `place` of a fade of `len` frames in all,
-/// and at place `i` a sample becomes `(sample * (len - i) + other * i) / len`, rounded toward zero.
+/// Fades frames into others. The first of them is the frame at `offset` of a fade of `len` frames in all,
+/// and at offset `i` a sample becomes `(sample * (len - i) + other * i) / len`, rounded toward zero.
 #[tactic(auto, using(crate::proofs::Fades::fade_more))]
-pub fn fade(frames: &mut [Frame], others: &[Frame], place: u32, len: u32)
+pub fn fade(frames: &mut [Frame], others: &[Frame], offset: u32, len: u32)
     requires same { length frames.old ≡ length others.now }
-    requires within { place + length others.now ≤ len }
-    ensures { frames.new ≡ faded_frames len place frames.old others.now }
+    requires within { offset + length others.now ≤ len }
+    ensures { frames.new ≡ faded_frames len offset frames.old others.now }
 {
     let inverse = inverse_of(len);
     for i in 0..frames.len() {
-        frames[i] = faded_frame(frames[i], others[i], place + i as u32, len, inverse);
+        frames[i] = faded_frame(frames[i], others[i], offset + i as u32, len, inverse);
     }
 }
 
-fn faded_frame(from: Frame, to: Frame, place: u32, len: u32, inverse: u64) -> Frame
-    requires { place < len }
-    ensures { result ≡ faded_frame len place from to }
+fn faded_frame(from: Frame, to: Frame, offset: u32, len: u32, inverse: u64) -> Frame
+    requires { offset < len }
+    ensures { result ≡ faded_frame len offset from to }
 {
     [
-        faded_sample(from[0], to[0], place, len, inverse),
-        faded_sample(from[1], to[1], place, len, inverse),
+        faded_sample(from[0], to[0], offset, len, inverse),
+        faded_sample(from[1], to[1], offset, len, inverse),
     ]
 }
 
-fn faded_sample(from: i16, to: i16, place: u32, len: u32, inverse: u64) -> i16
-    requires { place < len }
-    ensures { result ≡ faded len place from to }
+fn faded_sample(from: i16, to: i16, offset: u32, len: u32, inverse: u64) -> i16
+    requires { offset < len }
+    ensures { result ≡ faded len offset from to }
 {
-    let sum = weighted(from, len - place) + weighted(to, place);
+    let sum = weighted(from, len - offset) + weighted(to, offset);
     quotient(sum, len, inverse) as i16
 }
 

@@ -7,7 +7,7 @@ ghost use Rattle.pcm_mix.specs.Layouts.{signed, pair_at};
 use crate::Frame;
 use std::simd::prelude::*;
 
-/// The samples of four frames from a place on, each by its bits. They are read one by one, since of copied
+/// The samples of four frames from an offset on, each by its bits. They are read one by one, since of copied
 /// frames the compiler makes no vector.
 #[inline(always)]
 pub(crate) fn bits_of(frames: &[Frame], i: usize) -> u16x8
@@ -67,19 +67,19 @@ pub(crate) fn both_sides(words: [u16; 8]) -> [Frame; 8]
     ]
 }
 
-/// Writes eight frames from a place on.
+/// Writes eight frames from an offset on.
 #[inline(always)]
-pub(crate) fn put_eight(frames: &mut [Frame], place: usize, eight: [Frame; 8])
-    requires { place + 8 ≤ length frames.old }
-    ensures { frames.new ≡ put_chunk place frames.old eight }
+pub(crate) fn put_eight(frames: &mut [Frame], offset: usize, eight: [Frame; 8])
+    requires { offset + 8 ≤ length frames.old }
+    ensures { frames.new ≡ put_chunk offset frames.old eight }
 {
     let [a, b, c, d, e, f, g, h] = eight;
-    frames[place] = a;
-    frames[place + 1] = b;
-    frames[place + 2] = c;
-    frames[place + 3] = d;
-    frames[place + 4] = e;
-    frames[place + 5] = f;
-    frames[place + 6] = g;
-    frames[place + 7] = h;
+    frames[offset] = a;
+    frames[offset + 1] = b;
+    frames[offset + 2] = c;
+    frames[offset + 3] = d;
+    frames[offset + 4] = e;
+    frames[offset + 5] = f;
+    frames[offset + 6] = g;
+    frames[offset + 7] = h;
 }

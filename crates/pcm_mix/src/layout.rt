@@ -106,34 +106,34 @@ fn eights(len: usize, depth: Depth, channels: Channels) -> usize
 }
 
 #[inline(always)]
-fn eight_frames(bytes: &[u8], place: usize, depth: Depth, channels: Channels) -> [Frame; 8]
-    requires { (place + 8) * (width depth * count channels) ≤ length bytes.now }
-    ensures { result ≡ map (λ j. frame_at depth channels bytes.now (place + j)) (range_with_len 0 8) }
+fn eight_frames(bytes: &[u8], offset: usize, depth: Depth, channels: Channels) -> [Frame; 8]
+    requires { (offset + 8) * (width depth * count channels) ≤ length bytes.now }
+    ensures { result ≡ map (λ j. frame_at depth channels bytes.now (offset + j)) (range_with_len 0 8) }
 {
     match (depth, channels) {
-        (Depth::Sixteen, Channels::Stereo) => whole_stereo(bytes, place),
-        (Depth::TwentyFour, Channels::Mono) => upper_mono(bytes, place),
-        (Depth::TwentyFour, Channels::Stereo) => upper_stereo(bytes, place),
+        (Depth::Sixteen, Channels::Stereo) => whole_stereo(bytes, offset),
+        (Depth::TwentyFour, Channels::Mono) => upper_mono(bytes, offset),
+        (Depth::TwentyFour, Channels::Stereo) => upper_stereo(bytes, offset),
         _ => [
-            frame_at(bytes, place, depth, channels),
-            frame_at(bytes, place + 1, depth, channels),
-            frame_at(bytes, place + 2, depth, channels),
-            frame_at(bytes, place + 3, depth, channels),
-            frame_at(bytes, place + 4, depth, channels),
-            frame_at(bytes, place + 5, depth, channels),
-            frame_at(bytes, place + 6, depth, channels),
-            frame_at(bytes, place + 7, depth, channels),
+            frame_at(bytes, offset, depth, channels),
+            frame_at(bytes, offset + 1, depth, channels),
+            frame_at(bytes, offset + 2, depth, channels),
+            frame_at(bytes, offset + 3, depth, channels),
+            frame_at(bytes, offset + 4, depth, channels),
+            frame_at(bytes, offset + 5, depth, channels),
+            frame_at(bytes, offset + 6, depth, channels),
+            frame_at(bytes, offset + 7, depth, channels),
         ],
     }
 }
 
 #[inline(always)]
-fn whole_stereo(bytes: &[u8], place: usize) -> [Frame; 8]
-    requires { 4 * (place + 8) ≤ length bytes.now }
-    ensures { result ≡ map (λ j. frame_at Sixteen Stereo bytes.now (place + j)) (range_with_len 0 8) }
+fn whole_stereo(bytes: &[u8], offset: usize) -> [Frame; 8]
+    requires { 4 * (offset + 8) ≤ length bytes.now }
+    ensures { result ≡ map (λ j. frame_at Sixteen Stereo bytes.now (offset + j)) (range_with_len 0 8) }
 {
-    let [a, b, c, d] = pairs(whole_words(bytes, 4 * place));
-    let [e, f, g, h] = pairs(whole_words(bytes, 4 * place + 16));
+    let [a, b, c, d] = pairs(whole_words(bytes, 4 * offset));
+    let [e, f, g, h] = pairs(whole_words(bytes, 4 * offset + 16));
     [a, b, c, d, e, f, g, h]
 }
 
@@ -147,20 +147,20 @@ fn whole_words(bytes: &[u8], at: usize) -> [u16; 8]
 }
 
 #[inline(always)]
-fn upper_mono(bytes: &[u8], place: usize) -> [Frame; 8]
-    requires { 3 * (place + 8) ≤ length bytes.now }
-    ensures { result ≡ map (λ j. frame_at TwentyFour Mono bytes.now (place + j)) (range_with_len 0 8) }
+fn upper_mono(bytes: &[u8], offset: usize) -> [Frame; 8]
+    requires { 3 * (offset + 8) ≤ length bytes.now }
+    ensures { result ≡ map (λ j. frame_at TwentyFour Mono bytes.now (offset + j)) (range_with_len 0 8) }
 {
-    both_sides(upper_words(bytes, 3 * place))
+    both_sides(upper_words(bytes, 3 * offset))
 }
 
 #[inline(always)]
-fn upper_stereo(bytes: &[u8], place: usize) -> [Frame; 8]
-    requires { 6 * (place + 8) ≤ length bytes.now }
-    ensures { result ≡ map (λ j. frame_at TwentyFour Stereo bytes.now (place + j)) (range_with_len 0 8) }
+fn upper_stereo(bytes: &[u8], offset: usize) -> [Frame; 8]
+    requires { 6 * (offset + 8) ≤ length bytes.now }
+    ensures { result ≡ map (λ j. frame_at TwentyFour Stereo bytes.now (offset + j)) (range_with_len 0 8) }
 {
-    let [a, b, c, d] = pairs(upper_words(bytes, 6 * place));
-    let [e, f, g, h] = pairs(upper_words(bytes, 6 * place + 24));
+    let [a, b, c, d] = pairs(upper_words(bytes, 6 * offset));
+    let [e, f, g, h] = pairs(upper_words(bytes, 6 * offset + 24));
     [a, b, c, d, e, f, g, h]
 }
 
@@ -180,18 +180,18 @@ fn upper_words(bytes: &[u8], at: usize) -> [u16; 8]
     u16x8::from_le_bytes(upper).to_array()
 }
 
-fn frame_at(bytes: &[u8], place: usize, depth: Depth, channels: Channels) -> Frame
-    requires { (place + 1) * (width depth * count channels) ≤ length bytes.now }
-    ensures { result ≡ frame_at depth channels bytes.now place }
+fn frame_at(bytes: &[u8], offset: usize, depth: Depth, channels: Channels) -> Frame
+    requires { (offset + 1) * (width depth * count channels) ≤ length bytes.now }
+    ensures { result ≡ frame_at depth channels bytes.now offset }
 {
     let width = depth.width();
     match channels {
         Channels::Mono => {
-            let sample = sample_at(bytes, place * width, depth);
+            let sample = sample_at(bytes, offset * width, depth);
             [sample, sample]
         }
         Channels::Stereo => {
-            let at = place * (2 * width);
+            let at = offset * (2 * width);
             [
                 sample_at(bytes, at, depth),
                 sample_at(bytes, at + width, depth),

@@ -36,23 +36,23 @@ fn lower(frames: &mut [Frame], volume: u8)
 }
 
 #[inline(always)]
-fn eight_gained(frames: &[Frame], place: usize, volume: u8) -> [Frame; 8]
+fn eight_gained(frames: &[Frame], offset: usize, volume: u8) -> [Frame; 8]
     requires lower { volume < 100 }
-    requires within { place + 8 ≤ length frames.now }
-    ensures { result ≡ map (λ j. map (gained volume) (slice_index_or frames.now (place + j) [])) (range_with_len 0 8) }
+    requires within { offset + 8 ≤ length frames.now }
+    ensures { result ≡ map (λ j. map (gained volume) (slice_index_or frames.now (offset + j) [])) (range_with_len 0 8) }
 {
-    let [a, b, c, d] = four_gained(frames, place, volume);
-    let [e, f, g, h] = four_gained(frames, place + 4, volume);
+    let [a, b, c, d] = four_gained(frames, offset, volume);
+    let [e, f, g, h] = four_gained(frames, offset + 4, volume);
     [a, b, c, d, e, f, g, h]
 }
 
 #[inline(always)]
-fn four_gained(frames: &[Frame], place: usize, volume: u8) -> [Frame; 4]
+fn four_gained(frames: &[Frame], offset: usize, volume: u8) -> [Frame; 4]
     requires lower { volume < 100 }
-    requires within { place + 4 ≤ length frames.now }
-    ensures { result ≡ map (λ j. map (gained volume) (slice_index_or frames.now (place + j) [])) (range_with_len 0 4) }
+    requires within { offset + 4 ≤ length frames.now }
+    ensures { result ≡ map (λ j. map (gained volume) (slice_index_or frames.now (offset + j) [])) (range_with_len 0 4) }
 {
-    pairs(gained_bits(bits_of(frames, place), volume).to_array())
+    pairs(gained_bits(bits_of(frames, offset), volume).to_array())
 }
 
 // Samples at a volume, by their bits. The quotient is that by a reciprocal of 16 bits, or one more.

@@ -9,18 +9,18 @@ use Rattle.play_order.specs.declared.modes.Modes.{Modes}
 use Rattle.play_order.specs.declared.modes.Consume.{Consume}
 use Rattle.play_order.specs.declared.modes.Consume.TheVariants as consume
 use Rattle.play_order.specs.Draws.{RoundState, rank_of, is_among, has_id, ids_of, without, renewed, moved_last, others}
-use Rattle.play_order.specs.Order.{ahead, at_or_first, begun, comes_before, entry_of, first_anew, first_of, ids_taken, is_first, is_over, left_by, next_of, opening_of, or_else, place_of, round_for, unplayed}
-use Rattle.play_order.specs.Ends.{after_next, ahead_after, consumes, entries_left, place_after, round_after, round_left}
-use Rattle.play_order.specs.Choices.{AllWerePlayed, BecomesRound, ChoosesUnplayed, ConsumesOne, FollowsBy, FollowsInQueue, FollowsInRound, FollowsPlaces, ForgetsGone, HaveOwnIds, IsLeastUnplayed, KeepsRound, OneFollows, Precedes, PrecedesIsOrder, RenewsRound, RoundsForgetGone, RoundsGoOn, left_after, new_ranks}
+use Rattle.play_order.specs.Order.{ahead, at_or_first, begun, comes_before, entry_of, first_anew, first_of, ids_taken, is_first, is_over, left_by, next_of, opening_of, or_else, entry_position, round_for, unplayed}
+use Rattle.play_order.specs.Ends.{after_next, ahead_after, consumes, entries_left, position_after, round_after, round_left}
+use Rattle.play_order.specs.Choices.{AllWerePlayed, BecomesRound, ChoosesUnplayed, ConsumesOne, FollowsBy, FollowsInQueue, FollowsInRound, FollowsPositions, ForgetsGone, HaveOwnIds, IsLeastUnplayed, KeepsRound, OneFollows, Precedes, PrecedesIsOrder, RenewsRound, RoundsForgetGone, RoundsGoOn, left_after, new_ranks}
 use Rattle.play_order.specs.Choices.Precedes.{ByPriority, ByRank, ById}
 use Rattle.play_order.specs.Choices.FollowsInRound.{InRound, InNewRound, RoundIsOver}
-use Rattle.play_order.specs.Choices.FollowsInQueue.{AtPlace, AtFront, QueueIsOver}
+use Rattle.play_order.specs.Choices.FollowsInQueue.{AtPosition, AtFront, QueueIsOver}
 use Rattle.play_order.specs.Choices.BecomesRound.{GoesOn, BeginsAnew}
 use Rattle.play_order.proofs.Firsts.{Apart, Distinct, EachIn, distinct-from, distinct-left, distinct-unplayed, some-first}
 use Rattle.play_order.proofs.Going.{AreApart, apart-from, first-kept, first-round_left, goes-on, is-renewed, left-apart, next-without, opening-next, opening-round, taken-all-apart, without-none}
 use Rattle.play_order.proofs.Ids.{among-moved_last, find-left}
 use Rattle.play_order.proofs.Lists.{filter-all}
-use Rattle.play_order.proofs.Places.{others-joined}
+use Rattle.play_order.proofs.Positions.{others-joined}
 
 -- what a list contains, element by element
 contains-here : {X : Type 0} (xs : List X) (x : X) → Contains (x ∷ xs) x
@@ -245,33 +245,33 @@ new-round true round ids left d all =
       | Some c ↦ λ e. InNewRound c all refl (least-of (new_ranks round left) [] left c d e)
     ] refl
 
-follows-round : (modes : Modes) (round : RoundState) (ids : List ℕ) (left : List Entry) (place : ℕ) → modes.random ≡ true → AreApart ids left → Distinct left
-    → FollowsInRound modes.repeat round left (next_of modes (without round ids) left place)
-follows-round modes round ids left place random apart d =
-    elim (first_of round.ranks (unplayed round.played left)) as (λ o. first_of round.ranks (unplayed round.played left) ≡ o → FollowsInRound modes.repeat round left (next_of modes (without round ids) left place)) [
+follows-round : (modes : Modes) (round : RoundState) (ids : List ℕ) (left : List Entry) (position : ℕ) → modes.random ≡ true → AreApart ids left → Distinct left
+    → FollowsInRound modes.repeat round left (next_of modes (without round ids) left position)
+follows-round modes round ids left position random apart d =
+    elim (first_of round.ranks (unplayed round.played left)) as (λ o. first_of round.ranks (unplayed round.played left) ≡ o → FollowsInRound modes.repeat round left (next_of modes (without round ids) left position)) [
       | None ↦ λ e.
-          let over = is-renewed modes (without round ids) left place random (first-kept round ids left apart ∙ e) in
+          let over = is-renewed modes (without round ids) left position random (first-kept round ids left apart ∙ e) in
           subst (λ (o : Option Entry). FollowsInRound modes.repeat round left o) (sym over.1) (new-round modes.repeat round ids left d (all-played round.ranks round.played left d e))
       | Some c ↦ λ e.
-          subst (λ (o : Option Entry). FollowsInRound modes.repeat round left o) (sym (next-without modes round ids left place c random apart e)) (InRound c (least-of round.ranks round.played left c d e))
+          subst (λ (o : Option Entry). FollowsInRound modes.repeat round left o) (sym (next-without modes round ids left position c random apart e)) (InRound c (least-of round.ranks round.played left c d e))
     ] refl
 
--- the place of an entry
+-- the position of an entry
 each-get : (P : Entry → Type 0) (xs : List Entry) (k : ℕ) (x : Entry) → slice_get xs k ≡ Some x → EachIn P xs → P x
 each-get P [] k x e h = cc
 each-get P (y ∷ xs) zero x e h = let s : y ≡ x = cc in subst P s h.0
 each-get P (y ∷ xs) (suc k) x e h = each-get P xs k x e h.1
 
-pub place-at : (xs : List Entry) (k : ℕ) (x : Entry) → Distinct xs → slice_get xs k ≡ Some x → place_of xs x.id ≡ k
-place-at [] k x d h = cc
-place-at (y ∷ xs) zero x d h =
+pub position-at : (xs : List Entry) (k : ℕ) (x : Entry) → Distinct xs → slice_get xs k ≡ Some x → entry_position xs x.id ≡ k
+position-at [] k x d h = cc
+position-at (y ∷ xs) zero x d h =
     let s : y ≡ x = cc in
     let same : has_id x.id y ≡ true = grind (arith, ap (λ (z : Entry). z.id) s) in
     rw same refl
-place-at (y ∷ xs) (suc k) x d h =
+position-at (y ∷ xs) (suc k) x d h =
     let differ : y.id ≢ x.id = each-get (λ z. y.id ≢ z.id) xs k x h d.0 in
     let other : has_id x.id y ≡ false = grind (arith, differ) in
-    rw other (omega (arith, place-at xs k x d.1 h))
+    rw other (omega (arith, position-at xs k x d.1 h))
 
 pub get-within : (xs : List Entry) (k : ℕ) (x : Entry) → slice_get xs k ≡ Some x → k < length xs
 get-within [] k x h = cc
@@ -284,21 +284,21 @@ get-none (y ∷ xs) zero h = cc
 get-none (y ∷ xs) (suc k) h = omega (arith, get-none xs k h)
 
 -- what consume leaves
-left-by : (c : Consume) (entries : List Entry) (id place : ℕ) → Distinct entries → place_of entries id ≡ place → place < length entries
-    → cond (consumes c) (filter (λ e. not (has_id id e)) entries) entries ≡ left_after c entries place
-left-by consume.Off entries id place d e l = refl
-left-by consume.On entries id place d e l = sym (others-joined id entries d (omega (arith, e, l))) ∙ ap (λ (n : ℕ). left_by entries n (n + 1)) e
-left-by consume.Oneshot entries id place d e l = sym (others-joined id entries d (omega (arith, e, l))) ∙ ap (λ (n : ℕ). left_by entries n (n + 1)) e
+left-by : (c : Consume) (entries : List Entry) (id position : ℕ) → Distinct entries → entry_position entries id ≡ position → position < length entries
+    → cond (consumes c) (filter (λ e. not (has_id id e)) entries) entries ≡ left_after c entries position
+left-by consume.Off entries id position d e l = refl
+left-by consume.On entries id position d e l = sym (others-joined id entries d (omega (arith, e, l))) ∙ ap (λ (n : ℕ). left_by entries n (n + 1)) e
+left-by consume.Oneshot entries id position d e l = sym (others-joined id entries d (omega (arith, e, l))) ∙ ap (λ (n : ℕ). left_by entries n (n + 1)) e
 
 pub consumes_one : ConsumesOne
-consumes_one modes round entries place song own at =
+consumes_one modes round entries position song own at =
     let d : Distinct entries = distinct-from entries own in
-    left-by modes.consume entries song.id place d (place-at entries place song d at) (get-within entries place song at)
+    left-by modes.consume entries song.id position d (position-at entries position song d at) (get-within entries position song at)
 
-distinct-after : (c : Consume) (entries : List Entry) (place : ℕ) → Distinct entries → Distinct (left_after c entries place)
-distinct-after consume.Off entries place d = d
-distinct-after consume.On entries place d = distinct-left place (place + 1) entries (omega arith) d
-distinct-after consume.Oneshot entries place d = distinct-left place (place + 1) entries (omega arith) d
+distinct-after : (c : Consume) (entries : List Entry) (position : ℕ) → Distinct entries → Distinct (left_after c entries position)
+distinct-after consume.Off entries position d = d
+distinct-after consume.On entries position d = distinct-left position (position + 1) entries (omega arith) d
+distinct-after consume.Oneshot entries position d = distinct-left position (position + 1) entries (omega arith) d
 
 pub none-apart : (entries : List Entry) → AreApart [] entries
 none-apart [] = tt
@@ -306,17 +306,17 @@ none-apart (e ∷ entries) = (refl, none-apart entries)
 
 random-end : (modes : Modes) (round : RoundState) (entries : List Entry) (id : ℕ) (b : Bool) → modes.random ≡ true → Distinct (cond b (filter (λ e. not (has_id id e)) entries) entries)
     → FollowsInRound modes.repeat round (cond b (filter (λ e. not (has_id id e)) entries) entries)
-    (next_of modes (cond b (without round (id ∷ [])) round) (cond b (filter (λ e. not (has_id id e)) entries) entries) (cond b (place_of entries id) (place_of entries id + 1)))
-random-end modes round entries id true random d = follows-round modes round (id ∷ []) (filter (λ e. not (has_id id e)) entries) (place_of entries id) random (left-apart id entries) d
+    (next_of modes (cond b (without round (id ∷ [])) round) (cond b (filter (λ e. not (has_id id e)) entries) entries) (cond b (entry_position entries id) (entry_position entries id + 1)))
+random-end modes round entries id true random d = follows-round modes round (id ∷ []) (filter (λ e. not (has_id id e)) entries) (entry_position entries id) random (left-apart id entries) d
 random-end modes round entries id false random d =
-    subst (λ (r : RoundState). FollowsInRound modes.repeat round entries (next_of modes r entries (place_of entries id + 1))) (without-none round)
-    (follows-round modes round [] entries (place_of entries id + 1) random (none-apart entries) d)
+    subst (λ (r : RoundState). FollowsInRound modes.repeat round entries (next_of modes r entries (entry_position entries id + 1))) (without-none round)
+    (follows-round modes round [] entries (entry_position entries id + 1) random (none-apart entries) d)
 
-random-at-end : (modes : Modes) (round : RoundState) (entries : List Entry) (place : ℕ) (song : Entry) → modes.random ≡ true → HaveOwnIds entries → slice_get entries place ≡ Some song
-    → FollowsInRound modes.repeat round (left_after modes.consume entries place) (after_next modes round entries song.id).entry
-random-at-end modes round entries place song random own at =
-    let same = consumes_one modes round entries place song own at in
-    let d : Distinct (entries_left modes entries song.id) = subst Distinct (sym same) (distinct-after modes.consume entries place (distinct-from entries own)) in
+random-at-end : (modes : Modes) (round : RoundState) (entries : List Entry) (position : ℕ) (song : Entry) → modes.random ≡ true → HaveOwnIds entries → slice_get entries position ≡ Some song
+    → FollowsInRound modes.repeat round (left_after modes.consume entries position) (after_next modes round entries song.id).entry
+random-at-end modes round entries position song random own at =
+    let same = consumes_one modes round entries position song own at in
+    let d : Distinct (entries_left modes entries song.id) = subst Distinct (sym same) (distinct-after modes.consume entries position (distinct-from entries own)) in
     subst (λ (left : List Entry). FollowsInRound modes.repeat round left (after_next modes round entries song.id).entry) same
     (random-end modes round entries song.id (consumes modes.consume) random d)
 
@@ -445,22 +445,22 @@ not-deleted from end entries e h there new =
     either-left (Contains (left_by entries from end) e) (subst (λ (k : ℕ). Contains (left_by entries from k) e ⊎ Contains (take (end - from) (drop from entries)) e) same (parts from (end - from) entries e there))
     (λ taken. let lost : true ≡ false = sym (ids-among (take (end - from) (drop from entries)) e taken) ∙ new in cc)
 
-forgets-consumed : (c : Consume) (round : RoundState) (entries : List Entry) (place id : ℕ) → Distinct entries → place_of entries id ≡ place → place < length entries
-    → ForgetsGone round (cond (consumes c) (without round (id ∷ [])) round) entries (left_after c entries place)
-forgets-consumed consume.Off round entries place id d e l =
+forgets-consumed : (c : Consume) (round : RoundState) (entries : List Entry) (position id : ℕ) → Distinct entries → entry_position entries id ≡ position → position < length entries
+    → ForgetsGone round (cond (consumes c) (without round (id ∷ [])) round) entries (left_after c entries position)
+forgets-consumed consume.Off round entries position id d e l =
     subst (λ (r : RoundState). ForgetsGone round r entries entries) (without-none round) (forgets round [] entries entries (none-apart entries) (λ x there new. there))
-forgets-consumed consume.On round entries place id d e l =
-    subst (λ (left : List Entry). ForgetsGone round (without round (id ∷ [])) entries left) (left-by consume.On entries id place d e l)
+forgets-consumed consume.On round entries position id d e l =
+    subst (λ (left : List Entry). ForgetsGone round (without round (id ∷ [])) entries left) (left-by consume.On entries id position d e l)
     (forgets round (id ∷ []) entries (filter (λ x. not (has_id id x)) entries) (left-apart id entries) (not-consumed id entries))
-forgets-consumed consume.Oneshot round entries place id d e l =
-    subst (λ (left : List Entry). ForgetsGone round (without round (id ∷ [])) entries left) (left-by consume.On entries id place d e l)
+forgets-consumed consume.Oneshot round entries position id d e l =
+    subst (λ (left : List Entry). ForgetsGone round (without round (id ∷ [])) entries left) (left-by consume.On entries id position d e l)
     (forgets round (id ∷ []) entries (filter (λ x. not (has_id id x)) entries) (left-apart id entries) (not-consumed id entries))
 
 pub rounds_forget_gone : RoundsForgetGone
 rounds_forget_gone = record {
-  consumed = λ modes round entries place song own at.
+  consumed = λ modes round entries position song own at.
       let d : Distinct entries = distinct-from entries own in
-      forgets-consumed modes.consume round entries place song.id d (place-at entries place song d at) (get-within entries place song at);
+      forgets-consumed modes.consume round entries position song.id d (position-at entries position song d at) (get-within entries position song at);
   deleted = λ round entries from end own order.
       let ids : List ℕ = ids_taken entries from end in
       forgets round ids entries (left_by entries from end) (apart-from ids (left_by entries from end) (taken-all-apart from end entries ids order (distinct-from entries own) refl))
@@ -483,20 +483,20 @@ begun-same modes other round (Some e) h = ap (λ (b : Bool). cond b (record roun
 
 -- the round when what follows has started
 abbrev ended-round : Modes → RoundState → List Entry → ℕ → RoundState
-ended-round modes rest left place = begun modes (round_for modes rest left) (next_of modes rest left place)
+ended-round modes rest left position = begun modes (round_for modes rest left) (next_of modes rest left position)
 
-becomes : (modes : Modes) (round : RoundState) (ids : List ℕ) (entries left : List Entry) (place : ℕ) → modes.random ≡ true → AreApart ids left → AllLeft ids entries left → Distinct left
-    → BecomesRound round (begun modes (round_for modes (without round ids) left) (next_of modes (without round ids) left place)) entries left (next_of modes (without round ids) left place)
-becomes modes round ids entries left place random apart all d =
+becomes : (modes : Modes) (round : RoundState) (ids : List ℕ) (entries left : List Entry) (position : ℕ) → modes.random ≡ true → AreApart ids left → AllLeft ids entries left → Distinct left
+    → BecomesRound round (begun modes (round_for modes (without round ids) left) (next_of modes (without round ids) left position)) entries left (next_of modes (without round ids) left position)
+becomes modes round ids entries left position random apart all d =
     let rest : RoundState = without round ids in
-    let next : Option Entry = next_of modes rest left place in
+    let next : Option Entry = next_of modes rest left position in
     elim (first_of round.ranks (unplayed round.played left)) as (λ o. first_of round.ranks (unplayed round.played left) ≡ o → BecomesRound round (begun modes (round_for modes rest left) next) entries left next) [
       | None ↦ λ e.
-          let over = is-renewed modes rest left place random (first-kept round ids left apart ∙ e) in
+          let over = is-renewed modes rest left position random (first-kept round ids left apart ∙ e) in
           BeginsAnew next (all-played round.ranks round.played left d e)
           (subst (λ (r : RoundState). RenewsRound round (begun modes r next) left next) (sym over.0) (as-whole modes round ids left next random))
       | Some c ↦ λ e.
-          let on = goes-on modes rest left place c random (first-kept round ids left apart ∙ e) in
+          let on = goes-on modes rest left position c random (first-kept round ids left apart ∙ e) in
           let least = least-of round.ranks round.played left c d e in
           let after : begun modes (round_for modes rest left) (Some c) ≡ record rest { played = moved_last rest.played c.id } =
           ap (λ (r : RoundState). begun modes r (Some c)) on.0 ∙ ap (λ (b : Bool). cond b (record rest { played = moved_last rest.played c.id }) rest) random in
@@ -505,19 +505,19 @@ becomes modes round ids entries left place random apart all d =
     ] refl
 
 rounds-end : (modes : Modes) (round : RoundState) (entries : List Entry) (id : ℕ) (b : Bool) → modes.random ≡ true → Distinct (cond b (filter (λ e. not (has_id id e)) entries) entries)
-    → BecomesRound round (ended-round modes (cond b (without round (id ∷ [])) round) (cond b (filter (λ e. not (has_id id e)) entries) entries) (cond b (place_of entries id) (place_of entries id + 1)))
+    → BecomesRound round (ended-round modes (cond b (without round (id ∷ [])) round) (cond b (filter (λ e. not (has_id id e)) entries) entries) (cond b (entry_position entries id) (entry_position entries id + 1)))
     entries (cond b (filter (λ e. not (has_id id e)) entries) entries)
-    (next_of modes (cond b (without round (id ∷ [])) round) (cond b (filter (λ e. not (has_id id e)) entries) entries) (cond b (place_of entries id) (place_of entries id + 1)))
-rounds-end modes round entries id true random d = becomes modes round (id ∷ []) entries (filter (λ e. not (has_id id e)) entries) (place_of entries id) random (left-apart id entries) (not-consumed id entries) d
+    (next_of modes (cond b (without round (id ∷ [])) round) (cond b (filter (λ e. not (has_id id e)) entries) entries) (cond b (entry_position entries id) (entry_position entries id + 1)))
+rounds-end modes round entries id true random d = becomes modes round (id ∷ []) entries (filter (λ e. not (has_id id e)) entries) (entry_position entries id) random (left-apart id entries) (not-consumed id entries) d
 rounds-end modes round entries id false random d =
-    subst (λ (r : RoundState). BecomesRound round (ended-round modes r entries (place_of entries id + 1)) entries entries (next_of modes r entries (place_of entries id + 1))) (without-none round)
-    (becomes modes round [] entries entries (place_of entries id + 1) random (none-apart entries) (λ x there new. there) d)
+    subst (λ (r : RoundState). BecomesRound round (ended-round modes r entries (entry_position entries id + 1)) entries entries (next_of modes r entries (entry_position entries id + 1))) (without-none round)
+    (becomes modes round [] entries entries (entry_position entries id + 1) random (none-apart entries) (λ x there new. there) d)
 
-rounds-at-end : (modes : Modes) (round : RoundState) (entries : List Entry) (place : ℕ) (song : Entry) → modes.random ≡ true → HaveOwnIds entries → slice_get entries place ≡ Some song
-    → BecomesRound round (round_after (after_next modes round entries song.id)) entries (left_after modes.consume entries place) (after_next modes round entries song.id).entry
-rounds-at-end modes round entries place song random own at =
-    let same = consumes_one modes round entries place song own at in
-    let d : Distinct (entries_left modes entries song.id) = subst Distinct (sym same) (distinct-after modes.consume entries place (distinct-from entries own)) in
+rounds-at-end : (modes : Modes) (round : RoundState) (entries : List Entry) (position : ℕ) (song : Entry) → modes.random ≡ true → HaveOwnIds entries → slice_get entries position ≡ Some song
+    → BecomesRound round (round_after (after_next modes round entries song.id)) entries (left_after modes.consume entries position) (after_next modes round entries song.id).entry
+rounds-at-end modes round entries position song random own at =
+    let same = consumes_one modes round entries position song own at in
+    let d : Distinct (entries_left modes entries song.id) = subst Distinct (sym same) (distinct-after modes.consume entries position (distinct-from entries own)) in
     let next : Option Entry = (after_next modes round entries song.id).entry in
     subst (λ (left : List Entry). BecomesRound round (round_after (after_next modes round entries song.id)) entries left next) same
     (subst (λ (r : RoundState). BecomesRound round r entries (entries_left modes entries song.id) next)
@@ -534,27 +534,27 @@ rounds_go_on = record {
 }
 
 -- what follows where the order is not random
-next-in-order : (modes : Modes) (round : RoundState) (left : List Entry) (place : ℕ) → modes.random ≡ false → next_of modes round left place ≡ at_or_first modes.repeat left place
-next-in-order modes round left place h =
+next-in-order : (modes : Modes) (round : RoundState) (left : List Entry) (position : ℕ) → modes.random ≡ false → next_of modes round left position ≡ at_or_first modes.repeat left position
+next-in-order modes round left position h =
     let over : is_over modes round left ≡ false = ap (λ (b : Bool). b && is_none (first_of round.ranks (unplayed round.played left))) h in
     let same : round_for modes round left ≡ round = ap (λ (b : Bool). cond b (renewed round (ids_of left)) round) over in
-    ap (λ (b : Bool). cond (b && not modes.repeat) None (ahead modes (round_for modes round left) left place)) over ∙ ap (λ (r : RoundState). ahead modes r left place) same
-    ∙ ap (λ (b : Bool). cond b (first_of round.ranks (unplayed round.played left)) (at_or_first modes.repeat left place)) h
+    ap (λ (b : Bool). cond (b && not modes.repeat) None (ahead modes (round_for modes round left) left position)) over ∙ ap (λ (r : RoundState). ahead modes r left position) same
+    ∙ ap (λ (b : Bool). cond b (first_of round.ranks (unplayed round.played left)) (at_or_first modes.repeat left position)) h
 
-front-of : (repeat : Bool) (entries left : List Entry) (place : ℕ) → length entries ≡ place → FollowsInQueue repeat entries left place (cond repeat (slice_get left 0) None)
-front-of true entries [] place e = QueueIsOver e (inr refl)
-front-of true entries (x ∷ left) place e = AtFront x e refl refl
-front-of false entries left place e = QueueIsOver e (inl refl)
+front-of : (repeat : Bool) (entries left : List Entry) (position : ℕ) → length entries ≡ position → FollowsInQueue repeat entries left position (cond repeat (slice_get left 0) None)
+front-of true entries [] position e = QueueIsOver e (inr refl)
+front-of true entries (x ∷ left) position e = AtFront x e refl refl
+front-of false entries left position e = QueueIsOver e (inl refl)
 
-follows-place : (repeat : Bool) (entries left : List Entry) (place at : ℕ) (o : Option Entry) → place ≤ length entries → slice_get entries place ≡ o → slice_get left at ≡ o
-    → FollowsInQueue repeat entries left place (or_else o (cond repeat (slice_get left 0) None))
-follows-place repeat entries left place at None l h k = let most : length entries ≤ place = get-none entries place h in front-of repeat entries left place (omega (arith, l, most))
-follows-place repeat entries left place at (Some e) l h k = AtPlace e h
+follows-position : (repeat : Bool) (entries left : List Entry) (position at : ℕ) (o : Option Entry) → position ≤ length entries → slice_get entries position ≡ o → slice_get left at ≡ o
+    → FollowsInQueue repeat entries left position (or_else o (cond repeat (slice_get left 0) None))
+follows-position repeat entries left position at None l h k = let most : length entries ≤ position = get-none entries position h in front-of repeat entries left position (omega (arith, l, most))
+follows-position repeat entries left position at (Some e) l h k = AtPosition e h
 
-follows-at : (repeat : Bool) (entries left : List Entry) (place at : ℕ) → place ≤ length entries → slice_get left at ≡ slice_get entries place → FollowsInQueue repeat entries left place (at_or_first repeat left at)
-follows-at repeat entries left place at l h =
-    subst (λ (o : Option Entry). FollowsInQueue repeat entries left place (or_else o (cond repeat (slice_get left 0) None))) (sym h)
-    (follows-place repeat entries left place at (slice_get entries place) l refl h)
+follows-at : (repeat : Bool) (entries left : List Entry) (position at : ℕ) → position ≤ length entries → slice_get left at ≡ slice_get entries position → FollowsInQueue repeat entries left position (at_or_first repeat left at)
+follows-at repeat entries left position at l h =
+    subst (λ (o : Option Entry). FollowsInQueue repeat entries left position (or_else o (cond repeat (slice_get left 0) None))) (sym h)
+    (follows-position repeat entries left position at (slice_get entries position) l refl h)
 
 -- after what is taken out stands what stood after it
 get-drop : (n : ℕ) (xs : List Entry) → slice_get (drop n xs) 0 ≡ slice_get xs n
@@ -568,27 +568,27 @@ get-left (suc from) zero xs h l = absurd (omega arith)
 get-left (suc from) (suc end) [] h l = absurd (omega arith)
 get-left (suc from) (suc end) (x ∷ xs) h l = get-left from end xs (omega arith) (omega arith)
 
-place-in-left : (c : Consume) (entries : List Entry) (id place : ℕ) → place_of entries id ≡ place → place < length entries
-    → slice_get (left_after c entries place) (cond (consumes c) (place_of entries id) (place_of entries id + 1)) ≡ slice_get entries (place + 1)
-place-in-left consume.Off entries id place e l = ap (λ (n : ℕ). slice_get entries (n + 1)) e
-place-in-left consume.On entries id place e l = ap (slice_get (left_by entries place (place + 1))) e ∙ get-left place (place + 1) entries (omega arith) (omega arith)
-place-in-left consume.Oneshot entries id place e l = ap (slice_get (left_by entries place (place + 1))) e ∙ get-left place (place + 1) entries (omega arith) (omega arith)
+position-in-left : (c : Consume) (entries : List Entry) (id position : ℕ) → entry_position entries id ≡ position → position < length entries
+    → slice_get (left_after c entries position) (cond (consumes c) (entry_position entries id) (entry_position entries id + 1)) ≡ slice_get entries (position + 1)
+position-in-left consume.Off entries id position e l = ap (λ (n : ℕ). slice_get entries (n + 1)) e
+position-in-left consume.On entries id position e l = ap (slice_get (left_by entries position (position + 1))) e ∙ get-left position (position + 1) entries (omega arith) (omega arith)
+position-in-left consume.Oneshot entries id position e l = ap (slice_get (left_by entries position (position + 1))) e ∙ get-left position (position + 1) entries (omega arith) (omega arith)
 
-place-at-end : (modes : Modes) (round : RoundState) (entries : List Entry) (place : ℕ) (song : Entry) → modes.random ≡ false → HaveOwnIds entries → slice_get entries place ≡ Some song
-    → FollowsInQueue modes.repeat entries (left_after modes.consume entries place) (place + 1) (after_next modes round entries song.id).entry
-place-at-end modes round entries place song order own at =
-    let here : place_of entries song.id ≡ place = place-at entries place song (distinct-from entries own) at in
-    let within : place < length entries = get-within entries place song at in
-    let left : List Entry = left_after modes.consume entries place in
-    let next : (after_next modes round entries song.id).entry ≡ at_or_first modes.repeat left (place_after modes entries song.id) =
-    next-in-order modes (round_left modes round song.id) (entries_left modes entries song.id) (place_after modes entries song.id) order
-    ∙ ap (λ (xs : List Entry). at_or_first modes.repeat xs (place_after modes entries song.id)) (consumes_one modes round entries place song own at) in
-    subst (λ (o : Option Entry). FollowsInQueue modes.repeat entries left (place + 1) o) (sym next)
-    (follows-at modes.repeat entries left (place + 1) (place_after modes entries song.id) (omega (arith, within)) (place-in-left modes.consume entries song.id place here within))
+position-at-end : (modes : Modes) (round : RoundState) (entries : List Entry) (position : ℕ) (song : Entry) → modes.random ≡ false → HaveOwnIds entries → slice_get entries position ≡ Some song
+    → FollowsInQueue modes.repeat entries (left_after modes.consume entries position) (position + 1) (after_next modes round entries song.id).entry
+position-at-end modes round entries position song order own at =
+    let here : entry_position entries song.id ≡ position = position-at entries position song (distinct-from entries own) at in
+    let within : position < length entries = get-within entries position song at in
+    let left : List Entry = left_after modes.consume entries position in
+    let next : (after_next modes round entries song.id).entry ≡ at_or_first modes.repeat left (position_after modes entries song.id) =
+    next-in-order modes (round_left modes round song.id) (entries_left modes entries song.id) (position_after modes entries song.id) order
+    ∙ ap (λ (xs : List Entry). at_or_first modes.repeat xs (position_after modes entries song.id)) (consumes_one modes round entries position song own at) in
+    subst (λ (o : Option Entry). FollowsInQueue modes.repeat entries left (position + 1) o) (sym next)
+    (follows-at modes.repeat entries left (position + 1) (position_after modes entries song.id) (omega (arith, within)) (position-in-left modes.consume entries song.id position here within))
 
-pub follows_places : FollowsPlaces
-follows_places = record {
-  at_end = place-at-end;
+pub follows_positions : FollowsPositions
+follows_positions = record {
+  at_end = position-at-end;
   at_removal = λ modes round entries from end order h l.
       subst (λ (o : Option Entry). FollowsInQueue modes.repeat entries (left_by entries from end) end o)
       (sym (next-in-order modes (without round (ids_taken entries from end)) (left_by entries from end) from order))
@@ -619,32 +619,32 @@ one-in-round repeat round left _ _ (RoundIsOver all r) (InRound b k) = absurd (k
 one-in-round repeat round left _ _ (RoundIsOver all r) (InNewRound b more s k) = absurd (not-over repeat (new_ranks round left) [] left b s k r)
 one-in-round repeat round left _ _ (RoundIsOver all r) (RoundIsOver more s) = refl
 
-not-past : (entries : List Entry) (place : ℕ) (e : Entry) → slice_get entries place ≡ Some e → length entries ≡ place → ⊥
-not-past entries place e h l = omega (arith, get-within entries place e h, l)
+not-past : (entries : List Entry) (position : ℕ) (e : Entry) → slice_get entries position ≡ Some e → length entries ≡ position → ⊥
+not-past entries position e h l = omega (arith, get-within entries position e h, l)
 
 not-done : (repeat : Bool) (left : List Entry) (e : Entry) → repeat ≡ true → slice_get left 0 ≡ Some e → (repeat ≡ false) ⊎ (left ≡ []) → ⊥
 not-done repeat left e r h (inl f) = cc
 not-done repeat left e r h (inr n) = let none : slice_get left 0 ≡ None = ap (λ (xs : List Entry). slice_get xs 0) n in cc
 
-one-in-queue : (repeat : Bool) (entries left : List Entry) (place : ℕ) (a b : Option Entry) → FollowsInQueue repeat entries left place a → FollowsInQueue repeat entries left place b → a ≡ b
-one-in-queue repeat entries left place _ _ (AtPlace a h) (AtPlace b k) = sym h ∙ k
-one-in-queue repeat entries left place _ _ (AtPlace a h) (AtFront b l r k) = absurd (not-past entries place a h l)
-one-in-queue repeat entries left place _ _ (AtPlace a h) (QueueIsOver l r) = absurd (not-past entries place a h l)
-one-in-queue repeat entries left place _ _ (AtFront a l r h) (AtPlace b k) = absurd (not-past entries place b k l)
-one-in-queue repeat entries left place _ _ (AtFront a l r h) (AtFront b m s k) = sym h ∙ k
-one-in-queue repeat entries left place _ _ (AtFront a l r h) (QueueIsOver m s) = absurd (not-done repeat left a r h s)
-one-in-queue repeat entries left place _ _ (QueueIsOver l r) (AtPlace b k) = absurd (not-past entries place b k l)
-one-in-queue repeat entries left place _ _ (QueueIsOver l r) (AtFront b m s k) = absurd (not-done repeat left b s k r)
-one-in-queue repeat entries left place _ _ (QueueIsOver l r) (QueueIsOver m s) = refl
+one-in-queue : (repeat : Bool) (entries left : List Entry) (position : ℕ) (a b : Option Entry) → FollowsInQueue repeat entries left position a → FollowsInQueue repeat entries left position b → a ≡ b
+one-in-queue repeat entries left position _ _ (AtPosition a h) (AtPosition b k) = sym h ∙ k
+one-in-queue repeat entries left position _ _ (AtPosition a h) (AtFront b l r k) = absurd (not-past entries position a h l)
+one-in-queue repeat entries left position _ _ (AtPosition a h) (QueueIsOver l r) = absurd (not-past entries position a h l)
+one-in-queue repeat entries left position _ _ (AtFront a l r h) (AtPosition b k) = absurd (not-past entries position b k l)
+one-in-queue repeat entries left position _ _ (AtFront a l r h) (AtFront b m s k) = sym h ∙ k
+one-in-queue repeat entries left position _ _ (AtFront a l r h) (QueueIsOver m s) = absurd (not-done repeat left a r h s)
+one-in-queue repeat entries left position _ _ (QueueIsOver l r) (AtPosition b k) = absurd (not-past entries position b k l)
+one-in-queue repeat entries left position _ _ (QueueIsOver l r) (AtFront b m s k) = absurd (not-done repeat left b s k r)
+one-in-queue repeat entries left position _ _ (QueueIsOver l r) (QueueIsOver m s) = refl
 
-one-by : (b : Bool) (modes : Modes) (round : RoundState) (entries left : List Entry) (place : ℕ) (one other : Option Entry) → FollowsBy b modes round entries left place one → FollowsBy b modes round entries left place other → one ≡ other
-one-by true modes round entries left place one other h k = one-in-round modes.repeat round left one other h k
-one-by false modes round entries left place one other h k = one-in-queue modes.repeat entries left place one other h k
+one-by : (b : Bool) (modes : Modes) (round : RoundState) (entries left : List Entry) (position : ℕ) (one other : Option Entry) → FollowsBy b modes round entries left position one → FollowsBy b modes round entries left position other → one ≡ other
+one-by true modes round entries left position one other h k = one-in-round modes.repeat round left one other h k
+one-by false modes round entries left position one other h k = one-in-queue modes.repeat entries left position one other h k
 
 pub one_follows : OneFollows
-one_follows modes round entries left place one other h k = one-by modes.random modes round entries left place one other h k
+one_follows modes round entries left position one other h k = one-by modes.random modes round entries left position one other h k
 
--- the entry at a place is in the queue, and found by its id
+-- the entry at a position is in the queue, and found by its id
 pub get-there : (xs : List Entry) (k : ℕ) (x : Entry) → slice_get xs k ≡ Some x → Contains xs x
 get-there [] k x h = cc
 get-there (y ∷ xs) zero x h = let s : y ≡ x = cc in subst (λ (z : Entry). Contains (y ∷ xs) z) s (contains-here xs y)
@@ -662,46 +662,46 @@ entry-found [] x d c = absurd (contains-none x c)
 entry-found (y ∷ xs) x d c = found-first xs y x d.0 (contains-cases xs y x c) (entry-found xs x d.1)
 
 -- an entry that is taken out is no longer there
-pub not-left : (entries : List Entry) (place : ℕ) (song : Entry) → Distinct entries → slice_get entries place ≡ Some song → Contains (left_by entries place (place + 1)) song → ⊥
-not-left entries place song d at there =
-    let here : place_of entries song.id ≡ place = place-at entries place song d at in
-    let within : place < length entries = get-within entries place song at in
-    let same : filter (λ e. not (has_id song.id e)) entries ≡ left_by entries place (place + 1) = left-by consume.On entries song.id place d here within in
+pub not-left : (entries : List Entry) (position : ℕ) (song : Entry) → Distinct entries → slice_get entries position ≡ Some song → Contains (left_by entries position (position + 1)) song → ⊥
+not-left entries position song d at there =
+    let here : entry_position entries song.id ≡ position = position-at entries position song d at in
+    let within : position < length entries = get-within entries position song at in
+    let same : filter (λ e. not (has_id song.id e)) entries ≡ left_by entries position (position + 1) = left-by consume.On entries song.id position d here within in
     let kept = of-filter (λ e. not (has_id song.id e)) entries song (subst (λ (xs : List Entry). Contains xs song) (sym same) there) in
     let self : has_id song.id song ≡ true = grind arith in
     let lost : false ≡ true = sym (ap not self) ∙ kept.1 in
     cc
 
 -- what is ahead in the order follows
-ahead-at-random : (modes : Modes) (round : RoundState) (left : List Entry) (place : ℕ) → modes.random ≡ true → ahead modes round left place ≡ first_of round.ranks (unplayed round.played left)
-ahead-at-random modes round left place h = ap (λ (b : Bool). cond b (first_of round.ranks (unplayed round.played left)) (at_or_first modes.repeat left place)) h
+ahead-at-random : (modes : Modes) (round : RoundState) (left : List Entry) (position : ℕ) → modes.random ≡ true → ahead modes round left position ≡ first_of round.ranks (unplayed round.played left)
+ahead-at-random modes round left position h = ap (λ (b : Bool). cond b (first_of round.ranks (unplayed round.played left)) (at_or_first modes.repeat left position)) h
 
-ahead-in-order : (modes : Modes) (round : RoundState) (left : List Entry) (place : ℕ) → modes.random ≡ false → ahead modes round left place ≡ next_of modes round left place
-ahead-in-order modes round left place h =
-    ap (λ (b : Bool). cond b (first_of round.ranks (unplayed round.played left)) (at_or_first modes.repeat left place)) h ∙ sym (next-in-order modes round left place h)
+ahead-in-order : (modes : Modes) (round : RoundState) (left : List Entry) (position : ℕ) → modes.random ≡ false → ahead modes round left position ≡ next_of modes round left position
+ahead-in-order modes round left position h =
+    ap (λ (b : Bool). cond b (first_of round.ranks (unplayed round.played left)) (at_or_first modes.repeat left position)) h ∙ sym (next-in-order modes round left position h)
 
-pub ahead-follows : (modes : Modes) (round : RoundState) (left : List Entry) (place : ℕ) (e : Entry) → ahead modes round left place ≡ Some e → next_of modes round left place ≡ Some e
-ahead-follows modes round left place e h =
-    elim (modes.random) as (λ v. modes.random ≡ v → next_of modes round left place ≡ Some e) [
-      | true ↦ λ r. (goes-on modes round left place e r (sym (ahead-at-random modes round left place r) ∙ h)).1
-      | false ↦ λ r. sym (ahead-in-order modes round left place r) ∙ h
+pub ahead-follows : (modes : Modes) (round : RoundState) (left : List Entry) (position : ℕ) (e : Entry) → ahead modes round left position ≡ Some e → next_of modes round left position ≡ Some e
+ahead-follows modes round left position e h =
+    elim (modes.random) as (λ v. modes.random ≡ v → next_of modes round left position ≡ Some e) [
+      | true ↦ λ r. (goes-on modes round left position e r (sym (ahead-at-random modes round left position r) ∙ h)).1
+      | false ↦ λ r. sym (ahead-in-order modes round left position r) ∙ h
     ] refl
 
 -- where nothing is ahead, nothing follows, or the round is over
-pub nothing-ahead : (modes : Modes) (round : RoundState) (entries : List Entry) (place : ℕ) (song : Entry) → HaveOwnIds entries → slice_get entries place ≡ Some song
+pub nothing-ahead : (modes : Modes) (round : RoundState) (entries : List Entry) (position : ℕ) (song : Entry) → HaveOwnIds entries → slice_get entries position ≡ Some song
     → ahead_after modes round entries song.id ≡ None
-    → ((after_next modes round entries song.id).entry ≡ None) ⊎ ((modes.random ≡ true) × AllWerePlayed round.played (left_after modes.consume entries place))
-nothing-ahead modes round entries place song own at h =
+    → ((after_next modes round entries song.id).entry ≡ None) ⊎ ((modes.random ≡ true) × AllWerePlayed round.played (left_after modes.consume entries position))
+nothing-ahead modes round entries position song own at h =
     let rest : RoundState = round_left modes round song.id in
     let left : List Entry = entries_left modes entries song.id in
-    let same : left ≡ left_after modes.consume entries place = consumes_one modes round entries place song own at in
-    let d : Distinct left = subst Distinct (sym same) (distinct-after modes.consume entries place (distinct-from entries own)) in
-    elim (modes.random) as (λ v. modes.random ≡ v → ((after_next modes round entries song.id).entry ≡ None) ⊎ ((modes.random ≡ true) × AllWerePlayed round.played (left_after modes.consume entries place))) [
+    let same : left ≡ left_after modes.consume entries position = consumes_one modes round entries position song own at in
+    let d : Distinct left = subst Distinct (sym same) (distinct-after modes.consume entries position (distinct-from entries own)) in
+    elim (modes.random) as (λ v. modes.random ≡ v → ((after_next modes round entries song.id).entry ≡ None) ⊎ ((modes.random ≡ true) × AllWerePlayed round.played (left_after modes.consume entries position))) [
       | true ↦ λ r.
           let none : first_of round.ranks (unplayed round.played left) ≡ None =
-          sym (first-round_left modes round entries song.id) ∙ sym (ahead-at-random modes rest left (place_after modes entries song.id) r) ∙ h in
+          sym (first-round_left modes round entries song.id) ∙ sym (ahead-at-random modes rest left (position_after modes entries song.id) r) ∙ h in
           inr (r, subst (AllWerePlayed round.played) same (all-played round.ranks round.played left d none))
-      | false ↦ λ r. inl (sym (ahead-in-order modes rest left (place_after modes entries song.id) r) ∙ h)
+      | false ↦ λ r. inl (sym (ahead-in-order modes rest left (position_after modes entries song.id) r) ∙ h)
     ] refl
 
 -- what an opening begins with: in random order what follows with repeat, else the first entry

@@ -8,7 +8,7 @@ use Rattle.play_order.specs.declared.modes.Modes.{Modes}
 use Rattle.play_order.specs.declared.modes.Rank.{Rank}
 use Rattle.play_order.specs.Draws.{RoundState, rank_of, is_among, has_id, ids_of, without, renewed, moved_last, others}
 use Rattle.play_order.specs.Order.{ahead, at_or_first, begun, comes_before, entry_of, first_anew, first_of, ids_taken, is_first, is_over, left_by, next_of, opening_of, or_else, round_for, unplayed}
-use Rattle.play_order.specs.Ends.{after_next, again, consumes, entries_left, id_of, place_after, round_after, round_left}
+use Rattle.play_order.specs.Ends.{after_next, again, consumes, entries_left, id_of, position_after, round_after, round_left}
 use Rattle.play_order.proofs.Firsts.{Apart, Distinct, EachIn, distinct-from, distinct-left, some-first, each-drop, each-from, each-filter, each-map, find-agree, list_all-agree}
 use Rattle.play_order.proofs.Ids.{among-left, find-left}
 use Rattle.play_order.proofs.Lists.{filter-all, filter-swap}
@@ -75,27 +75,27 @@ started-then-left played ids id h =
     ∙ ap (λ (xs : List ℕ). xs ++ id ∷ []) (filter-swap (λ (other : ℕ). not (is_among other ids)) (λ (other : ℕ). not (other == id)) played)
 
 -- the round goes on where there is a first entry
-pub goes-on : (modes : Modes) (round : RoundState) (left : List Entry) (place : ℕ) (e : Entry) → modes.random ≡ true → first_of round.ranks (unplayed round.played left) ≡ Some e
-    → (round_for modes round left ≡ round) × (next_of modes round left place ≡ Some e)
-goes-on modes round left place e random found =
+pub goes-on : (modes : Modes) (round : RoundState) (left : List Entry) (position : ℕ) (e : Entry) → modes.random ≡ true → first_of round.ranks (unplayed round.played left) ≡ Some e
+    → (round_for modes round left ≡ round) × (next_of modes round left position ≡ Some e)
+goes-on modes round left position e random found =
     let over : is_over modes round left ≡ false = ap (λ (b : Bool). b && is_none (first_of round.ranks (unplayed round.played left))) random ∙ ap is_none found in
     let same : round_for modes round left ≡ round = ap (λ (b : Bool). cond b (renewed round (ids_of left)) round) over in (
       same,
-      ap (λ (b : Bool). cond (b && not modes.repeat) None (ahead modes (round_for modes round left) left place)) over ∙ ap (λ (r : RoundState). ahead modes r left place) same
-          ∙ ap (λ (b : Bool). cond b (first_of round.ranks (unplayed round.played left)) (or_else (slice_get left place) (cond modes.repeat (slice_get left 0) None))) random ∙ found,
+      ap (λ (b : Bool). cond (b && not modes.repeat) None (ahead modes (round_for modes round left) left position)) over ∙ ap (λ (r : RoundState). ahead modes r left position) same
+          ∙ ap (λ (b : Bool). cond b (first_of round.ranks (unplayed round.played left)) (or_else (slice_get left position) (cond modes.repeat (slice_get left 0) None))) random ∙ found,
     )
 
 -- it is over where there is none
-pub is-renewed : (modes : Modes) (round : RoundState) (left : List Entry) (place : ℕ) → modes.random ≡ true → first_of round.ranks (unplayed round.played left) ≡ None
-    → (round_for modes round left ≡ renewed round (ids_of left)) × (next_of modes round left place ≡ first_anew modes.repeat round left)
-is-renewed modes round left place random none =
+pub is-renewed : (modes : Modes) (round : RoundState) (left : List Entry) (position : ℕ) → modes.random ≡ true → first_of round.ranks (unplayed round.played left) ≡ None
+    → (round_for modes round left ≡ renewed round (ids_of left)) × (next_of modes round left position ≡ first_anew modes.repeat round left)
+is-renewed modes round left position random none =
     let over : is_over modes round left ≡ true = ap (λ (b : Bool). b && is_none (first_of round.ranks (unplayed round.played left))) random ∙ ap is_none none in
     let new : RoundState = renewed round (ids_of left) in
     let same : round_for modes round left ≡ new = ap (λ (b : Bool). cond b (renewed round (ids_of left)) round) over in
-    let first : ahead modes new left place ≡ first_of new.ranks (unplayed new.played left) =
-    ap (λ (b : Bool). cond b (first_of new.ranks (unplayed new.played left)) (or_else (slice_get left place) (cond modes.repeat (slice_get left 0) None))) random in
-    let next : next_of modes round left place ≡ cond (not modes.repeat) None (first_of new.ranks (unplayed new.played left)) =
-    ap (λ (b : Bool). cond (b && not modes.repeat) None (ahead modes (round_for modes round left) left place)) over ∙ ap (λ (r : RoundState). cond (not modes.repeat) None (ahead modes r left place)) same
+    let first : ahead modes new left position ≡ first_of new.ranks (unplayed new.played left) =
+    ap (λ (b : Bool). cond b (first_of new.ranks (unplayed new.played left)) (or_else (slice_get left position) (cond modes.repeat (slice_get left 0) None))) random in
+    let next : next_of modes round left position ≡ cond (not modes.repeat) None (first_of new.ranks (unplayed new.played left)) =
+    ap (λ (b : Bool). cond (b && not modes.repeat) None (ahead modes (round_for modes round left) left position)) over ∙ ap (λ (r : RoundState). cond (not modes.repeat) None (ahead modes r left position)) same
     ∙ ap (λ (o : Option Entry). cond (not modes.repeat) None o) first in (
       same,
       next
@@ -103,21 +103,21 @@ is-renewed modes round left place random none =
     )
 
 -- the first entry has started, and the ids have left
-pub goes-on-without : (modes : Modes) (round : RoundState) (ids : List ℕ) (left : List Entry) (place : ℕ) (e : Entry) → modes.random ≡ true → AreApart ids left
+pub goes-on-without : (modes : Modes) (round : RoundState) (ids : List ℕ) (left : List Entry) (position : ℕ) (e : Entry) → modes.random ≡ true → AreApart ids left
     → first_of round.ranks (unplayed round.played left) ≡ Some e
-    → without (record round { played = moved_last round.played e.id }) ids ≡ begun modes (round_for modes (without round ids) left) (next_of modes (without round ids) left place)
-goes-on-without modes round ids left place e random apart found =
+    → without (record round { played = moved_last round.played e.id }) ids ≡ begun modes (round_for modes (without round ids) left) (next_of modes (without round ids) left position)
+goes-on-without modes round ids left position e random apart found =
     let rest : RoundState = without round ids in
     let kept : first_of rest.ranks (unplayed rest.played left) ≡ Some e = first-kept round ids left apart ∙ found in
-    let on = goes-on modes rest left place e random kept in
+    let on = goes-on modes rest left position e random kept in
     ap (λ (p : List ℕ). record rest { played = p }) (started-then-left round.played ids e.id (first-apart round ids left e apart found))
     ∙ sym (ap (λ (b : Bool). cond b (record rest { played = moved_last rest.played e.id }) rest) random)
     ∙ sym (ap (λ (o : Option Entry). begun modes rest o) on.1)
-    ∙ sym (ap (λ (r : RoundState). begun modes r (next_of modes rest left place)) on.0)
+    ∙ sym (ap (λ (r : RoundState). begun modes r (next_of modes rest left position)) on.0)
 
-pub next-without : (modes : Modes) (round : RoundState) (ids : List ℕ) (left : List Entry) (place : ℕ) (e : Entry) → modes.random ≡ true → AreApart ids left
-    → first_of round.ranks (unplayed round.played left) ≡ Some e → next_of modes (without round ids) left place ≡ Some e
-next-without modes round ids left place e random apart found = (goes-on modes (without round ids) left place e random (first-kept round ids left apart ∙ found)).1
+pub next-without : (modes : Modes) (round : RoundState) (ids : List ℕ) (left : List Entry) (position : ℕ) (e : Entry) → modes.random ≡ true → AreApart ids left
+    → first_of round.ranks (unplayed round.played left) ≡ Some e → next_of modes (without round ids) left position ≡ Some e
+next-without modes round ids left position e random apart found = (goes-on modes (without round ids) left position e random (first-kept round ids left apart ∙ found)).1
 
 -- which entry an id comes from
 pub from-id : (o : Option Entry) (id : ℕ) → Some id ≡ id_of o → (e : Entry) × (o ≡ Some e) × (e.id ≡ id)
@@ -160,29 +160,29 @@ first-round_left modes round entries id =
       | false ↦ refl
     ]
 
--- the place matters by its entry alone
+-- the position matters by its entry alone
 next-at : (modes : Modes) (round : RoundState) (left : List Entry) (a b : ℕ) → slice_get left a ≡ slice_get left b → next_of modes round left a ≡ next_of modes round left b
 next-at modes round left a b h =
     let new : RoundState = round_for modes round left in
     ap (λ (o : Option Entry). cond (is_over modes round left && not modes.repeat) None (cond modes.random (first_of new.ranks (unplayed new.played left)) (or_else o (cond modes.repeat (slice_get left 0) None)))) h
 
-pub next-left : (modes : Modes) (round rest : RoundState) (entries left : List Entry) (id place : ℕ) → left ≡ entries_left modes entries id → rest ≡ round_left modes round id
-    → slice_get (entries_left modes entries id) place ≡ slice_get (entries_left modes entries id) (place_after modes entries id)
-    → next_of modes rest left place ≡ (after_next modes round entries id).entry
-next-left modes round rest entries left id place h k l =
-    ap (λ (xs : List Entry). next_of modes rest xs place) h ∙ ap (λ (r : RoundState). next_of modes r (entries_left modes entries id) place) k
-    ∙ next-at modes (round_left modes round id) (entries_left modes entries id) place (place_after modes entries id) l
+pub next-left : (modes : Modes) (round rest : RoundState) (entries left : List Entry) (id position : ℕ) → left ≡ entries_left modes entries id → rest ≡ round_left modes round id
+    → slice_get (entries_left modes entries id) position ≡ slice_get (entries_left modes entries id) (position_after modes entries id)
+    → next_of modes rest left position ≡ (after_next modes round entries id).entry
+next-left modes round rest entries left id position h k l =
+    ap (λ (xs : List Entry). next_of modes rest xs position) h ∙ ap (λ (r : RoundState). next_of modes r (entries_left modes entries id) position) k
+    ∙ next-at modes (round_left modes round id) (entries_left modes entries id) position (position_after modes entries id) l
 
 -- of the modes a start heeds `random` alone
 begun-modes : (modes other : Modes) (round : RoundState) (o : Option Entry) → modes.random ≡ other.random → begun modes round o ≡ begun other round o
 begun-modes modes other round None h = refl
 begun-modes modes other round (Some e) h = ap (λ (b : Bool). cond b (record round { played = moved_last round.played e.id }) round) h
 
-pub begun-left : (modes : Modes) (round rest : RoundState) (entries left : List Entry) (id place : ℕ) → left ≡ entries_left modes entries id → rest ≡ round_left modes round id
-    → slice_get (entries_left modes entries id) place ≡ slice_get (entries_left modes entries id) (place_after modes entries id)
-    → begun modes (round_for modes rest left) (next_of modes rest left place) ≡ round_after (after_next modes round entries id)
-begun-left modes round rest entries left id place h k l =
-    ap (begun modes (round_for modes rest left)) (next-left modes round rest entries left id place h k l)
+pub begun-left : (modes : Modes) (round rest : RoundState) (entries left : List Entry) (id position : ℕ) → left ≡ entries_left modes entries id → rest ≡ round_left modes round id
+    → slice_get (entries_left modes entries id) position ≡ slice_get (entries_left modes entries id) (position_after modes entries id)
+    → begun modes (round_for modes rest left) (next_of modes rest left position) ≡ round_after (after_next modes round entries id)
+begun-left modes round rest entries left id position h k l =
+    ap (begun modes (round_for modes rest left)) (next-left modes round rest entries left id position h k l)
     ∙ ap (λ (xs : List Entry). begun modes (round_for modes rest xs) (after_next modes round entries id).entry) h
     ∙ ap (λ (r : RoundState). begun modes (round_for modes r (entries_left modes entries id)) (after_next modes round entries id).entry) k
     ∙ begun-modes modes (after_next modes round entries id).modes (round_for modes (round_left modes round id) (entries_left modes entries id)) (after_next modes round entries id).entry refl
@@ -221,7 +221,7 @@ opening-round modes round left =
     ∙ ap (λ (o : Option Entry). begun (record modes { repeat = true }) (round_for modes round left) o) (opening-next modes round left)
     ∙ begun-modes (record modes { repeat = true }) modes (round_for modes round left) (opening_of modes round left) refl
 
--- the entries from a place up to another have ids that what is left has not
+-- the entries from a position up to another have ids that what is left has not
 not-taken : (x : Entry) (n : ℕ) (xs : List Entry) → Apart x xs → is_among x.id (ids_of (take n xs)) ≡ false
 not-taken x zero xs h = refl
 not-taken x (suc n) [] h = refl
@@ -263,11 +263,11 @@ some-anew : (repeat : Bool) (round : RoundState) (left : List Entry) → Distinc
 some-anew true round left d = ap (λ (xs : List Entry). is_some (first_of (renewed round (ids_of left)).ranks xs)) (filter-all left) ∙ some-first (renewed round (ids_of left)).ranks left d
 some-anew false round left d = refl
 
-some-by : (modes : Modes) (round : RoundState) (ids : List ℕ) (left : List Entry) (place : ℕ) (o : Option Entry) → modes.random ≡ true → AreApart ids left → Distinct left
-    → first_of round.ranks (unplayed round.played left) ≡ o → is_some (next_of modes (without round ids) left place) ≡ (is_some o || (modes.repeat && nat_lt 0 (length left)))
-some-by modes round ids left place None h apart d found =
-    ap is_some (is-renewed modes (without round ids) left place h (first-kept round ids left apart ∙ found)).1 ∙ some-anew modes.repeat (without round ids) left d
-some-by modes round ids left place (Some e) h apart d found = ap is_some (next-without modes round ids left place e h apart found)
+some-by : (modes : Modes) (round : RoundState) (ids : List ℕ) (left : List Entry) (position : ℕ) (o : Option Entry) → modes.random ≡ true → AreApart ids left → Distinct left
+    → first_of round.ranks (unplayed round.played left) ≡ o → is_some (next_of modes (without round ids) left position) ≡ (is_some o || (modes.repeat && nat_lt 0 (length left)))
+some-by modes round ids left position None h apart d found =
+    ap is_some (is-renewed modes (without round ids) left position h (first-kept round ids left apart ∙ found)).1 ∙ some-anew modes.repeat (without round ids) left d
+some-by modes round ids left position (Some e) h apart d found = ap is_some (next-without modes round ids left position e h apart found)
 
 length-left : (from end : ℕ) (xs : List Entry) → from ≤ end → end ≤ length xs → length (left_by xs from end) + (end - from) ≡ length xs
 length-left from end xs h l =
@@ -280,23 +280,23 @@ some-left : (a b c : ℕ) → c + a ≡ b → nat_lt 0 c ≡ nat_lt a b
 some-left a b c h = grind arith
 
 -- whether an entry starts in random order when some leave
-pub some-next : (modes : Modes) (round : RoundState) (ids : List ℕ) (xs : List Entry) (from end place : ℕ) → from ≤ end → end ≤ length xs → Distinct xs → modes.random ≡ true
+pub some-next : (modes : Modes) (round : RoundState) (ids : List ℕ) (xs : List Entry) (from end position : ℕ) → from ≤ end → end ≤ length xs → Distinct xs → modes.random ≡ true
     → AreApart ids (left_by xs from end)
-    → is_some (next_of modes (without round ids) (left_by xs from end) place) ≡ (is_some (first_of round.ranks (unplayed round.played (left_by xs from end))) || (modes.repeat && nat_lt (end - from) (length xs)))
-some-next modes round ids xs from end place h l d random apart =
+    → is_some (next_of modes (without round ids) (left_by xs from end) position) ≡ (is_some (first_of round.ranks (unplayed round.played (left_by xs from end))) || (modes.repeat && nat_lt (end - from) (length xs)))
+some-next modes round ids xs from end position h l d random apart =
     let left : List Entry = left_by xs from end in
-    some-by modes round ids left place (first_of round.ranks (unplayed round.played left)) random apart (distinct-left from end xs h d) refl
+    some-by modes round ids left position (first_of round.ranks (unplayed round.played left)) random apart (distinct-left from end xs h d) refl
     ∙ ap (λ (b : Bool). is_some (first_of round.ranks (unplayed round.played left)) || (modes.repeat && b)) (some-left (end - from) (length xs) (length left) (length-left from end xs h l))
 
 -- the same of what code has found
-pub some-found : (modes : Modes) (round view : RoundState) (ids : List ℕ) (xs : List Entry) (from end place n : ℕ) (b : Bool) → from ≤ end → end ≤ length xs
+pub some-found : (modes : Modes) (round view : RoundState) (ids : List ℕ) (xs : List Entry) (from end position n : ℕ) (b : Bool) → from ≤ end → end ≤ length xs
     → AllPairs (λ e f. e.id ≢ f.id) xs → not modes.random ≡ false → All (λ e. is_among e.id ids ≡ false) (left_by xs from end)
     → view ≡ round → b ≡ is_some (first_of view.ranks (unplayed view.played (left_by xs from end))) → n ≡ length xs
-    → is_some (next_of modes (without round ids) (left_by xs from end) place) ≡ (b || (modes.repeat && nat_lt (end - from) n))
-some-found modes round view ids xs from end place n b h l d random apart same found len =
+    → is_some (next_of modes (without round ids) (left_by xs from end) position) ≡ (b || (modes.repeat && nat_lt (end - from) n))
+some-found modes round view ids xs from end position n b h l d random apart same found len =
     let left : List Entry = left_by xs from end in
     let first : is_some (first_of round.ranks (unplayed round.played left)) ≡ b = ap (λ (x : RoundState). is_some (first_of x.ranks (unplayed x.played left))) (sym same) ∙ sym found in
-    some-next modes round ids xs from end place h l (distinct-from xs d) (is-random modes.random random) (apart-from ids left apart)
+    some-next modes round ids xs from end position h l (distinct-from xs d) (is-random modes.random random) (apart-from ids left apart)
     ∙ ap (λ (f : Bool). f || (modes.repeat && nat_lt (end - from) (length xs))) first ∙ ap (λ (k : ℕ). b || (modes.repeat && nat_lt (end - from) k)) (sym len)
 
 -- the ids that consume takes out

@@ -1,7 +1,7 @@
 pub mod Lists
 pub mod Ids
 pub mod Firsts
-pub mod Places
+pub mod Positions
 pub mod Scanning
 pub mod Drawing
 pub mod Keeping

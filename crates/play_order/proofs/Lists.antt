@@ -33,8 +33,8 @@ take-all (x ∷ xs) (suc n) h = ap (λ r. x ∷ r) (take-all xs n (omega arith))
 pub slice_range-rest : {X : Type 0} (xs : List X) (a : ℕ) → slice_range xs a (length xs) ≡ drop a xs
 slice_range-rest xs a = take-all (drop a xs) (length xs - a) (omega (arith, length-drop a xs))
 
-pub get-within : {X : Type 0} (xs : List X) (place : ℕ) → place < length xs → slice_get xs place ≡ None → ⊥
-get-within [] place h e = omega arith
+pub get-within : {X : Type 0} (xs : List X) (position : ℕ) → position < length xs → slice_get xs position ≡ None → ⊥
+get-within [] position h e = omega arith
 get-within (x ∷ xs) zero h e = cc
 get-within (x ∷ xs) (suc k) h e = get-within xs k (omega arith) e
 

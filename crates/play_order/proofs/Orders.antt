@@ -8,7 +8,7 @@ use Rattle.song_queue.specs.declared.entry.Entry.{Entry}
 use Rattle.play_order.specs.declared.modes.Rank.{Rank}
 use Rattle.play_order.specs.Draws.{is_among, has_id, moved_last, rank_of}
 use Rattle.play_order.specs.Order.{comes_before, entry_of, is_first, first_of, unplayed}
-use Rattle.play_order.specs.Waits.{AreOf, HasKeyWith, HaveOwnIds, IsOrderOf, Key, LacksId, WaitingState, has_key, key_cmp, key_of, ranked_key, told_by, told_of, unplayed_keys}
+use Rattle.play_order.specs.Waits.{AreOf, HasKeyWith, HaveOwnIds, IsOrderOf, Key, LacksId, WaitingState, has_key, key_cmp, key_of, ranked_key, priority_and_id_by_key, priority_and_id, unplayed_keys}
 use Rattle.play_order.proofs.Firsts.{Distinct, EachIn, Apart, each-filter}
 use Rattle.play_order.proofs.Ids.{among-moved_last}
 use Rattle.play_order.proofs.Waits.{has_key-filter, is_eq-key, nat_cmp-eq, nat_cmp-gt, same_key, same_key-is, same_key-refl}
@@ -233,7 +233,7 @@ module _ (ranks : List Rank) (k : Key) where
 within : (entries : List Entry) (known : List Key) → AreOf entries known → EachIn (λ e. e.priority ≤ 255) entries
 within [] known h = tt
 within (e ∷ es) [] h = cc
-within (e ∷ es) (k ∷ ks) h = let first : told_of e ≡ told_by k = cc in let rest : map told_of es ≡ map told_by ks = cc in let p = ap (λ (t : ℕ × ℕ). t.0) first in (omega arith, within es ks rest)
+within (e ∷ es) (k ∷ ks) h = let first : priority_and_id e ≡ priority_and_id_by_key k = cc in let rest : map priority_and_id es ≡ map priority_and_id_by_key ks = cc in let p = ap (λ (t : ℕ × ℕ). t.0) first in (omega arith, within es ks rest)
 
 -- the keys of a queue's entries are those that are known
 known-are : (ranks : List Rank) (entries : List Entry) (known : List Key) → AreOf entries known → map (ranked_key ranks) known ≡ known → map (key_of ranks) entries ≡ known
@@ -242,11 +242,11 @@ known-are ranks entries known h ranked = by_entries entries ∙ ap (map by) h �
     by : ℕ × ℕ → Key
     by t = (255 - t.0, rank_of ranks t.1, t.1)
 
-    by_entries : (es : List Entry) → map (key_of ranks) es ≡ map by (map told_of es)
+    by_entries : (es : List Entry) → map (key_of ranks) es ≡ map by (map priority_and_id es)
     by_entries [] = refl
     by_entries (e ∷ es) = ap (λ (ks : List Key). key_of ranks e ∷ ks) (by_entries es)
 
-    by_known : (ks : List Key) → map (ranked_key ranks) ks ≡ map by (map told_by ks)
+    by_known : (ks : List Key) → map (ranked_key ranks) ks ≡ map by (map priority_and_id_by_key ks)
     by_known [] = refl
     by_known (k ∷ ks) = ap (λ (more : List Key). ranked_key ranks k ∷ more) (by_known ks)
 

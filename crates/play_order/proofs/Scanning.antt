@@ -1,4 +1,4 @@
--- A queue that is gone through from a place up to another.
+-- A queue that is gone through from a position up to another.
 use Rattle.std.proofs.Common.{◌≡◌, ℕ, zero, suc, ◌+◌, ◌-◌, ◌<◌, ◌≤◌, ◌||◌, Bool, true, false, not, cond, nat_lt, is_some, List, [], ◌∷◌, ◌++◌, length, fold, take, drop, slice_get, get_or, Option, Some, None, refl, ap, sym, ◌∙◌, arith}
 use Rattle.std.specs.List.{slice_range}
 use Rattle.std.proofs.lemmas.Bool.{false≢true, lt-ltb}
@@ -52,8 +52,8 @@ best-kept ranks played done e start best same loses =
           sym (best-more ranks played done (e ∷ []) start ∙ ap (best_among ranks played (e ∷ [])) (sym same) ∙ one ∙ better-old ranks best e loses)
     ] refl
 
-pub ids-more : (queue : List Entry) (from place : ℕ) (e : Entry) → from ≤ place → slice_get queue place ≡ Some e → ids_taken queue from (place + 1) ≡ ids_taken queue from place ++ e.id ∷ []
-ids-more queue from place e h k = ap ids_of (slice_range-more queue from place e h k) ∙ map-append (λ (x : Entry). x.id) (slice_range queue from place) (e ∷ [])
+pub ids-more : (queue : List Entry) (from position : ℕ) (e : Entry) → from ≤ position → slice_get queue position ≡ Some e → ids_taken queue from (position + 1) ≡ ids_taken queue from position ++ e.id ∷ []
+ids-more queue from position e h k = ap ids_of (slice_range-more queue from position e h k) ∙ map-append (λ (x : Entry). x.id) (slice_range queue from position) (e ∷ [])
 
 pub first-left : (ranks : List Rank) (played : List ℕ) (queue : List Entry) (from end : ℕ) → Distinct (unplayed played (left_by queue from end))
     → fold (better ranks) (fold (better ranks) None (unplayed played (slice_range queue 0 from))) (unplayed played (slice_range queue end (length queue))) ≡ first_of ranks (unplayed played (left_by queue from end))

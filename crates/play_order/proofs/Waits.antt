@@ -11,7 +11,7 @@ use Rattle.song_queue.specs.declared.entry.Slot.{Slot}
 use Rattle.song_queue.specs.State.{entries_of}
 use Rattle.play_order.specs.declared.modes.Rank.{Rank}
 use Rattle.play_order.specs.Draws.{rank_of}
-use Rattle.play_order.specs.Waits.{AreOf, Key, has_key, is_unplayed, key_cmp, key_of, ranked_key, told_by, told_of, unplayed_keys}
+use Rattle.play_order.specs.Waits.{AreOf, Key, has_key, is_unplayed, key_cmp, key_of, ranked_key, priority_and_id_by_key, priority_and_id, unplayed_keys}
 use Rattle.play_order.proofs.Lists.{append-nil, map-append, slice_range-front, slice_range-join}
 
 pub nat_cmp-lt : (a b : ℕ) → a < b → nat_cmp a b ≡ Less
@@ -130,11 +130,11 @@ pub keys-join : (ranks : List Rank) (queue : List Entry) (at count : ℕ)
     → map (key_of ranks) (take (at + count) queue) ≡ map (key_of ranks) (take at queue) ++ map (key_of ranks) (slice_range queue at (at + count))
 keys-join ranks queue at count = ap (map (key_of ranks)) (take-join queue at count) ∙ map-append (key_of ranks) (take at queue) (slice_range queue at (at + count))
 
-pub told-join : (queue : List Entry) (known : List Key) (at count : ℕ) → AreOf (take at queue) (take at known)
+pub same_pairs-join : (queue : List Entry) (known : List Key) (at count : ℕ) → AreOf (take at queue) (take at known)
     → AreOf (slice_range queue at (at + count)) (slice_range known at (at + count)) → AreOf (take (at + count) queue) (take (at + count) known)
-told-join queue known at count h more =
-    ap (map told_of) (take-join queue at count) ∙ map-append told_of (take at queue) (slice_range queue at (at + count)) ∙ (λ i. h i ++ more i)
-    ∙ sym (ap (map told_by) (take-join known at count) ∙ map-append told_by (take at known) (slice_range known at (at + count)))
+same_pairs-join queue known at count h more =
+    ap (map priority_and_id) (take-join queue at count) ∙ map-append priority_and_id (take at queue) (slice_range queue at (at + count)) ∙ (λ i. h i ++ more i)
+    ∙ sym (ap (map priority_and_id_by_key) (take-join known at count) ∙ map-append priority_and_id_by_key (take at known) (slice_range known at (at + count)))
 
 -- what is of all of a queue is of a part of it
 tails : (e : Entry) (es : List Entry) (k : Key) (ks : List Key) → AreOf (e ∷ es) (k ∷ ks) → AreOf es ks
@@ -152,7 +152,7 @@ take-of queue known zero h = refl
 take-of [] [] (suc n) h = refl
 take-of [] (k ∷ ks) (suc n) h = cc
 take-of (e ∷ es) [] (suc n) h = cc
-take-of (e ∷ es) (k ∷ ks) (suc n) h = let first : told_of e ≡ told_by k = cc in λ i. first i ∷ take-of es ks n (tails e es k ks h) i
+take-of (e ∷ es) (k ∷ ks) (suc n) h = let first : priority_and_id e ≡ priority_and_id_by_key k = cc in λ i. first i ∷ take-of es ks n (tails e es k ks h) i
 
 pub part-of : (queue : List Entry) (known : List Key) (from end : ℕ) → AreOf queue known → AreOf (slice_range queue from end) (slice_range known from end)
 part-of queue known from end h = take-of (drop from queue) (drop from known) (end - from) (drop-of queue known from h)
@@ -164,8 +164,8 @@ length-of (e ∷ es) [] h = cc
 length-of (e ∷ es) (k ∷ ks) h = ap suc (length-of es ks (tails e es k ks h))
 
 -- and each slot has the id and priority of its key
-pub told-at : (run : List Slot) (known : List Key) (place : ℕ) (s : Slot) (k : Key) → place < length run → AreOf (entries_of run) known → told_of (get_or run place s).entry ≡ told_by (get_or known place k)
-told-at [] known place s k l h = absurd (omega arith)
-told-at (x ∷ xs) [] place s k l h = cc
-told-at (x ∷ xs) (y ∷ ys) zero s k l h = cc
-told-at (x ∷ xs) (y ∷ ys) (suc place) s k l h = told-at xs ys place s k (omega arith) (tails x.entry (entries_of xs) y ys h)
+pub same_pairs-at : (run : List Slot) (known : List Key) (position : ℕ) (s : Slot) (k : Key) → position < length run → AreOf (entries_of run) known → priority_and_id (get_or run position s).entry ≡ priority_and_id_by_key (get_or known position k)
+same_pairs-at [] known position s k l h = absurd (omega arith)
+same_pairs-at (x ∷ xs) [] position s k l h = cc
+same_pairs-at (x ∷ xs) (y ∷ ys) zero s k l h = cc
+same_pairs-at (x ∷ xs) (y ∷ ys) (suc position) s k l h = same_pairs-at xs ys position s k (omega arith) (tails x.entry (entries_of xs) y ys h)

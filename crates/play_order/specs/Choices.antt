@@ -44,7 +44,7 @@ pub record IsLeastUnplayed (ranks : List Rank) (played : List ℕ) (entries : Li
 abbrev pub AllWerePlayed : List ℕ → List Entry → Type 0
 AllWerePlayed played entries = (entry : Entry) → Contains entries entry → Contains played entry.id
 
--- the ranks of a new round: each entry of the queue draws one, in the order of their places
+-- the ranks of a new round: each entry of the queue draws one, in the order of their positions
 abbrev pub new_ranks : RoundState → List Entry → List Rank
 new_ranks round entries = ranks_drawn round.generator (ids_of entries)
 
@@ -65,30 +65,30 @@ pub data FollowsInRound (repeat : Bool) (round : RoundState) (left : List Entry)
   -- the round is over, and there is no repeat, or nothing left to be played
   RoundIsOver : AllWerePlayed round.played left → (repeat ≡ false) ⊎ (left ≡ []) → FollowsInRound repeat round left None
 
--- what follows in the order of the queue, where the entries before a place were played or are gone; some
+-- what follows in the order of the queue, where the entries before a position were played or are gone; some
 -- entries are left of the queue
-pub data FollowsInQueue (repeat : Bool) (entries left : List Entry) (place : ℕ) : Option Entry → Type 0 where
-  -- the entry at the place
-  AtPlace :
+pub data FollowsInQueue (repeat : Bool) (entries left : List Entry) (position : ℕ) : Option Entry → Type 0 where
+  -- the entry at the position
+  AtPosition :
       (entry : Entry)
-      → slice_get entries place ≡ Some entry
-      → FollowsInQueue repeat entries left place (Some entry)
+      → slice_get entries position ≡ Some entry
+      → FollowsInQueue repeat entries left position (Some entry)
   -- there is none; with repeat the first that is left
   AtFront :
       (entry : Entry)
-      → length entries ≡ place
+      → length entries ≡ position
       → repeat ≡ true
       → slice_get left 0 ≡ Some entry
-      → FollowsInQueue repeat entries left place (Some entry)
+      → FollowsInQueue repeat entries left position (Some entry)
   -- there is none, and there is no repeat, or nothing left to be played
-  QueueIsOver : length entries ≡ place → (repeat ≡ false) ⊎ (left ≡ []) → FollowsInQueue repeat entries left place None
+  QueueIsOver : length entries ≡ position → (repeat ≡ false) ⊎ (left ≡ []) → FollowsInQueue repeat entries left position None
 
 -- what follows, in random order and else
 abbrev pub FollowsBy : Bool → Modes → RoundState → List Entry → List Entry → ℕ → Option Entry → Type 0
-FollowsBy true modes round entries left place entry = FollowsInRound modes.repeat round left entry
-FollowsBy false modes round entries left place entry = FollowsInQueue modes.repeat entries left place entry
+FollowsBy true modes round entries left position entry = FollowsInRound modes.repeat round left entry
+FollowsBy false modes round entries left position entry = FollowsInQueue modes.repeat entries left position entry
 
--- what the order gives after a place of a queue of which some entries are left
+-- what the order gives after a position of a queue of which some entries are left
 abbrev pub Follows : Modes → RoundState → List Entry → List Entry → ℕ → Option Entry → Type 0
 Follows modes = FollowsBy modes.random modes
 
@@ -140,24 +140,24 @@ pub data BecomesRound (before after : RoundState) (entries left : List Entry) : 
 -- the rules name one answer: an entry that follows, or none
 abbrev pub OneFollows : Type 0
 OneFollows =
-    (modes : Modes) (round : RoundState) (entries left : List Entry) (place : ℕ) (one other : Option Entry)
-    → Follows modes round entries left place one
-    → Follows modes round entries left place other
+    (modes : Modes) (round : RoundState) (entries left : List Entry) (position : ℕ) (one other : Option Entry)
+    → Follows modes round entries left position one
+    → Follows modes round entries left position other
     → one ≡ other
 
--- what is left of a queue when the song at a place has ended: with consume each other entry, else all
+-- what is left of a queue when the song at a position has ended: with consume each other entry, else all
 abbrev pub left_after : Consume → List Entry → ℕ → List Entry
-left_after consume.Off entries place = entries
-left_after consume.On entries place = take place entries ++ drop (place + 1) entries
-left_after consume.Oneshot entries place = take place entries ++ drop (place + 1) entries
+left_after consume.Off entries position = entries
+left_after consume.On entries position = take position entries ++ drop (position + 1) entries
+left_after consume.Oneshot entries position = take position entries ++ drop (position + 1) entries
 
 -- consume takes out just the song that has ended
 abbrev pub ConsumesOne : Type 0
 ConsumesOne =
-    (modes : Modes) (round : RoundState) (entries : List Entry) (place : ℕ) (song : Entry)
+    (modes : Modes) (round : RoundState) (entries : List Entry) (position : ℕ) (song : Entry)
     → HaveOwnIds entries
-    → slice_get entries place ≡ Some song
-    → (after_next modes round entries song.id).left ≡ left_after modes.consume entries place
+    → slice_get entries position ≡ Some song
+    → (after_next modes round entries song.id).left ≡ left_after modes.consume entries position
 
 -- the entry that follows where a song ends and the order goes on
 abbrev pub next_entry : Modes → RoundState → List Entry → Entry → Option Entry
@@ -166,11 +166,11 @@ next_entry modes round entries song = (after_next modes round entries song.id).e
 -- in random order the least unplayed entry follows, at the end of a song and where entries are taken out
 pub record ChoosesUnplayed : Type 0 where
   pub at_end :
-      (modes : Modes) (round : RoundState) (entries : List Entry) (place : ℕ) (song : Entry)
+      (modes : Modes) (round : RoundState) (entries : List Entry) (position : ℕ) (song : Entry)
       → modes.random ≡ true
       → HaveOwnIds entries
-      → slice_get entries place ≡ Some song
-      → FollowsInRound modes.repeat round (left_after modes.consume entries place) (next_entry modes round entries song)
+      → slice_get entries position ≡ Some song
+      → FollowsInRound modes.repeat round (left_after modes.consume entries position) (next_entry modes round entries song)
   pub at_removal :
       (modes : Modes) (round : RoundState) (entries : List Entry) (from end : ℕ)
       → modes.random ≡ true
@@ -178,36 +178,36 @@ pub record ChoosesUnplayed : Type 0 where
       → from ≤ end
       → FollowsInRound modes.repeat round (left_by entries from end) (next_after_removal modes round entries from end)
 
--- what follows after the place of a song that has ended
-abbrev EndFollowsPlace : Modes → List Entry → ℕ → Option Entry → Type 0
-EndFollowsPlace modes entries place entry =
-    FollowsInQueue modes.repeat entries (left_after modes.consume entries place) (place + 1) entry
+-- what follows after the position of a song that has ended
+abbrev EndFollowsPosition : Modes → List Entry → ℕ → Option Entry → Type 0
+EndFollowsPosition modes entries position entry =
+    FollowsInQueue modes.repeat entries (left_after modes.consume entries position) (position + 1) entry
 
 -- what follows after entries that are taken out
-abbrev RemovalFollowsPlace : Bool → List Entry → ℕ → ℕ → Option Entry → Type 0
-RemovalFollowsPlace repeat entries from end entry = FollowsInQueue repeat entries (left_by entries from end) end entry
+abbrev RemovalFollowsPosition : Bool → List Entry → ℕ → ℕ → Option Entry → Type 0
+RemovalFollowsPosition repeat entries from end entry = FollowsInQueue repeat entries (left_by entries from end) end entry
 
--- where the order is not random the entry at the next place follows, at the end of a song (also of one that
+-- where the order is not random the entry at the next position follows, at the end of a song (also of one that
 -- is consumed) and where entries are taken out
-pub record FollowsPlaces : Type 0 where
+pub record FollowsPositions : Type 0 where
   pub at_end :
-      (modes : Modes) (round : RoundState) (entries : List Entry) (place : ℕ) (song : Entry)
+      (modes : Modes) (round : RoundState) (entries : List Entry) (position : ℕ) (song : Entry)
       → modes.random ≡ false
       → HaveOwnIds entries
-      → slice_get entries place ≡ Some song
-      → EndFollowsPlace modes entries place (next_entry modes round entries song)
+      → slice_get entries position ≡ Some song
+      → EndFollowsPosition modes entries position (next_entry modes round entries song)
   pub at_removal :
       (modes : Modes) (round : RoundState) (entries : List Entry) (from end : ℕ)
       → modes.random ≡ false
       → from ≤ end
       → end ≤ length entries
-      → RemovalFollowsPlace modes.repeat entries from end (next_after_removal modes round entries from end)
+      → RemovalFollowsPosition modes.repeat entries from end (next_after_removal modes round entries from end)
 
--- what becomes of a round at the end of the song at a place
+-- what becomes of a round at the end of the song at a position
 abbrev EndBecomesRound : Modes → RoundState → List Entry → ℕ → Entry → Type 0
-EndBecomesRound modes round entries place song =
+EndBecomesRound modes round entries position song =
     let after = round_after (after_next modes round entries song.id) in
-    BecomesRound round after entries (left_after modes.consume entries place) (next_entry modes round entries song)
+    BecomesRound round after entries (left_after modes.consume entries position) (next_entry modes round entries song)
 
 -- what becomes of a round where entries are taken out
 abbrev RemovalBecomesRound : Modes → RoundState → List Entry → ℕ → ℕ → Type 0
@@ -218,11 +218,11 @@ RemovalBecomesRound modes round entries from end =
 -- in random order a round goes on until all were played, at the end of a song and where entries are taken out
 pub record RoundsGoOn : Type 0 where
   pub at_end :
-      (modes : Modes) (round : RoundState) (entries : List Entry) (place : ℕ) (song : Entry)
+      (modes : Modes) (round : RoundState) (entries : List Entry) (position : ℕ) (song : Entry)
       → modes.random ≡ true
       → HaveOwnIds entries
-      → slice_get entries place ≡ Some song
-      → EndBecomesRound modes round entries place song
+      → slice_get entries position ≡ Some song
+      → EndBecomesRound modes round entries position song
   pub at_removal :
       (modes : Modes) (round : RoundState) (entries : List Entry) (from end : ℕ)
       → modes.random ≡ true
@@ -233,10 +233,10 @@ pub record RoundsGoOn : Type 0 where
 -- a round forgets the song that consume takes out, and the entries that are deleted, and no others
 pub record RoundsForgetGone : Type 0 where
   pub consumed :
-      (modes : Modes) (round : RoundState) (entries : List Entry) (place : ℕ) (song : Entry)
+      (modes : Modes) (round : RoundState) (entries : List Entry) (position : ℕ) (song : Entry)
       → HaveOwnIds entries
-      → slice_get entries place ≡ Some song
-      → ForgetsGone round (round_left modes round song.id) entries (left_after modes.consume entries place)
+      → slice_get entries position ≡ Some song
+      → ForgetsGone round (round_left modes round song.id) entries (left_after modes.consume entries position)
   pub deleted :
       (round : RoundState) (entries : List Entry) (from end : ℕ)
       → HaveOwnIds entries

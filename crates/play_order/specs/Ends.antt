@@ -9,7 +9,7 @@ use Rattle.play_order.specs.declared.modes.Consume.{Consume}
 use Rattle.play_order.specs.declared.modes.Single.TheVariants as single
 use Rattle.play_order.specs.declared.modes.Consume.TheVariants as consume
 use Rattle.play_order.specs.Draws.{RoundState, has_id, without, moved_last, others}
-use Rattle.play_order.specs.Order.{place_of, entry_of, ahead, first_anew, round_for, next_of, begun, left_by, ids_taken}
+use Rattle.play_order.specs.Order.{entry_position, entry_of, ahead, first_anew, round_for, next_of, begun, left_by, ids_taken}
 
 -- whether a song that ends is taken out
 abbrev pub consumes : Consume → Bool
@@ -36,14 +36,14 @@ entries_left modes entries id = if consumes modes.consume then filter (λ e. not
 abbrev pub round_left : Modes → RoundState → ℕ → RoundState
 round_left modes round id = if consumes modes.consume then without round (id ∷ []) else round
 
--- the place after a song that ends, in what is left
-abbrev pub place_after : Modes → List Entry → ℕ → ℕ
-place_after modes entries id = if consumes modes.consume then place_of entries id else place_of entries id + 1
+-- the position after a song that ends, in what is left
+abbrev pub position_after : Modes → List Entry → ℕ → ℕ
+position_after modes entries id = if consumes modes.consume then entry_position entries id else entry_position entries id + 1
 
--- at a place of what is left stands what comes after the song that ends, or nothing where nothing does
+-- at a position of what is left stands what comes after the song that ends, or nothing where nothing does
 abbrev pub GoesOnAt : Modes → List Entry → ℕ → ℕ → Type 0
-GoesOnAt modes entries id place =
-    slice_get (entries_left modes entries id) place ≡ slice_get (entries_left modes entries id) (place_after modes entries id)
+GoesOnAt modes entries id position =
+    slice_get (entries_left modes entries id) position ≡ slice_get (entries_left modes entries id) (position_after modes entries id)
 
 -- the modes after a song at whose end single was heeded
 abbrev pub modes_after : Modes → Modes
@@ -71,7 +71,7 @@ in_order modes round entries id =
       modes = record modes { consume = consume_after modes.consume };
       left = left;
       round = round_for modes rest left;
-      entry = next_of modes rest left (place_after modes entries id);
+      entry = next_of modes rest left (position_after modes entries id);
       current = None;
     }
 
@@ -132,7 +132,7 @@ IsEndingOf f ending = ending ≡ ending_of f
 
 -- what comes after a song in the order, where no new round is needed
 abbrev pub ahead_after : Modes → RoundState → List Entry → ℕ → Option Entry
-ahead_after modes round entries id = ahead modes (round_left modes round id) (entries_left modes entries id) (place_after modes entries id)
+ahead_after modes round entries id = ahead modes (round_left modes round id) (entries_left modes entries id) (position_after modes entries id)
 
 abbrev pub peek_by : Single → Modes → RoundState → List Entry → ℕ → Option Entry
 peek_by single.Off modes round entries id = ahead_after modes round entries id
@@ -143,9 +143,9 @@ peek_by single.Oneshot modes round entries id = None
 abbrev pub peek : Modes → RoundState → List Entry → ℕ → Option Entry
 peek modes round entries id = peek_by modes.single modes round entries id
 
--- the place before another; before the first one with repeat the last
-abbrev pub place_before : Bool → List Entry → ℕ → ℕ
-place_before repeat entries place = if (place == 0) && repeat then length entries - 1 else place - 1
+-- the position before another; before the first one with repeat the last
+abbrev pub position_before : Bool → List Entry → ℕ → ℕ
+position_before repeat entries position = if (position == 0) && repeat then length entries - 1 else position - 1
 
 -- the last of some ids
 abbrev pub last_of : List ℕ → Option ℕ
@@ -157,13 +157,13 @@ last_of (id ∷ next ∷ more) = last_of (next ∷ more)
 abbrev pub played_before : RoundState → ℕ → List ℕ
 played_before round id = others id round.played
 
--- what `previous` starts: in random order the song played before, else the one at the place before; if there
+-- what `previous` starts: in random order the song played before, else the one at the position before; if there
 -- is none, the same again
 abbrev pub before : Modes → RoundState → List Entry → ℕ → Option Entry
 before modes round entries id =
     if modes.random
     then entry_of entries (unwrap_or (last_of (played_before round id)) id)
-    else slice_get entries (place_before modes.repeat entries (place_of entries id))
+    else slice_get entries (position_before modes.repeat entries (entry_position entries id))
 
 -- the round when `previous` has left the current song; nothing is consumed
 abbrev pub round_before : Modes → RoundState → ℕ → RoundState
@@ -178,7 +178,7 @@ abbrev pub gone_back : RoundState → ℕ → Option ℕ → RoundState
 gone_back round id None = record round { played = played_before round id }
 gone_back round id (Some other) = record round { played = moved_last (played_before round id) other }
 
--- the entries from one place up to another are taken out, of which one is current: what starts then
+-- the entries from one position up to another are taken out, of which one is current: what starts then
 abbrev pub next_after_removal : Modes → RoundState → List Entry → ℕ → ℕ → Option Entry
 next_after_removal modes round entries from end = next_of modes (without round (ids_taken entries from end)) (left_by entries from end) from
 

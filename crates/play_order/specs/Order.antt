@@ -10,9 +10,9 @@ use Rattle.play_order.specs.declared.modes.Rank.{Rank}
 use Rattle.play_order.specs.declared.modes.Modes.{Modes}
 use Rattle.play_order.specs.Draws.{RoundState, rank_of, is_among, has_id, ids_of, renewed, moved_last}
 
--- the place of the entry with an id; after the last one, if there is none
-abbrev pub place_of : List Entry → ℕ → ℕ
-place_of entries id = position_or_len (has_id id) entries
+-- the position of the entry with an id; after the last one, if there is none
+abbrev pub entry_position : List Entry → ℕ → ℕ
+entry_position entries id = position_or_len (has_id id) entries
 
 abbrev pub entry_of : List Entry → ℕ → Option Entry
 entry_of entries id = find (has_id id) entries
@@ -41,14 +41,14 @@ abbrev pub or_else : Option Entry → Option Entry → Option Entry
 or_else None other = other
 or_else (Some e) other = Some e
 
--- the entry at a place; with repeat the first one, if there is none
+-- the entry at a position; with repeat the first one, if there is none
 abbrev pub at_or_first : Bool → List Entry → ℕ → Option Entry
-at_or_first repeat entries place = or_else (slice_get entries place) (if repeat then slice_get entries 0 else None)
+at_or_first repeat entries position = or_else (slice_get entries position) (if repeat then slice_get entries 0 else None)
 
--- what comes next without a new round: in random order the first unplayed entry, else the one at the place
+-- what comes next without a new round: in random order the first unplayed entry, else the one at the position
 abbrev pub ahead : Modes → RoundState → List Entry → ℕ → Option Entry
-ahead modes round entries place =
-    if modes.random then first_of round.ranks (unplayed round.played entries) else at_or_first modes.repeat entries place
+ahead modes round entries position =
+    if modes.random then first_of round.ranks (unplayed round.played entries) else at_or_first modes.repeat entries position
 
 -- a round is over where in random order no candidate is left
 abbrev pub is_over : Modes → RoundState → List Entry → Bool
@@ -60,8 +60,8 @@ round_for modes round entries = if is_over modes round entries then renewed roun
 
 -- what comes next: after a round that is over there is a next song only with repeat
 abbrev pub next_of : Modes → RoundState → List Entry → ℕ → Option Entry
-next_of modes round entries place =
-    if is_over modes round entries && not modes.repeat then None else ahead modes (round_for modes round entries) entries place
+next_of modes round entries position =
+    if is_over modes round entries && not modes.repeat then None else ahead modes (round_for modes round entries) entries position
 
 -- what comes first in a new round, with repeat
 abbrev pub first_anew : Bool → RoundState → List Entry → Option Entry
@@ -93,7 +93,7 @@ abbrev pub randomized : RoundState → List Entry → Option ℕ → RoundState
 randomized round entries None = renewed round (ids_of entries)
 randomized round entries (Some id) = record (renewed round (ids_of entries)) { played = id ∷ [] }
 
--- what is left of the queue when the entries from one place up to another are taken out
+-- what is left of the queue when the entries from one position up to another are taken out
 abbrev pub left_by : List Entry → ℕ → ℕ → List Entry
 left_by entries from end = take from entries ++ drop end entries
 

@@ -9,7 +9,7 @@ use Rattle.play_order.specs.Draws.{RoundState, LackIds, without, words_drawn}
 use Rattle.play_order.specs.Order.{begun, ids_taken, left_by, next_of, round_for}
 use Rattle.play_order.specs.Ends.{IsIdOf, after_end, after_next, next_after_removal, round_after_removal}
 
--- a round shuffles the entries from start up to end: it draws a word for each of their places but the first
+-- a round shuffles the entries from start up to end: it draws a word for each of their positions but the first
 abbrev pub shuffled_by : RoundState → QueueState → ℕ → ℕ → QueueState
 shuffled_by round queue start end = shuffled_state queue start end (words_drawn round.generator (end - start - 1))
 
@@ -35,20 +35,20 @@ abbrev pub IsRoundAfterRemoval : Modes → RoundState → QueueState → Range �
 IsRoundAfterRemoval modes old queue range new =
     new ≡ round_after_removal modes old (queue_of queue) range.start range.end
 
--- what comes next where ids leave the round, and the entries from one place up to another the queue
+-- what comes next where ids leave the round, and the entries from one position up to another the queue
 abbrev pub next_without : Modes → RoundState → List ℕ → QueueState → ℕ → ℕ → ℕ → Option Entry
-next_without modes round ids queue from end place =
-    next_of modes (without round ids) (left_by (queue_of queue) from end) place
+next_without modes round ids queue from end position =
+    next_of modes (without round ids) (left_by (queue_of queue) from end) position
 
 -- the round when it has started
 abbrev pub round_without : Modes → RoundState → List ℕ → QueueState → ℕ → ℕ → ℕ → RoundState
-round_without modes round ids queue from end place =
+round_without modes round ids queue from end position =
     begun modes (round_for modes (without round ids) (left_by (queue_of queue) from end))
-    (next_without modes round ids queue from end place)
+    (next_without modes round ids queue from end position)
 
 -- it tells whether an entry starts where some leave the queue and the round loses ids that no other has
 abbrev pub TellsStart : Bool → Modes → RoundState → QueueState → ℕ → ℕ → ℕ → Type 0
-TellsStart starts modes round queue from end place =
+TellsStart starts modes round queue from end position =
     (ids : List ℕ)
     → LackIds (left_by (queue_of queue) from end) ids
-    → starts ≡ is_some (next_without modes round ids queue from end place)
+    → starts ≡ is_some (next_without modes round ids queue from end position)

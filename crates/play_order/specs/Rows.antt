@@ -41,15 +41,15 @@ consume_leaves g = refl
 priority_second : (g : Lcg) → id_of (after_next consuming (started consuming (round g) 2) three 2).entry ≡ Some 1
 priority_second g = refl
 
--- in the order of the queue: the next place, then nothing; with repeat the first
-next_place : (g : Lcg) → id_of (after_next plain (round g) three 2).entry ≡ Some 3
-next_place g = refl
+-- in the order of the queue: the next position, then nothing; with repeat the first
+next_position : (g : Lcg) → id_of (after_next plain (round g) three 2).entry ≡ Some 3
+next_position g = refl
 
-no_place : (g : Lcg) → id_of (after_next plain (round g) three 3).entry ≡ None
-no_place g = refl
+no_position : (g : Lcg) → id_of (after_next plain (round g) three 3).entry ≡ None
+no_position g = refl
 
-place_again : (g : Lcg) → id_of (after_next (modes true false single.Off consume.Off) (round g) three 3).entry ≡ Some 1
-place_again g = refl
+position_again : (g : Lcg) → id_of (after_next (modes true false single.Off consume.Off) (round g) three 3).entry ≡ Some 1
+position_again g = refl
 
 -- consume with repeat and one song left: nothing follows
 none_left : (g : Lcg) → id_of (after_end (modes true false single.Off consume.On) (round g) (entry 1 0 ∷ []) 1).entry ≡ None
@@ -86,7 +86,7 @@ new_round g = refl
 new_played : (g : Lcg) → (round_after (after_next repeating (all_played g) three 2)).played ≡ 2 ∷ []
 new_played g = refl
 
--- `previous`: the song played before, else the same; in the order of the queue the place before, at the front
+-- `previous`: the song played before, else the same; in the order of the queue the position before, at the front
 -- with repeat the last
 played_before_it : (g : Lcg) → id_of (before repeating (all_played g) three 2) ≡ Some 3
 played_before_it g = refl
@@ -94,8 +94,8 @@ played_before_it g = refl
 none_before : (g : Lcg) → id_of (before repeating (started repeating (round g) 2) three 2) ≡ Some 2
 none_before g = refl
 
-place_before_it : (g : Lcg) → id_of (before plain (round g) three 2) ≡ Some 1
-place_before_it g = refl
+position_before_it : (g : Lcg) → id_of (before plain (round g) three 2) ≡ Some 1
+position_before_it g = refl
 
 front_stays : (g : Lcg) → id_of (before plain (round g) three 1) ≡ Some 1
 front_stays g = refl

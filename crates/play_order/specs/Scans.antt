@@ -83,7 +83,7 @@ precedes entry rank (Some best) least = ranked_before entry rank best least
 abbrev pub best_among : List Rank → List ℕ → List Entry → Option Entry → Option Entry
 best_among ranks played entries best = fold (better ranks) best (unplayed played entries)
 
--- the same of the entries from one place up to another
+-- the same of the entries from one position up to another
 abbrev pub best_within : List Rank → List ℕ → QueueState → ℕ → ℕ → Option Entry → Option Entry
 best_within ranks played queue from end best = best_among ranks played (slice_range (queue_of queue) from end) best
 

@@ -25,11 +25,11 @@ abbrev pub ranked_key : List Rank → Key → Key
 ranked_key ranks k = (255 - (255 - k.0), rank_of ranks k.2, k.2)
 
 -- priority and id, of an entry and by a key
-abbrev pub told_of : Entry → ℕ × ℕ
-told_of e = (e.priority, e.id)
+abbrev pub priority_and_id : Entry → ℕ × ℕ
+priority_and_id e = (e.priority, e.id)
 
-abbrev pub told_by : Key → ℕ × ℕ
-told_by k = (255 - k.0, k.2)
+abbrev pub priority_and_id_by_key : Key → ℕ × ℕ
+priority_and_id_by_key k = (255 - k.0, k.2)
 
 -- whether a key is one of some
 abbrev pub has_key : List Key → Key → Bool
@@ -41,7 +41,7 @@ is_unplayed played k = not (is_among k.2 played)
 abbrev pub unplayed_keys : List ℕ → List Key → List Key
 unplayed_keys played known = filter (is_unplayed played) known
 
--- the keys of the entries of a queue, in the order of their places; those that wait, rising; and the version
+-- the keys of the entries of a queue, in the order of their positions; those that wait, rising; and the version
 -- of the queue
 pub record WaitingState : Type 0 where
   pub known : List Key
@@ -71,7 +71,7 @@ LeavesOrder id before after =
 
 -- some entries have the ids and priorities that are known
 abbrev pub AreOf : List Entry → List Key → Type 0
-AreOf entries known = map told_of entries ≡ map told_by known
+AreOf entries known = map priority_and_id entries ≡ map priority_and_id_by_key known
 
 -- a queue has the version, ids and priorities of the one that an order was made of
 abbrev pub IsMadeOf : WaitingState → QueueState → Type 0

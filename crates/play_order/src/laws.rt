@@ -1,5 +1,5 @@
 //! Laws of the definitions. A caller that calls one may use it; each does nothing.
-ghost use Rattle.play_order.specs.Choices.{ChoosesUnplayed, ConsumesOne, FollowsPlaces, OneFollows, PrecedesIsOrder, RoundsForgetGone, RoundsGoOn};
+ghost use Rattle.play_order.specs.Choices.{ChoosesUnplayed, ConsumesOne, FollowsPositions, OneFollows, PrecedesIsOrder, RoundsForgetGone, RoundsGoOn};
 
 /// Of two entries with different ids one comes before the other, and none comes before itself.
 pub fn precedes_is_order()
@@ -21,9 +21,9 @@ pub fn chooses_unplayed()
     ensures { ChoosesUnplayed }
 {}
 
-/// Where the order is not random the entry at the next place follows.
-pub fn follows_places()
-    ensures { FollowsPlaces }
+/// Where the order is not random the entry at the next position follows.
+pub fn follows_positions()
+    ensures { FollowsPositions }
 {}
 
 /// In random order a round goes on until all entries were played in it.

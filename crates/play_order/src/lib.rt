@@ -12,7 +12,7 @@ mod waiting;
 
 pub use ending::Ending;
 pub use laws::{
-    chooses_unplayed, consumes_one, follows_places, one_follows, precedes_is_order,
+    chooses_unplayed, consumes_one, follows_positions, one_follows, precedes_is_order,
     rounds_forget_gone, rounds_go_on,
 };
 pub use modes::{Consume, Modes, Rank, Single};

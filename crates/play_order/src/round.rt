@@ -123,7 +123,7 @@ impl Round {
         self.ranks.insert(&mut self.generator, queue, at, songs)
     }
 
-    /// Shuffles the entries of a range of the queue by words of the generator, one for each place of it but
+    /// Shuffles the entries of a range of the queue by words of the generator, one for each position of it but
     /// the first. Ranks and played songs stay. Where memory is wanted, nothing changes.
     pub fn shuffle(&mut self, queue: &mut Queue, range: Range<usize>) -> Result<(), AllocError>
         requires order { range.start ≤ range.end }
@@ -173,10 +173,10 @@ impl Round {
     }
 
     /// Where it is wanted, the order of this queue is kept from now on. Where memory is wanted, none is.
-    fn keep_order(&mut self, wanted: bool, queue: &Queue)
+    fn keep_order(&mut self, needed: bool, queue: &Queue)
         ensures { self.new ≡ self.old }
     {
-        if !wanted || is_kept(&self.waiting, queue) {
+        if !needed || is_kept(&self.waiting, queue) {
             return;
         }
         self.waiting = match Waiting::of(&self.ranks, &self.played, queue) {
@@ -185,7 +185,7 @@ impl Round {
         };
     }
 
-    /// Random order is turned on: each entry draws a rank, in order of place, and only the current song was
+    /// Random order is turned on: each entry draws a rank, in order of position, and only the current song was
     /// played.
     pub fn randomized(&mut self, queue: &Queue, current: Option<u32>) -> Result<(), AllocError>
         ensures ok { OnOk result (self.new ≡ randomized_lem self.old (queue_of queue.now) current) }
@@ -229,11 +229,11 @@ impl Round {
             entry_with(queue, played.unwrap_or(id))
         } else {
             let len = queue.len();
-            let place = queue.position_of(id).unwrap_or(len);
-            if place == 0 && modes.repeat {
+            let position = queue.position_of(id).unwrap_or(len);
+            if position == 0 && modes.repeat {
                 queue.get(len.saturating_sub(1))
             } else {
-                queue.get(place.saturating_sub(1))
+                queue.get(position.saturating_sub(1))
             }
         }
     }
@@ -254,8 +254,12 @@ impl Round {
     pub fn starts_after_next(&self, modes: Modes, queue: &Queue, id: u32) -> bool
         ensures { result ≡ is_some (after_next_lem modes self.now (queue_of queue.now) id).entry }
     {
-        let Span { from, end, place } = span_of(modes, queue, id);
-        self.goes_on(modes, queue, from, end, place)
+        let Span {
+            from,
+            end,
+            position,
+        } = span_of(modes, queue, id);
+        self.goes_on(modes, queue, from, end, position)
     }
 
     /// Whether an entry starts where those of a range are taken out, of which one is current, as
@@ -338,11 +342,15 @@ impl Round {
         ensures err { OnErr result (self.new ≡ self.old) }
         ensures err_queue { OnErr result (queue.new ≡ queue.old) }
     {
-        let Span { from, end, place } = span_of(modes, queue, id);
+        let Span {
+            from,
+            end,
+            position,
+        } = span_of(modes, queue, id);
         let starts = if consumes(modes.consume) {
-            self.go_on(modes, queue, from, end, &[id], place)?
+            self.go_on(modes, queue, from, end, &[id], position)?
         } else {
-            self.go_on(modes, queue, from, end, &[], place)?
+            self.go_on(modes, queue, from, end, &[], position)?
         };
         take_out(queue, from, end);
         self.keep_order(keeps_order(modes), queue);
@@ -394,7 +402,7 @@ impl Round {
         Ok(())
     }
 
-    /// The entries from a place up to another are about to leave the queue. Some ids, which are not those of
+    /// The entries from a position up to another are about to leave the queue. Some ids, which are not those of
     /// what is left, leave the round; it is renewed where it is then over, and what comes next starts. Where
     /// memory is wanted, nothing changes.
     fn go_on(
@@ -404,17 +412,17 @@ impl Round {
         from: usize,
         end: usize,
         ids: &[u32],
-        place: usize,
+        position: usize,
     ) -> Result<Option<u32>, AllocError>
         requires order { from ≤ end }
         requires within { end ≤ length (queue_of queue.now) }
         requires apart { LackIds (left_by (queue_of queue.now) from end) ids.now }
-        ensures round { OnOk result (self.new ≡ round_without modes self.old ids.now queue.now from end place) }
-        ensures starts { IfOk result (IsIdOf (next_without modes self.old ids.now queue.now from end place)) }
+        ensures round { OnOk result (self.new ≡ round_without modes self.old ids.now queue.now from end position) }
+        ensures starts { IfOk result (IsIdOf (next_without modes self.old ids.now queue.now from end position)) }
         ensures err { OnErr result (self.new ≡ self.old) }
     {
         if !modes.random {
-            let starts = id_at(at_or_first_left(queue, modes.repeat, from, end, place));
+            let starts = id_at(at_or_first_left(queue, modes.repeat, from, end, position));
             self.removed(ids);
             return Ok(starts);
         }
@@ -428,21 +436,21 @@ impl Round {
         }
     }
 
-    /// Whether an entry starts when the entries from a place up to another leave the queue and the round.
-    fn goes_on(&self, modes: Modes, queue: &Queue, from: usize, end: usize, place: usize) -> bool
+    /// Whether an entry starts when the entries from a position up to another leave the queue and the round.
+    fn goes_on(&self, modes: Modes, queue: &Queue, from: usize, end: usize, position: usize) -> bool
         requires order { from ≤ end }
         requires within { end ≤ length (queue_of queue.now) }
         ensures distinct { AllPairs (λ e f. e.id ≢ f.id) (queue_of queue.now) }
-        ensures starts { TellsStart result modes self.now queue.now from end place }
+        ensures starts { TellsStart result modes self.now queue.now from end position }
     {
         let some = end - from < queue.len();
         if !modes.random {
-            return at_or_first_left(queue, modes.repeat, from, end, place).is_some();
+            return at_or_first_left(queue, modes.repeat, from, end, position).is_some();
         }
         any_left(&self.played, queue, from, end) || (modes.repeat && some)
     }
 
-    /// The round is over: each entry of what is left when those from a place up to another are taken out
+    /// The round is over: each entry of what is left when those from a position up to another are taken out
     /// draws a rank, and with repeat the first one starts.
     fn begin_anew(
         &mut self,
@@ -471,7 +479,7 @@ impl Round {
         Ok(starts)
     }
 
-    /// A new round of what is left of a queue when the entries from a place up to another are taken out.
+    /// A new round of what is left of a queue when the entries from a position up to another are taken out.
     fn drawn_anew(&self, queue: &Queue, from: usize, end: usize) -> Result<Round, AllocError>
         requires order { from ≤ end }
         requires within { end ≤ length (queue_of queue.now) }
@@ -509,11 +517,15 @@ impl Round {
     fn ahead_after<'a>(&self, modes: Modes, queue: &'a Queue, id: u32) -> Option<&'a Entry>
         ensures { option_copied result ≡ ahead_after_lem modes self.now (queue_of queue.now) id }
     {
-        let Span { from, end, place } = span_of(modes, queue, id);
+        let Span {
+            from,
+            end,
+            position,
+        } = span_of(modes, queue, id);
         if modes.random {
             first_entry(&self.waiting, &self.ranks, &self.played, queue, from, end)
         } else {
-            at_or_first_left(queue, modes.repeat, from, end, place)
+            at_or_first_left(queue, modes.repeat, from, end, position)
         }
     }
 
@@ -562,47 +574,47 @@ impl Round {
     }
 }
 
-/// What consume takes out of a queue when a song ends, as places, and where the order goes on in what is
+/// What consume takes out of a queue when a song ends, as positions, and where the order goes on in what is
 /// left.
 #[derive(Clone, Copy)]
 struct Span {
     from: usize,
     end: usize,
-    place: usize,
+    position: usize,
 }
 
 fn span_of(modes: Modes, queue: &Queue, id: u32) -> Span
     ensures order { result.from ≤ result.end }
     ensures within { result.end ≤ length (queue_of queue.now) }
     ensures left { left_by (queue_of queue.now) result.from result.end ≡ entries_left modes (queue_of queue.now) id }
-    ensures place { GoesOnAt modes (queue_of queue.now) id result.place }
+    ensures position { GoesOnAt modes (queue_of queue.now) id result.position }
 {
     let len = queue.len();
     match queue.position_of(id) {
-        Some(place) => {
+        Some(position) => {
             if consumes(modes.consume) {
                 Span {
-                    from: place,
-                    end: place + 1,
-                    place,
+                    from: position,
+                    end: position + 1,
+                    position,
                 }
             } else {
                 Span {
                     from: 0,
                     end: 0,
-                    place: place + 1,
+                    position: position + 1,
                 }
             }
         }
         None => Span {
             from: 0,
             end: 0,
-            place: len,
+            position: len,
         },
     }
 }
 
-/// Takes the entries from a place up to another out.
+/// Takes the entries from a position up to another out.
 fn take_out(queue: &mut Queue, from: usize, end: usize)
     requires order { from ≤ end }
     requires within { end ≤ length (queue_of queue.old) }

@@ -1,4 +1,4 @@
-//! Goes through what is left of a queue when the entries from one place up to another are taken out.
+//! Goes through what is left of a queue when the entries from one position up to another are taken out.
 ghost use Rattle.std.specs.Prelude.{◌≡◌, ◌≤◌, ◌+◌, ◌++◌, List, is_some, length, slice_get, ◌-◌, IfOk, OnErr, OnOk, vec_capacity, vec_len};
 ghost use Rattle.std.specs.List.{slice_range};
 ghost use Rattle.std.specs.Option.{option_copied};
@@ -44,7 +44,7 @@ pub(crate) fn any_left(played: &Played, queue: &Queue, from: usize, end: usize) 
     any_within(played, queue, 0, from) || any_within(played, queue, end, len)
 }
 
-/// Whether an entry from a place up to another was not played.
+/// Whether an entry from a position up to another was not played.
 fn any_within(played: &Played, queue: &Queue, from: usize, end: usize) -> bool
     requires order { from ≤ end }
     requires within { end ≤ length (queue_of queue.now) }
@@ -73,7 +73,7 @@ fn any_of_run(played: &Played, run: &[Slot]) -> bool
     false
 }
 
-/// The entry that comes first of the best so far and the unplayed ones from a place up to another.
+/// The entry that comes first of the best so far and the unplayed ones from a position up to another.
 fn first_within<'a>(
     ranks: &Ranks,
     played: &Played,
@@ -148,19 +148,19 @@ fn comes_before(a: &Entry, rank_a: u32, b: &Entry, rank_b: u32) -> bool
     rank_a < rank_b || (rank_a == rank_b && a.id < b.id)
 }
 
-/// The entry at a place of what is left; with repeat the first one, if there is none.
+/// The entry at a position of what is left; with repeat the first one, if there is none.
 pub(crate) fn at_or_first_left(
     queue: &Queue,
     repeat: bool,
     from: usize,
     end: usize,
-    place: usize,
+    position: usize,
 ) -> Option<&Entry>
     requires order { from ≤ end }
     requires within { end ≤ length (queue_of queue.now) }
-    ensures { option_copied result ≡ at_or_first repeat (left_by (queue_of queue.now) from end) place }
+    ensures { option_copied result ≡ at_or_first repeat (left_by (queue_of queue.now) from end) position }
 {
-    match get_left(queue, from, end, place) {
+    match get_left(queue, from, end, position) {
         Some(entry) => Some(entry),
         None => {
             if repeat {
@@ -172,20 +172,20 @@ pub(crate) fn at_or_first_left(
     }
 }
 
-/// The entry at a place of what is left.
-fn get_left(queue: &Queue, from: usize, end: usize, place: usize) -> Option<&Entry>
+/// The entry at a position of what is left.
+fn get_left(queue: &Queue, from: usize, end: usize, position: usize) -> Option<&Entry>
     requires order { from ≤ end }
     requires within { end ≤ length (queue_of queue.now) }
-    ensures { option_copied result ≡ slice_get (left_by (queue_of queue.now) from end) place }
+    ensures { option_copied result ≡ slice_get (left_by (queue_of queue.now) from end) position }
 {
     let taken = end - from;
-    if place < from {
-        return queue.get(place);
+    if position < from {
+        return queue.get(position);
     }
-    if place >= queue.len() - taken {
+    if position >= queue.len() - taken {
         return None;
     }
-    queue.get(place + taken)
+    queue.get(position + taken)
 }
 
 /// The entry of the queue with an id, if there is one.
@@ -193,12 +193,12 @@ pub fn entry_with(queue: &Queue, id: u32) -> Option<&Entry>
     ensures { option_copied result ≡ entry_of (queue_of queue.now) id }
 {
     match queue.position_of(id) {
-        Some(place) => queue.get(place),
+        Some(position) => queue.get(position),
         None => None,
     }
 }
 
-/// The ids of the entries from a place up to another.
+/// The ids of the entries from a position up to another.
 pub(crate) fn taken_ids(
     alloc: Global,
     queue: &Queue,
@@ -236,7 +236,7 @@ pub(crate) fn ids_left(
     Ok(ids)
 }
 
-/// The ids of the entries from a place up to another come after some ids.
+/// The ids of the entries from a position up to another come after some ids.
 fn push_ids(ids: &mut Vec<u32>, queue: &Queue, from: usize, end: usize) -> Result<(), AllocError>
     requires order { from ≤ end }
     requires within { end ≤ length (queue_of queue.now) }
@@ -280,15 +280,15 @@ pub(crate) fn put_in(
     Ok(ids)
 }
 
-/// The ids of the entries from a place up to another come after some ids, where there is room for them.
+/// The ids of the entries from a position up to another come after some ids, where there is room for them.
 fn fill_ids(ids: &mut Vec<u32>, queue: &Queue, from: usize, end: usize)
     requires order { from ≤ end }
     requires within { end ≤ length (queue_of queue.now) }
     requires room { vec_len ids.old + (end - from) ≤ vec_capacity ids.old }
     ensures { ids.new.items ≡ ids.old.items ++ ids_taken (queue_of queue.now) from end }
 {
-    for place in from..end {
-        if let Some(entry) = queue.get(place) {
+    for position in from..end {
+        if let Some(entry) = queue.get(position) {
             let _ = ids.push(entry.id);
         }
     }

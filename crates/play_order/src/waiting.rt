@@ -19,7 +19,7 @@ use std::collections::BTreeSet;
 use std::marker::Model;
 
 /// The entries that wait for their turn. A key is how far a priority is below the greatest, a rank and an id;
-/// contracts see the keys of all entries, by place, and of those that wait, rising.
+/// contracts see the keys of all entries, by position, and of those that wait, rising.
 pub(crate) struct Waiting {
     known: Vec<(u8, u32, u32)>,
     /// Those that were not played.
@@ -167,7 +167,7 @@ pub(crate) fn is_kept(waiting: &Option<Waiting>, queue: &Queue) -> bool
     }
 }
 
-/// The keys of a queue's entries, in the order of their places.
+/// The keys of a queue's entries, in the order of their positions.
 fn keys_of(ranks: &Ranks, queue: &Queue) -> Result<Vec<(u8, u32, u32)>, AllocError>
     ensures known { IfOk result (λ known. known.items ≡ map (key_of ranks.now) (queue_of queue.now)) }
     ensures own { IfOk result (λ known. HaveOwnIds known.items) }
@@ -234,9 +234,9 @@ fn same_run(known: &[(u8, u32, u32)], run: &[Slot]) -> bool
     requires { length known.now ≡ length run.now }
     ensures { result ≡ true ↔ AreOf (entries_of run.now) known.now }
 {
-    for place in 0..run.len() {
-        let entry = &run[place].entry;
-        let key = &known[place];
+    for position in 0..run.len() {
+        let entry = &run[position].entry;
+        let key = &known[position];
         if entry.id != key.2 || entry.priority != 255 - key.0 {
             return false;
         }

@@ -2,13 +2,13 @@
 //!
 //! A step is a line, of a word and numbers, and tells what starts. These functions are the only ones that
 //! hold a round.
-use crate::tables::{Led, consume_of, single_of, songs, told_of_two};
+use crate::tables::{Led, consume_of, observed_of_two, single_of, songs};
 use play_order::{Consume, Ending, Modes, Round, Single};
 use queue_tests::steps::{first_word, number_of, two_numbers};
 use song_queue::{Entry, Queue};
 use std::alloc::{AllocError, Global};
 use std::collections::HashSet;
-use test_texts::Told;
+use test_texts::Recorder;
 
 #[derive(Drop)]
 struct Course {
@@ -32,24 +32,24 @@ fn opened(alloc: Global) -> Course {
 }
 
 /// What is answered to what only changes something. That there was no memory for it is kept.
-fn done(told: &mut Told, changed: Result<(), AllocError>) -> &'static str {
+fn done(observed: &mut Recorder, changed: Result<(), AllocError>) -> &'static str {
     if changed.is_err() {
-        told.fail();
+        observed.fail();
     }
     "ok"
 }
 
 /// Puts so many songs at the end.
-fn add(told: &mut Told, course: &mut Course, alloc: Global, count: usize) -> &'static str {
+fn add(observed: &mut Recorder, course: &mut Course, alloc: Global, count: usize) -> &'static str {
     let Ok(songs) = songs(alloc, "a", count) else {
-        return done(told, Err(AllocError));
+        return done(observed, Err(AllocError));
     };
     let len = songs.items().len();
     if !course.queue.has_room(len) || !course.queue.has_ids(len) {
         return "full";
     }
     let at = course.queue.len();
-    done(told, course.round.insert(&mut course.queue, at, songs))
+    done(observed, course.round.insert(&mut course.queue, at, songs))
 }
 
 /// Sets the modes from four numbers: repeat, random, single and consume, where 2 is oneshot.
@@ -66,23 +66,28 @@ fn set_modes(course: &mut Course, given: &str) {
 }
 
 /// Turns random order on, with a current song or none.
-fn randomize(told: &mut Told, course: &mut Course, current: Option<u32>) -> &'static str {
+fn randomize(observed: &mut Recorder, course: &mut Course, current: Option<u32>) -> &'static str {
     course.modes.random = true;
-    done(told, course.round.randomized(&course.queue, current))
+    done(observed, course.round.randomized(&course.queue, current))
 }
 
 fn prioritize(course: &mut Course, given: &str) -> &'static str {
-    let (priority, place) = two_numbers(given);
-    let place = place as usize;
+    let (priority, position) = two_numbers(given);
+    let position = position as usize;
     let priority = (priority % 256) as u8;
-    match course.queue.set_prio(&[place..place + 1], priority) {
+    match course.queue.set_prio(&[position..position + 1], priority) {
         Ok(()) => "ok",
         Err(_) => "refused",
     }
 }
 
 /// Shuffles the entries of a range, or takes them out, of which none is current.
-fn change_range(told: &mut Told, course: &mut Course, word: &str, given: &str) -> &'static str {
+fn change_range(
+    observed: &mut Recorder,
+    course: &mut Course,
+    word: &str,
+    given: &str,
+) -> &'static str {
     let (start, end) = two_numbers(given);
     let (start, end) = (start as usize, end as usize);
     if start > end || end > course.queue.len() {
@@ -93,12 +98,12 @@ fn change_range(told: &mut Told, course: &mut Course, word: &str, given: &str) -
     } else {
         course.round.remove(&mut course.queue, start..end)
     };
-    done(told, changed)
+    done(observed, changed)
 }
 
 /// What is answered to a step that changes something and starts nothing; an empty text to another step.
 fn change(
-    told: &mut Told,
+    observed: &mut Recorder,
     course: &mut Course,
     alloc: Global,
     word: &str,
@@ -106,12 +111,12 @@ fn change(
 ) -> &'static str {
     let number = number_of(given);
     match word {
-        "add" => return add(told, course, alloc, number as usize),
-        "shuffle" | "delete" => return change_range(told, course, word, given),
+        "add" => return add(observed, course, alloc, number as usize),
+        "shuffle" | "delete" => return change_range(observed, course, word, given),
         "prio" => return prioritize(course, given),
-        "random" => return randomize(told, course, None),
-        "random-at" => return randomize(told, course, Some(number)),
-        "start" => return done(told, course.round.started(course.modes, number)),
+        "random" => return randomize(observed, course, None),
+        "random-at" => return randomize(observed, course, Some(number)),
+        "start" => return done(observed, course.round.started(course.modes, number)),
         "modes" => set_modes(course, given),
         "in-order" => {
             course.modes.random = false;
@@ -123,25 +128,25 @@ fn change(
 }
 
 /// Adds an id, or that there is none.
-fn add_id(told: &mut Told, id: Option<u32>) {
+fn add_id(observed: &mut Recorder, id: Option<u32>) {
     match id {
-        Some(id) => told.add(id),
-        None => told.add("none"),
+        Some(id) => observed.add(id),
+        None => observed.add("none"),
     }
 }
 
-fn add_entry(told: &mut Told, entry: Option<&Entry>) {
+fn add_entry(observed: &mut Recorder, entry: Option<&Entry>) {
     match entry {
-        Some(entry) => told.add(entry.id),
-        None => told.add("none"),
+        Some(entry) => observed.add(entry.id),
+        None => observed.add("none"),
     }
 }
 
 /// Adds what was found to start.
-fn add_found(told: &mut Told, found: Result<Option<u32>, AllocError>) {
+fn add_found(observed: &mut Recorder, found: Result<Option<u32>, AllocError>) {
     match found {
-        Ok(id) => add_id(told, id),
-        Err(_) => told.fail(),
+        Ok(id) => add_id(observed, id),
+        Err(_) => observed.fail(),
     }
 }
 
@@ -162,19 +167,19 @@ fn consume_text(consume: Consume) -> &'static str {
 }
 
 /// Adds what an end led to; the modes that it left are those of the next step.
-fn add_ending(told: &mut Told, course: &mut Course, ending: Ending) {
+fn add_ending(observed: &mut Recorder, course: &mut Course, ending: Ending) {
     course.modes = ending.modes;
-    add_id(told, ending.starts);
-    told.add(", current ");
-    add_id(told, ending.current);
+    add_id(observed, ending.starts);
+    observed.add(", current ");
+    add_id(observed, ending.current);
     let single = single_text(ending.modes.single);
     let consume = consume_text(ending.modes.consume);
     let len = course.queue.len();
-    told.add(format_args!(", single {single}, consume {consume}, {len} left"));
+    observed.add(format_args!(", single {single}, consume {consume}, {len} left"));
 }
 
 /// Adds what a song's end by itself or by `next` leads to, which has to be as foretold.
-fn add_end(told: &mut Told, course: &mut Course, word: &str, id: u32) {
+fn add_end(observed: &mut Recorder, course: &mut Course, word: &str, id: u32) {
     let modes = course.modes;
     let (foretold, ending) = if word == "next" {
         let starts = course.round.starts_after_next(modes, &course.queue, id);
@@ -188,22 +193,22 @@ fn add_end(told: &mut Told, course: &mut Course, word: &str, id: u32) {
     match ending {
         Ok(ending) => {
             if foretold == ending.starts.is_some() {
-                add_ending(told, course, ending);
+                add_ending(observed, course, ending);
             } else {
-                told.add("not as foretold");
+                observed.add("not as foretold");
             }
         }
-        Err(_) => told.fail(),
+        Err(_) => observed.fail(),
     }
 }
 
 /// Takes the entries of a range out, of which one is current, and adds what starts, where it was said before
 /// that something does.
-fn add_removal(told: &mut Told, course: &mut Course, given: &str) {
+fn add_removal(observed: &mut Recorder, course: &mut Course, given: &str) {
     let (start, end) = two_numbers(given);
     let (start, end) = (start as usize, end as usize);
     if start > end || end > course.queue.len() {
-        return told.add("bad index");
+        return observed.add("bad index");
     }
     let starts = course
         .round
@@ -214,38 +219,38 @@ fn add_removal(told: &mut Told, course: &mut Course, given: &str) {
     match found {
         Ok(id) => {
             if starts == id.is_some() {
-                add_id(told, id);
+                add_id(observed, id);
             } else {
-                told.add("not as foretold");
+                observed.add("not as foretold");
             }
         }
-        Err(_) => told.fail(),
+        Err(_) => observed.fail(),
     }
 }
 
 /// Adds the ids of the queue, with a space before each.
-fn add_ids(told: &mut Told, course: &Course) {
-    for place in 0..course.queue.len() {
-        if let Some(entry) = course.queue.get(place) {
+fn add_ids(observed: &mut Recorder, course: &Course) {
+    for position in 0..course.queue.len() {
+        if let Some(entry) = course.queue.get(position) {
             let id = entry.id;
-            told.add(format_args!(" {id}"));
+            observed.add(format_args!(" {id}"));
         }
     }
 }
 
-/// Adds version and parity of the queue, the places that changed since a version, and the ids.
-fn add_queue(told: &mut Told, course: &Course, version: u32) {
+/// Adds version and parity of the queue, the positions that changed since a version, and the ids.
+fn add_queue(observed: &mut Recorder, course: &Course, version: u32) {
     let now = course.queue.version();
     let parity = course.queue.parity();
-    told.add(format_args!("version {now}, parity {parity}, changed"));
-    let Ok(places) = course.queue.changed_since(version) else {
-        return told.fail();
+    observed.add(format_args!("version {now}, parity {parity}, changed"));
+    let Ok(positions) = course.queue.changed_since(version) else {
+        return observed.fail();
     };
-    for place in places.as_slice() {
-        told.add(format_args!(" {place}"));
+    for position in positions.as_slice() {
+        observed.add(format_args!(" {position}"));
     }
-    told.add(", ids");
-    add_ids(told, course);
+    observed.add(", ids");
+    add_ids(observed, course);
 }
 
 /// How many different songs, from the one on that opens, `next` starts until none is left; 0 where more than so
@@ -265,29 +270,32 @@ fn count_started(course: &mut Course, alloc: Global, count: usize) -> Result<usi
     Ok(if current.is_some() { 0 } else { seen.len() })
 }
 
-fn add_count(told: &mut Told, course: &mut Course, alloc: Global, count: usize) {
+fn add_count(observed: &mut Recorder, course: &mut Course, alloc: Global, count: usize) {
     match count_started(course, alloc, count) {
-        Ok(count) => told.add(count),
-        Err(_) => told.fail(),
+        Ok(count) => observed.add(count),
+        Err(_) => observed.fail(),
     }
 }
 
 /// Adds what a step shows, or what it starts.
-fn show(told: &mut Told, course: &mut Course, alloc: Global, word: &str, given: &str) {
+fn show(observed: &mut Recorder, course: &mut Course, alloc: Global, word: &str, given: &str) {
     let id = number_of(given);
     match word {
-        "ids" => add_ids(told, course),
-        "queue" => add_queue(told, course, id),
-        "peek" => add_entry(told, course.round.peek(course.modes, &course.queue, id)),
-        "before" => add_entry(told, course.round.before(course.modes, &course.queue, id)),
-        "open" => add_found(told, course.round.opening(course.modes, &course.queue)),
+        "ids" => add_ids(observed, course),
+        "queue" => add_queue(observed, course, id),
+        "peek" => add_entry(observed, course.round.peek(course.modes, &course.queue, id)),
+        "before" => add_entry(
+            observed,
+            course.round.before(course.modes, &course.queue, id),
+        ),
+        "open" => add_found(observed, course.round.opening(course.modes, &course.queue)),
         "previous" => {
             let found = course.round.after_previous(course.modes, &course.queue, id);
-            add_found(told, found);
+            add_found(observed, found);
         }
-        "delete-current" => add_removal(told, course, given),
-        "count" => add_count(told, course, alloc, id as usize),
-        _ => add_end(told, course, word, id),
+        "delete-current" => add_removal(observed, course, given),
+        "count" => add_count(observed, course, alloc, id as usize),
+        _ => add_end(observed, course, word, id),
     }
 }
 
@@ -302,21 +310,21 @@ impl Led for Course {
     }
 
     /// Adds a step and what it tells, on a line each, where that is more than `ok`.
-    fn step(&mut self, told: &mut Told, alloc: Global, line: &str) {
+    fn step(&mut self, observed: &mut Recorder, alloc: Global, line: &str) {
         let (word, given) = first_word(line);
-        let answer = change(told, self, alloc, word, given);
+        let answer = change(observed, self, alloc, word, given);
         if answer == "ok" {
             return;
         }
-        told.add(format_args!("{line}\n{answer}"));
+        observed.add(format_args!("{line}\n{answer}"));
         if answer.is_empty() {
-            show(told, self, alloc, word, given);
+            show(observed, self, alloc, word, given);
         }
-        told.add("\n");
+        observed.add("\n");
     }
 }
 
 /// What the steps tell, with each step that tells more than `ok` and a line for what it tells.
-pub fn told(alloc: Global, steps: &str) -> Result<String, AllocError> {
-    told_of_two(alloc, opened(alloc), opened(alloc), steps)
+pub fn observed(alloc: Global, steps: &str) -> Result<String, AllocError> {
+    observed_of_two(alloc, opened(alloc), opened(alloc), steps)
 }

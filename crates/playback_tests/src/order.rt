@@ -1,6 +1,6 @@
 //! Worked rows of the order of play. The ids that random orders give are those of `rand_pcg` in Rust, seeded
 //! with 0.
-use crate::course::told;
+use crate::course::observed;
 use std::test::Fail;
 use test_texts::wants;
 
@@ -341,7 +341,7 @@ const ROWS: &[(&str, &str)] = &[
 #[test]
 fn orders_of_play(rt: HostRuntime) -> Result<(), Fail> {
     for (steps, tells) in ROWS.iter() {
-        wants(told(rt.alloc(), steps), tells)?;
+        wants(observed(rt.alloc(), steps), tells)?;
     }
     Ok(())
 }

@@ -1,6 +1,6 @@
 //! Worked rows of the player. The first two words of the generator rise, so the first song comes first in
 //! random order.
-use crate::seat::told;
+use crate::seat::observed;
 use std::test::Fail;
 use test_texts::wants;
 
@@ -258,7 +258,7 @@ const ROWS: &[(u32, &str, &str)] = &[
 #[test]
 fn players(rt: HostRuntime) -> Result<(), Fail> {
     for (max_cut, steps, tells) in ROWS.iter() {
-        wants(told(rt.alloc(), *max_cut, steps), tells)?;
+        wants(observed(rt.alloc(), *max_cut, steps), tells)?;
     }
     Ok(())
 }

@@ -2,12 +2,12 @@
 //!
 //! A step is a line, of a word and numbers, and tells what is answered. These functions are the only ones
 //! that hold a player.
-use crate::tables::{Led, consume_of, single_of, songs, told_of_two};
+use crate::tables::{Led, consume_of, observed_of_two, single_of, songs};
 use player_core::{Job, Playback, Player, PlayerFault};
 use queue_tests::steps::{first_word, number_of, two_numbers};
 use song_queue::Queue;
 use std::alloc::{AllocError, Global};
-use test_texts::Told;
+use test_texts::Recorder;
 
 /// Frames a second.
 const RATE: u32 = 8000;
@@ -19,9 +19,9 @@ struct Seat {
 }
 
 /// Puts the song of a letter at the end. That there was no memory for it is kept.
-fn add(told: &mut Told, seat: &mut Seat, alloc: Global, letter: &str) -> &'static str {
+fn add(observed: &mut Recorder, seat: &mut Seat, alloc: Global, letter: &str) -> &'static str {
     let Ok(songs) = songs(alloc, letter, 1) else {
-        told.fail();
+        observed.fail();
         return "no songs";
     };
     let count = songs.items().len();
@@ -30,7 +30,7 @@ fn add(told: &mut Told, seat: &mut Seat, alloc: Global, letter: &str) -> &'stati
     }
     let at = seat.queue.len();
     if seat.player.insert(&mut seat.queue, at, songs).is_err() {
-        told.fail();
+        observed.fail();
     }
     "ok"
 }
@@ -50,7 +50,7 @@ fn remove(seat: &mut Seat, start: usize, end: usize) -> &'static str {
     word(seat.player.remove(&mut seat.queue, start..end))
 }
 
-/// Plays the entry at a place, or with no place.
+/// Plays the entry at a position, or with no position.
 fn play(seat: &mut Seat, given: &str) -> &'static str {
     if given.is_empty() {
         return word(seat.player.play(&seat.queue));
@@ -61,8 +61,8 @@ fn play(seat: &mut Seat, given: &str) -> &'static str {
     }
 }
 
-fn seek(seat: &mut Seat, place: u32, frame: u32) -> &'static str {
-    match seat.queue.get(place as usize) {
+fn seek(seat: &mut Seat, position: u32, frame: u32) -> &'static str {
+    match seat.queue.get(position as usize) {
         Some(entry) => word(seat.player.seek(entry, u64::from(frame))),
         None => "bad index",
     }
@@ -92,7 +92,7 @@ fn set(player: &mut Player, word_of: &str, number: u32) -> &'static str {
 
 /// What is answered to a step that moves, adds, takes out or sets something.
 fn answer(
-    told: &mut Told,
+    observed: &mut Recorder,
     seat: &mut Seat,
     alloc: Global,
     word_of: &str,
@@ -100,7 +100,7 @@ fn answer(
 ) -> &'static str {
     let (first, second) = two_numbers(given);
     match word_of {
-        "add" => add(told, seat, alloc, given),
+        "add" => add(observed, seat, alloc, given),
         "play" => play(seat, given),
         "stop" => word(seat.player.stop()),
         "next" => word(seat.player.next(&mut seat.queue)),
@@ -117,31 +117,31 @@ fn answer(
 }
 
 /// Adds number, id, first frame and count of a job, and its part of a fade.
-fn add_job(told: &mut Told, job: Job) {
+fn add_job(observed: &mut Recorder, job: Job) {
     let (number, id, from, count) = (job.number, job.id, job.from, job.count);
-    told.add(format_args!("job {number} {id} {from} {count}"));
+    observed.add(format_args!("job {number} {id} {from} {count}"));
     if let Some(part) = job.fade {
         let (partner, index, len) = (part.partner, part.index, part.len);
-        told.add(format_args!(" fade {partner} {index} {len}"));
+        observed.add(format_args!(" fade {partner} {index} {len}"));
     }
 }
 
-fn want(told: &mut Told, seat: &mut Seat, enabled: bool, owes: bool) {
+fn want(observed: &mut Recorder, seat: &mut Seat, enabled: bool, owes: bool) {
     match seat.player.want(RATE, &mut seat.queue, enabled, owes) {
-        Ok(Some(job)) => add_job(told, job),
-        Ok(None) => told.add("none"),
-        Err(fault) => told.add(word(Err(fault))),
+        Ok(Some(job)) => add_job(observed, job),
+        Ok(None) => observed.add("none"),
+        Err(fault) => observed.add(word(Err(fault))),
     }
 }
 
-fn have(told: &mut Told, seat: &mut Seat, number: u32, count: u32) {
+fn have(observed: &mut Recorder, seat: &mut Seat, number: u32, count: u32) {
     match seat
         .player
         .have(&mut seat.queue, u64::from(number), u64::from(count))
     {
-        Ok(Some(cut)) => told.add(format_args!("feed {cut}")),
-        Ok(None) => told.add("stale"),
-        Err(fault) => told.add(word(Err(fault))),
+        Ok(Some(cut)) => observed.add(format_args!("feed {cut}")),
+        Ok(None) => observed.add("stale"),
+        Err(fault) => observed.add(word(Err(fault))),
     }
 }
 
@@ -161,19 +161,19 @@ fn next_id(seat: &Seat) -> u32 {
     }
 }
 
-/// Adds state, current song, or 0 for none, place, starts, cuts, what would come next, how many entries, and the
+/// Adds state, current song, or 0 for none, offset, starts, cuts, what would come next, how many entries, and the
 /// error.
-fn show(told: &mut Told, seat: &Seat) {
+fn show(observed: &mut Recorder, seat: &Seat) {
     let state = playback_text(seat.player.playback());
     let current = seat.player.current().unwrap_or(0);
-    let place = seat.player.place();
+    let offset = seat.player.offset();
     let starts = seat.player.starts();
     let cuts = seat.player.cuts();
     let next = next_id(seat);
     let len = seat.queue.len();
     let error = seat.player.error().unwrap_or("no error");
-    told.add(format_args!(
-        "{state} {current} at {place}, {starts} starts, {cuts} cuts, next {next}, {len} entries, {error}"
+    observed.add(format_args!(
+        "{state} {current} at {offset}, {starts} starts, {cuts} cuts, next {next}, {len} entries, {error}"
     ));
 }
 
@@ -187,32 +187,32 @@ impl Led for Seat {
     }
 
     /// Adds what a step tells, on a line, where that is more than `ok`.
-    fn step(&mut self, told: &mut Told, alloc: Global, line: &str) {
+    fn step(&mut self, observed: &mut Recorder, alloc: Global, line: &str) {
         let (word_of, given) = first_word(line);
         let (first, second) = two_numbers(given);
         match word_of {
-            "show" => show(told, self),
-            "want" => want(told, self, first == 0, second == 1),
-            "have" => have(told, self, first, second),
+            "show" => show(observed, self),
+            "want" => want(observed, self, first == 0, second == 1),
+            "have" => have(observed, self, first, second),
             _ => {
-                let answer = answer(told, self, alloc, word_of, given);
+                let answer = answer(observed, self, alloc, word_of, given);
                 if answer == "ok" {
                     return;
                 }
-                told.add(answer);
+                observed.add(answer);
             }
         }
-        told.add("\n");
+        observed.add("\n");
     }
 }
 
 /// What the steps tell, with a line for each that tells more than `ok`. The player's numbers go up to a
 /// greatest one.
-pub fn told(alloc: Global, max_cut: u32, steps: &str) -> Result<String, AllocError> {
+pub fn observed(alloc: Global, max_cut: u32, steps: &str) -> Result<String, AllocError> {
     let seat = Seat {
         player: Player::new(alloc, 0, u64::from(max_cut)),
         queue: Queue::new(alloc, 16384, 2147483647, 2147483647),
     };
     let kept = seat.image()?;
-    told_of_two(alloc, seat, kept, steps)
+    observed_of_two(alloc, seat, kept, steps)
 }

@@ -8,7 +8,7 @@ use song_db::SharedSong;
 use std::alloc::{AllocError, Global};
 use std::mem;
 use test_songs::song;
-use test_texts::Told;
+use test_texts::Recorder;
 
 /// The song of a letter, without tags: `a`, `b` and `c` are of one, two and three seconds, others of four
 /// frames.
@@ -60,32 +60,38 @@ pub trait Led: Sized + Drop {
     fn image(&self) -> Result<Self, AllocError>;
 
     /// Takes a step, and adds what it tells.
-    fn step(&mut self, told: &mut Told, alloc: Global, line: &str);
+    fn step(&mut self, observed: &mut Recorder, alloc: Global, line: &str);
 }
 
-/// Takes a step, which may be `keep`, that takes an image, or `back`, at which one and its image change places.
-fn step_of_two<L: Led>(told: &mut Told, led: &mut L, kept: &mut L, alloc: Global, line: &str) {
+/// Takes a step, which may be `keep`, that takes an image, or `back`, at which one and its image change positions.
+fn step_of_two<L: Led>(
+    observed: &mut Recorder,
+    led: &mut L,
+    kept: &mut L,
+    alloc: Global,
+    line: &str,
+) {
     match line {
         "keep" => match led.image() {
             Ok(image) => *kept = image,
-            Err(_) => told.fail(),
+            Err(_) => observed.fail(),
         },
         "back" => mem::swap(led, kept),
-        _ => led.step(told, alloc, line),
+        _ => led.step(observed, alloc, line),
     }
 }
 
 /// What the steps tell that lead one of two, which are alike.
-pub fn told_of_two<L: Led>(
+pub fn observed_of_two<L: Led>(
     alloc: Global,
     led: L,
     kept: L,
     steps: &str,
 ) -> Result<String, AllocError> {
     let (mut led, mut kept) = (led, kept);
-    let mut told = Told::new(alloc);
+    let mut observed = Recorder::new(alloc);
     for line in steps.lines() {
-        step_of_two(&mut told, &mut led, &mut kept, alloc, line);
+        step_of_two(&mut observed, &mut led, &mut kept, alloc, line);
     }
-    told.into_text()
+    observed.into_text()
 }

@@ -11,11 +11,11 @@ use Rattle.play_order.specs.declared.modes.Consume.TheVariants as consume
 use Rattle.play_order.specs.Draws.{RoundState, is_among, moved_last, others}
 use Rattle.play_order.specs.Draws as draws
 use Rattle.play_order.specs.Order as order
-use Rattle.play_order.specs.Order.{begun, entry_of, left_by, place_of, round_for}
+use Rattle.play_order.specs.Order.{begun, entry_of, left_by, entry_position, round_for}
 use Rattle.play_order.specs.Ends as ends
 use Rattle.play_order.specs.Ends.{Following, id_of, last_of, played_before}
 use Rattle.play_order.specs.Choices.{AllWerePlayed, BecomesRound, EndsIn, Follows, FollowsBy, FollowsInQueue, FollowsInRound, ForgetsGone, HaveOwnIds, KeepsRound, left_after}
-use Rattle.play_order.proofs.Choices.{opening-becomes, opening-first, opening-follows, ahead-follows, keeps, none-apart, nothing-ahead, rounds_forget_gone, among-last, chooses_unplayed, consumes_one, contains-among, entry-found, follows_places, rounds_go_on, get-there, get-within, in-filter, last-among, not-left, of-filter, place-at}
+use Rattle.play_order.proofs.Choices.{opening-becomes, opening-first, opening-follows, ahead-follows, keeps, none-apart, nothing-ahead, rounds_forget_gone, among-last, chooses_unplayed, consumes_one, contains-among, entry-found, follows_positions, rounds_go_on, get-there, get-within, in-filter, last-among, not-left, of-filter, position-at}
 use Rattle.play_order.proofs.Going.{without-none}
 use Rattle.play_order.proofs.Firsts.{Distinct, distinct-from}
 use Rattle.play_order.proofs.Ids.{among-moved_last, among-others}
@@ -24,27 +24,27 @@ use Rattle.player_core.specs.declared.state.Playback.TheVariants.{Stop, Play, Pa
 use Rattle.player_core.specs.Player as player
 use Rattle.player_core.specs.Player.{PlayerState, Stepped}
 use Rattle.player_core.specs.Steps as steps
-use Rattle.player_core.specs.Choices.{NothingAhead, Opens, OpensWith, PeekForetells, PlayBegins, StartsAnew, Starts, Stops, ConsumesOnce, DeletionsGoOn, EndHasCause, EndsByRule, EndsStopForACause, GoesOn, GoesOnWithout, GoesPast, IsBefore, IsBeforeBy, IsPlaceBefore, IsPlayedBefore, LeavesPlayed, NextByRule, NextGoesOn, PlayedAreQueued, PreviousByRule, PreviousConsumesNothing, SingleRepeats, SingleStops, StartsOrStops, StaysIfQueued, StaysStopped, StopsOnce, played_beside}
+use Rattle.player_core.specs.Choices.{NothingAhead, Opens, OpensWith, PeekForetells, PlayBegins, StartsAnew, Starts, Stops, ConsumesOnce, DeletionsGoOn, EndHasCause, EndsByRule, EndsStopForACause, GoesOn, GoesOnWithout, GoesPast, IsBefore, IsBeforeBy, IsPositionBefore, IsPlayedBefore, LeavesPlayed, NextByRule, NextGoesOn, PlayedAreQueued, PreviousByRule, PreviousConsumesNothing, SingleRepeats, SingleStops, StartsOrStops, StaysIfQueued, StaysStopped, StopsOnce, played_beside}
 use Rattle.play_order.specs.Choices.FollowsInRound.{RoundIsOver}
 use Rattle.player_core.specs.Choices.OpensWith.{FirstStarts, NothingStarts}
 use Rattle.player_core.specs.Choices.NothingAhead.{PlayerStops, NeedsNewRound}
 use Rattle.player_core.specs.Choices.StartsOrStops.{OneStarts, NoneStarts}
 use Rattle.player_core.specs.Choices.SingleStops.{Once, WithoutRepeat, SongIsGone}
 use Rattle.player_core.specs.Choices.EndHasCause.{OrderGoesOn, PlaysAgain, StopsBySingle}
-use Rattle.player_core.specs.Choices.IsPlaceBefore.{PlaceBefore, LastPlace, SamePlace}
+use Rattle.player_core.specs.Choices.IsPositionBefore.{PositionBefore, LastPosition, SamePosition}
 use Rattle.player_core.specs.Choices.IsPlayedBefore.{PlayedBefore, NoneBefore}
 
 -- what follows, by whether the order is random
-by-order : (modes : Modes) (round : RoundState) (entries left : List Entry) (place : ℕ) (o : Option Entry) → (modes.random ≡ true → FollowsInRound modes.repeat round left o)
-    → (modes.random ≡ false → FollowsInQueue modes.repeat entries left place o) → Follows modes round entries left place o
-by-order modes round entries left place o h k =
-    elim (modes.random) as (λ v. modes.random ≡ v → FollowsBy v modes round entries left place o) [ true ↦ λ e. h e | false ↦ λ e. k e ] refl
+by-order : (modes : Modes) (round : RoundState) (entries left : List Entry) (position : ℕ) (o : Option Entry) → (modes.random ≡ true → FollowsInRound modes.repeat round left o)
+    → (modes.random ≡ false → FollowsInQueue modes.repeat entries left position o) → Follows modes round entries left position o
+by-order modes round entries left position o h k =
+    elim (modes.random) as (λ v. modes.random ≡ v → FollowsBy v modes round entries left position o) [ true ↦ λ e. h e | false ↦ λ e. k e ] refl
 
-follows-end : (modes : Modes) (round : RoundState) (entries : List Entry) (song : Entry) (place : ℕ) → HaveOwnIds entries → slice_get entries place ≡ Some song
-    → Follows modes round entries (left_after modes.consume entries place) (place + 1) (ends.after_next modes round entries song.id).entry
-follows-end modes round entries song place own at =
-    by-order modes round entries (left_after modes.consume entries place) (place + 1) (ends.after_next modes round entries song.id).entry
-    (λ r. chooses_unplayed.at_end modes round entries place song r own at) (λ r. follows_places.at_end modes round entries place song r own at)
+follows-end : (modes : Modes) (round : RoundState) (entries : List Entry) (song : Entry) (position : ℕ) → HaveOwnIds entries → slice_get entries position ≡ Some song
+    → Follows modes round entries (left_after modes.consume entries position) (position + 1) (ends.after_next modes round entries song.id).entry
+follows-end modes round entries song position own at =
+    by-order modes round entries (left_after modes.consume entries position) (position + 1) (ends.after_next modes round entries song.id).entry
+    (λ r. chooses_unplayed.at_end modes round entries position song r own at) (λ r. follows_positions.at_end modes round entries position song r own at)
 
 -- an entry that starts in random order is the last that was played
 started-last : (modes : Modes) (round : RoundState) (id : ℕ) → modes.random ≡ true → EndsIn (order.started modes round id).played id
@@ -58,7 +58,7 @@ starts-or-stops p modes round playback frame (Some e) same =
     OneStarts e (record {
       current = refl;
       playback = refl;
-      place = refl;
+      offset = refl;
       starts = refl;
       error = refl;
       job = refl;
@@ -66,16 +66,16 @@ starts-or-stops p modes round playback frame (Some e) same =
       played = λ r. started-last modes round e.id (same ∙ r);
     })
 
-on-round : (p : PlayerState) (playback : Playback) (starts : Option ℕ) (place : ℕ) (current : Option ℕ) → (player.goes_on p playback starts place current).round ≡ p.round
-on-round p playback None place current = refl
-on-round p playback (Some id) place current = refl
+on-round : (p : PlayerState) (playback : Playback) (starts : Option ℕ) (offset : ℕ) (current : Option ℕ) → (player.goes_on p playback starts offset current).round ≡ p.round
+on-round p playback None offset current = refl
+on-round p playback (Some id) offset current = refl
 
-goes : (p : PlayerState) (modes : Modes) (round : RoundState) (playback : Playback) (entries left : List Entry) (place frame : ℕ) (o : Option Entry) → modes.random ≡ p.modes.random
-    → Follows p.modes p.round entries left place o
+goes : (p : PlayerState) (modes : Modes) (round : RoundState) (playback : Playback) (entries left : List Entry) (position frame : ℕ) (o : Option Entry) → modes.random ≡ p.modes.random
+    → Follows p.modes p.round entries left position o
     → (p.modes.random ≡ true → BecomesRound p.round (begun modes round o) entries left o)
     → (p.modes.random ≡ false → ForgetsGone p.round (begun modes round o) entries left)
-    → GoesOn p (player.goes_on (record p { modes = modes; round = begun modes round o }) playback (id_of o) frame None) playback entries left place frame
-goes p modes round playback entries left place frame o same h k l =
+    → GoesOn p (player.goes_on (record p { modes = modes; round = begun modes round o }) playback (id_of o) frame None) playback entries left position frame
+goes p modes round playback entries left position frame o same h k l =
     let after : (player.goes_on (record p { modes = modes; round = begun modes round o }) playback (id_of o) frame None).round ≡ begun modes round o =
     on-round (record p { modes = modes; round = begun modes round o }) playback (id_of o) frame None in
     record {
@@ -98,19 +98,19 @@ plain-round modes other rest left (Some e) h k =
 
 cut-starts : (p q : PlayerState) (playback : Playback) (frame : ℕ) (o : Option Entry) → StartsOrStops p q playback frame o → StartsOrStops p (player.cut q) playback frame o
 cut-starts p q playback frame _ (OneStarts e s) =
-    OneStarts e (record { current = s.current; playback = s.playback; place = s.place; starts = s.starts; error = s.error; job = s.job; fade = s.fade; played = s.played })
+    OneStarts e (record { current = s.current; playback = s.playback; offset = s.offset; starts = s.starts; error = s.error; job = s.job; fade = s.fade; played = s.played })
 cut-starts p q playback frame _ (NoneStarts s) = NoneStarts (record { current = s.current; playback = s.playback; starts = s.starts; job = s.job; fade = s.fade })
 
-goes-cut : (p q : PlayerState) (playback : Playback) (entries left : List Entry) (place frame : ℕ) → GoesOn p q playback entries left place frame → GoesOn p (player.cut q) playback entries left place frame
-goes-cut p q playback entries left place frame h = record { entry = h.entry; follows = h.follows; starts = cut-starts p q playback frame h.entry h.starts; at_random = h.at_random; in_order = h.in_order }
+goes-cut : (p q : PlayerState) (playback : Playback) (entries left : List Entry) (position frame : ℕ) → GoesOn p q playback entries left position frame → GoesOn p (player.cut q) playback entries left position frame
+goes-cut p q playback entries left position frame h = record { entry = h.entry; follows = h.follows; starts = cut-starts p q playback frame h.entry h.starts; at_random = h.at_random; in_order = h.in_order }
 
-on-modes : (p : PlayerState) (playback : Playback) (starts : Option ℕ) (place : ℕ) (current : Option ℕ) → (player.goes_on p playback starts place current).modes ≡ p.modes
-on-modes p playback None place current = refl
-on-modes p playback (Some id) place current = refl
+on-modes : (p : PlayerState) (playback : Playback) (starts : Option ℕ) (offset : ℕ) (current : Option ℕ) → (player.goes_on p playback starts offset current).modes ≡ p.modes
+on-modes p playback None offset current = refl
+on-modes p playback (Some id) offset current = refl
 
-on-cuts : (p : PlayerState) (playback : Playback) (starts : Option ℕ) (place : ℕ) (current : Option ℕ) → (player.goes_on p playback starts place current).cuts ≡ p.cuts
-on-cuts p playback None place current = refl
-on-cuts p playback (Some id) place current = refl
+on-cuts : (p : PlayerState) (playback : Playback) (starts : Option ℕ) (offset : ℕ) (current : Option ℕ) → (player.goes_on p playback starts offset current).cuts ≡ p.cuts
+on-cuts p playback None offset current = refl
+on-cuts p playback (Some id) offset current = refl
 
 -- what was to act once
 consume-stays : (c : Consume) → c ≢ consume.Oneshot → ends.consume_after c ≡ c
@@ -132,10 +132,10 @@ consumes-once modes after c r n = record {
 }
 
 -- a song that has ended stays current, or is gone
-stays-by : (c : Consume) (entries : List Entry) (song : Entry) (place : ℕ) → Distinct entries → slice_get entries place ≡ Some song → StaysIfQueued (left_after c entries place) song (cond (ends.consumes c) None (Some song.id))
-stays-by consume.Off entries song place d at = record { queued = λ h. refl; gone = λ h. absurd (h (get-there entries place song at)) }
-stays-by consume.On entries song place d at = record { queued = λ h. absurd (not-left entries place song d at h); gone = λ h. refl }
-stays-by consume.Oneshot entries song place d at = record { queued = λ h. absurd (not-left entries place song d at h); gone = λ h. refl }
+stays-by : (c : Consume) (entries : List Entry) (song : Entry) (position : ℕ) → Distinct entries → slice_get entries position ≡ Some song → StaysIfQueued (left_after c entries position) song (cond (ends.consumes c) None (Some song.id))
+stays-by consume.Off entries song position d at = record { queued = λ h. refl; gone = λ h. absurd (h (get-there entries position song at)) }
+stays-by consume.On entries song position d at = record { queued = λ h. absurd (not-left entries position song d at h); gone = λ h. refl }
+stays-by consume.Oneshot entries song position d at = record { queued = λ h. absurd (not-left entries position song d at h); gone = λ h. refl }
 
 off-by : (c : Consume) → ends.consumes c ≡ false → c ≡ consume.Off
 off-by consume.Off h = refl
@@ -158,54 +158,54 @@ again-by modes entries song on found =
     ] refl
 
 -- a song that plays again stays in its round
-kept-again : (p : PlayerState) (modes : Modes) (entries : List Entry) (song : Entry) (place : ℕ) → SingleRepeats p.modes → modes.random ≡ true → Contains entries song
-    → KeepsRound p.round (begun modes (ends.round_left p.modes p.round song.id) (Some song)) entries (left_after p.modes.consume entries place) song
-kept-again p modes entries song place h random here =
+kept-again : (p : PlayerState) (modes : Modes) (entries : List Entry) (song : Entry) (position : ℕ) → SingleRepeats p.modes → modes.random ≡ true → Contains entries song
+    → KeepsRound p.round (begun modes (ends.round_left p.modes p.round song.id) (Some song)) entries (left_after p.modes.consume entries position) song
+kept-again p modes entries song position h random here =
     let rest : ends.round_left p.modes p.round song.id ≡ p.round = ap (λ (c : Consume). cond (ends.consumes c) (draws.without p.round (song.id ∷ [])) p.round) h.consume in
-    let left : left_after p.modes.consume entries place ≡ entries = ap (λ (c : Consume). left_after c entries place) h.consume in
+    let left : left_after p.modes.consume entries position ≡ entries = ap (λ (c : Consume). left_after c entries position) h.consume in
     let round : RoundState = record p.round { played = moved_last p.round.played song.id } in
     let after : begun modes (ends.round_left p.modes p.round song.id) (Some song) ≡ round =
     ap (λ (r : RoundState). order.started modes r song.id) rest ∙ ap (λ (b : Bool). cond b round p.round) random in
     let kept : KeepsRound p.round round entries entries song =
     subst (λ (r : RoundState). KeepsRound p.round (record r { played = moved_last r.played song.id }) entries entries song) (without-none p.round) (keeps p.round [] entries entries song (none-apart entries) (λ x there new. there) here) in
-    subst (λ (r : RoundState). KeepsRound p.round r entries (left_after p.modes.consume entries place) song) (sym after) (subst (λ (xs : List Entry). KeepsRound p.round round entries xs song) (sym left) kept)
+    subst (λ (r : RoundState). KeepsRound p.round r entries (left_after p.modes.consume entries position) song) (sym after) (subst (λ (xs : List Entry). KeepsRound p.round round entries xs song) (sym left) kept)
 
 stays-again : (p : PlayerState) (modes : Modes) (song : Entry) → SingleRepeats p.modes → modes.random ≡ false → begun modes (ends.round_left p.modes p.round song.id) (Some song) ≡ p.round
 stays-again p modes song h order =
     let rest : RoundState = ends.round_left p.modes p.round song.id in
     ap (λ (b : Bool). cond b (record rest { played = moved_last rest.played song.id }) rest) order ∙ ap (λ (c : Consume). cond (ends.consumes c) (draws.without p.round (song.id ∷ [])) p.round) h.consume
 
-again-goes : (p : PlayerState) (modes : Modes) (entries : List Entry) (song : Entry) (place frame : ℕ) (current : Option ℕ) (o : Option Entry) → modes.random ≡ p.modes.random → HaveOwnIds entries
-    → slice_get entries place ≡ Some song → Again p.modes song o → StaysIfQueued (left_after p.modes.consume entries place) song current
-    → EndHasCause p (player.goes_on (record p { modes = modes; round = begun modes (ends.round_left p.modes p.round song.id) o }) p.playback (id_of o) frame current) entries (left_after p.modes.consume entries place) song place frame
-again-goes p modes entries song place frame current _ same own at (Plays h) k =
+again-goes : (p : PlayerState) (modes : Modes) (entries : List Entry) (song : Entry) (position frame : ℕ) (current : Option ℕ) (o : Option Entry) → modes.random ≡ p.modes.random → HaveOwnIds entries
+    → slice_get entries position ≡ Some song → Again p.modes song o → StaysIfQueued (left_after p.modes.consume entries position) song current
+    → EndHasCause p (player.goes_on (record p { modes = modes; round = begun modes (ends.round_left p.modes p.round song.id) o }) p.playback (id_of o) frame current) entries (left_after p.modes.consume entries position) song position frame
+again-goes p modes entries song position frame current _ same own at (Plays h) k =
     PlaysAgain h
     (record {
       current = refl;
       playback = refl;
-      place = refl;
+      offset = refl;
       starts = refl;
       error = refl;
       job = refl;
       fade = refl;
       played = λ r. started-last modes (ends.round_left p.modes p.round song.id) song.id (same ∙ r);
     })
-    (λ r. kept-again p modes entries song place h (same ∙ r) (get-there entries place song at))
+    (λ r. kept-again p modes entries song position h (same ∙ r) (get-there entries position song at))
     (λ r. stays-again p modes song h (same ∙ r))
-again-goes p modes entries song place frame current _ same own at (Ceases h) k =
-    StopsBySingle current h k (record { current = refl; playback = refl; starts = refl; job = refl; fade = refl }) (rounds_forget_gone.consumed p.modes p.round entries place song own at)
+again-goes p modes entries song position frame current _ same own at (Ceases h) k =
+    StopsBySingle current h k (record { current = refl; playback = refl; starts = refl; job = refl; fade = refl }) (rounds_forget_gone.consumed p.modes p.round entries position song own at)
 
 -- a song ends by itself
 abbrev ended-by : PlayerState → ℕ → Following → Stepped
 ended-by p frame f = record { player = player.goes_on (steps.behind p f) p.playback (id_of f.entry) frame f.current; edit = Some f.left }
 
-rule : (p : PlayerState) (entries : List Entry) (song : Entry) (place frame : ℕ) (f : Following)
-    → f.left ≡ left_after p.modes.consume entries place
+rule : (p : PlayerState) (entries : List Entry) (song : Entry) (position frame : ℕ) (f : Following)
+    → f.left ≡ left_after p.modes.consume entries position
     → ConsumesOnce p.modes f.modes
     → StopsOnce p.modes f.modes
-    → EndHasCause p (ended-by p frame f).player entries (left_after p.modes.consume entries place) song place frame
-    → EndsByRule p entries song place frame (ended-by p frame f)
-rule p entries song place frame f left c s cause =
+    → EndHasCause p (ended-by p frame f).player entries (left_after p.modes.consume entries position) song position frame
+    → EndsByRule p entries song position frame (ended-by p frame f)
+rule p entries song position frame f left c s cause =
     let modes : (ended-by p frame f).player.modes ≡ f.modes = on-modes (steps.behind p f) p.playback (id_of f.entry) frame f.current in
     record {
       queue = ap Some left;
@@ -215,60 +215,60 @@ rule p entries song place frame f left c s cause =
       cause = cause;
     }
 
-forgets-end : (p : PlayerState) (modes : Modes) (entries : List Entry) (song : Entry) (place : ℕ) (o : Option Entry) → p.modes.random ≡ false → modes.random ≡ false → HaveOwnIds entries
-    → slice_get entries place ≡ Some song
-    → ForgetsGone p.round (begun modes (round_for p.modes (ends.round_left p.modes p.round song.id) (ends.entries_left p.modes entries song.id)) o) entries (left_after p.modes.consume entries place)
-forgets-end p modes entries song place o h k own at =
-    subst (λ (r : RoundState). ForgetsGone p.round r entries (left_after p.modes.consume entries place))
-    (sym (plain-round p.modes modes (ends.round_left p.modes p.round song.id) (ends.entries_left p.modes entries song.id) o h k)) (rounds_forget_gone.consumed p.modes p.round entries place song own at)
+forgets-end : (p : PlayerState) (modes : Modes) (entries : List Entry) (song : Entry) (position : ℕ) (o : Option Entry) → p.modes.random ≡ false → modes.random ≡ false → HaveOwnIds entries
+    → slice_get entries position ≡ Some song
+    → ForgetsGone p.round (begun modes (round_for p.modes (ends.round_left p.modes p.round song.id) (ends.entries_left p.modes entries song.id)) o) entries (left_after p.modes.consume entries position)
+forgets-end p modes entries song position o h k own at =
+    subst (λ (r : RoundState). ForgetsGone p.round r entries (left_after p.modes.consume entries position))
+    (sym (plain-round p.modes modes (ends.round_left p.modes p.round song.id) (ends.entries_left p.modes entries song.id) o h k)) (rounds_forget_gone.consumed p.modes p.round entries position song own at)
 
-ends-by : (p : PlayerState) (entries : List Entry) (song : Entry) (place frame : ℕ) → HaveOwnIds entries → slice_get entries place ≡ Some song → (s : Single) → p.modes.single ≡ s
-    → EndsByRule p entries song place frame (ended-by p frame (ends.end_by s p.modes p.round entries song.id))
-ends-by p entries song place frame own at single.Off e =
+ends-by : (p : PlayerState) (entries : List Entry) (song : Entry) (position frame : ℕ) → HaveOwnIds entries → slice_get entries position ≡ Some song → (s : Single) → p.modes.single ≡ s
+    → EndsByRule p entries song position frame (ended-by p frame (ends.end_by s p.modes p.round entries song.id))
+ends-by p entries song position frame own at single.Off e =
     let f : Following = ends.in_order p.modes p.round entries song.id in
-    rule p entries song place frame f (consumes_one p.modes p.round entries place song own at) (consumes-once p.modes f.modes refl refl refl)
+    rule p entries song position frame f (consumes_one p.modes p.round entries position song own at) (consumes-once p.modes f.modes refl refl refl)
     (record { once = λ h. e; single = λ h. refl })
     (OrderGoesOn e
-    (goes p f.modes f.round p.playback entries (left_after p.modes.consume entries place) (place + 1) frame f.entry refl (follows-end p.modes p.round entries song place own at)
-    (λ r. rounds_go_on.at_end p.modes p.round entries place song r own at)
-    (λ r. forgets-end p f.modes entries song place f.entry r r own at)))
-ends-by p entries song place frame own at single.On e =
+    (goes p f.modes f.round p.playback entries (left_after p.modes.consume entries position) (position + 1) frame f.entry refl (follows-end p.modes p.round entries song position own at)
+    (λ r. rounds_go_on.at_end p.modes p.round entries position song r own at)
+    (λ r. forgets-end p f.modes entries song position f.entry r r own at)))
+ends-by p entries song position frame own at single.On e =
     let f : Following = ends.alone p.modes p.round entries song.id (ends.again p.modes entries song.id) in
     let d : Distinct entries = distinct-from entries own in
-    rule p entries song place frame f (consumes_one p.modes p.round entries place song own at) (consumes-once p.modes f.modes refl refl refl)
+    rule p entries song position frame f (consumes_one p.modes p.round entries position song own at) (consumes-once p.modes f.modes refl refl refl)
     (record { once = λ h. ap ends.single_after h; single = λ h. single-stays p.modes.single h })
-    (again-goes p f.modes entries song place frame f.current f.entry refl own at (again-by p.modes entries song e (entry-found entries song d (get-there entries place song at)))
-    (stays-by p.modes.consume entries song place d at))
-ends-by p entries song place frame own at single.Oneshot e =
+    (again-goes p f.modes entries song position frame f.current f.entry refl own at (again-by p.modes entries song e (entry-found entries song d (get-there entries position song at)))
+    (stays-by p.modes.consume entries song position d at))
+ends-by p entries song position frame own at single.Oneshot e =
     let f : Following = ends.alone p.modes p.round entries song.id None in
     let d : Distinct entries = distinct-from entries own in
-    rule p entries song place frame f (consumes_one p.modes p.round entries place song own at) (consumes-once p.modes f.modes refl refl refl)
+    rule p entries song position frame f (consumes_one p.modes p.round entries position song own at) (consumes-once p.modes f.modes refl refl refl)
     (record { once = λ h. ap ends.single_after h; single = λ h. single-stays p.modes.single h })
-    (again-goes p f.modes entries song place frame f.current None refl own at (Ceases (Once e)) (stays-by p.modes.consume entries song place d at))
+    (again-goes p f.modes entries song position frame f.current None refl own at (Ceases (Once e)) (stays-by p.modes.consume entries song position d at))
 
 pub ends_stop_for_a_cause : EndsStopForACause
-ends_stop_for_a_cause p entries song place frame own at = ends-by p entries song place frame own at p.modes.single refl
+ends_stop_for_a_cause p entries song position frame own at = ends-by p entries song position frame own at p.modes.single refl
 
 -- a song ends by `next`
-next-by : (p : PlayerState) (entries : List Entry) (song : Entry) (place : ℕ) → HaveOwnIds entries → slice_get entries place ≡ Some song → NextByRule p entries place (steps.next_by p entries (Some song.id))
-next-by p entries song place own at =
+next-by : (p : PlayerState) (entries : List Entry) (song : Entry) (position : ℕ) → HaveOwnIds entries → slice_get entries position ≡ Some song → NextByRule p entries position (steps.next_by p entries (Some song.id))
+next-by p entries song position own at =
     let f : Following = ends.after_next p.modes p.round entries song.id in
     let q : PlayerState = player.goes_on (steps.behind p f) Play (id_of f.entry) 0 f.current in
     let modes : q.modes ≡ f.modes = on-modes (steps.behind p f) Play (id_of f.entry) 0 f.current in
     record {
-      queue = ap Some (consumes_one p.modes p.round entries place song own at);
+      queue = ap Some (consumes_one p.modes p.round entries position song own at);
       consume = subst (λ (m : Modes). ConsumesOnce p.modes m) (sym modes) (consumes-once p.modes f.modes refl refl refl);
       single = ap (λ (m : Modes). m.single) modes;
       cuts = ap (λ (n : ℕ). n + 1) (on-cuts (steps.behind p f) Play (id_of f.entry) 0 f.current);
-      goes_on = goes-cut p q Play entries (left_after p.modes.consume entries place) (place + 1) 0
-          (goes p f.modes f.round Play entries (left_after p.modes.consume entries place) (place + 1) 0 f.entry refl (follows-end p.modes p.round entries song place own at)
-          (λ r. rounds_go_on.at_end p.modes p.round entries place song r own at)
-          (λ r. forgets-end p f.modes entries song place f.entry r r own at));
+      goes_on = goes-cut p q Play entries (left_after p.modes.consume entries position) (position + 1) 0
+          (goes p f.modes f.round Play entries (left_after p.modes.consume entries position) (position + 1) 0 f.entry refl (follows-end p.modes p.round entries song position own at)
+          (λ r. rounds_go_on.at_end p.modes p.round entries position song r own at)
+          (λ r. forgets-end p f.modes entries song position f.entry r r own at));
     }
 
 pub next_goes_on : NextGoesOn
 next_goes_on = record {
-  song = λ p entries song place own at current. subst (λ (o : Option ℕ). NextByRule p entries place (steps.next_by p entries o)) (sym current) (next-by p entries song place own at);
+  song = λ p entries song position own at current. subst (λ (o : Option ℕ). NextByRule p entries position (steps.next_by p entries o)) (sym current) (next-by p entries song position own at);
   no_song = λ p entries current. ap (steps.next_by p entries) current;
 }
 
@@ -287,31 +287,31 @@ ends-there : (ids earlier : List ℕ) (id : ℕ) → ids ≡ earlier ++ id ∷ [
 ends-there ids earlier id e = subst (λ (xs : List ℕ). Contains xs id) (sym e) (Contains-push earlier id)
 
 -- what `previous` goes back to
-data Back (p : PlayerState) (entries : List Entry) (song : Entry) (place : ℕ) : Option Entry → Type 0 where
-  To : (entry : Entry) → IsBefore p entries song place entry → Back p entries song place (Some entry)
+data Back (p : PlayerState) (entries : List Entry) (song : Entry) (position : ℕ) : Option Entry → Type 0 where
+  To : (entry : Entry) → IsBefore p entries song position entry → Back p entries song position (Some entry)
 
-in-round : (p : PlayerState) (entries : List Entry) (song : Entry) (place : ℕ) (entry : Entry) → p.modes.random ≡ true → IsPlayedBefore p.round.played entries song entry → IsBefore p entries song place entry
-in-round p entries song place entry random h = subst (λ (b : Bool). IsBeforeBy b p entries song place entry) (sym random) h
+in-round : (p : PlayerState) (entries : List Entry) (song : Entry) (position : ℕ) (entry : Entry) → p.modes.random ≡ true → IsPlayedBefore p.round.played entries song entry → IsBefore p entries song position entry
+in-round p entries song position entry random h = subst (λ (b : Bool). IsBeforeBy b p entries song position entry) (sym random) h
 
-in-queue : (p : PlayerState) (entries : List Entry) (song : Entry) (place : ℕ) (entry : Entry) → p.modes.random ≡ false → IsPlaceBefore p.modes.repeat entries place entry → IsBefore p entries song place entry
-in-queue p entries song place entry order h = subst (λ (b : Bool). IsBeforeBy b p entries song place entry) (sym order) h
+in-queue : (p : PlayerState) (entries : List Entry) (song : Entry) (position : ℕ) (entry : Entry) → p.modes.random ≡ false → IsPositionBefore p.modes.repeat entries position entry → IsBefore p entries song position entry
+in-queue p entries song position entry order h = subst (λ (b : Bool). IsBeforeBy b p entries song position entry) (sym order) h
 
-back-played : (p : PlayerState) (entries : List Entry) (song : Entry) (place id : ℕ) → p.modes.random ≡ true → Distinct entries → EndsIn (played_beside p.round.played song.id) id
-    → (entry : Entry) × Contains entries entry × (entry.id ≡ id) → Back p entries song place (entry_of entries id)
-back-played p entries song place id random d last (entry, there, e) =
+back-played : (p : PlayerState) (entries : List Entry) (song : Entry) (position id : ℕ) → p.modes.random ≡ true → Distinct entries → EndsIn (played_beside p.round.played song.id) id
+    → (entry : Entry) × Contains entries entry × (entry.id ≡ id) → Back p entries song position (entry_of entries id)
+back-played p entries song position id random d last (entry, there, e) =
     let found : entry_of entries id ≡ Some entry = ap (entry_of entries) (sym e) ∙ entry-found entries entry d there in
-    subst (λ (o : Option Entry). Back p entries song place o) (sym found)
-    (To entry (in-round p entries song place entry random (PlayedBefore there (subst (λ (n : ℕ). EndsIn (played_beside p.round.played song.id) n) (sym e) last))))
+    subst (λ (o : Option Entry). Back p entries song position o) (sym found)
+    (To entry (in-round p entries song position entry random (PlayedBefore there (subst (λ (n : ℕ). EndsIn (played_beside p.round.played song.id) n) (sym e) last))))
 
-back-random : (p : PlayerState) (entries : List Entry) (song : Entry) (place : ℕ) → p.modes.random ≡ true → Distinct entries → PlayedAreQueued p.round.played entries → Contains entries song
-    → Back p entries song place (entry_of entries (unwrap_or (last_of (played_before p.round song.id)) song.id))
-back-random p entries song place random d queued there =
-    elim (last_of (played_before p.round song.id)) as (λ o. last_of (played_before p.round song.id) ≡ o → Back p entries song place (entry_of entries (unwrap_or o song.id))) [
-      | None ↦ λ e. subst (λ (o : Option Entry). Back p entries song place o) (sym (entry-found entries song d there)) (To song (in-round p entries song place song random (NoneBefore (none-last (played_before p.round song.id) e) refl)))
+back-random : (p : PlayerState) (entries : List Entry) (song : Entry) (position : ℕ) → p.modes.random ≡ true → Distinct entries → PlayedAreQueued p.round.played entries → Contains entries song
+    → Back p entries song position (entry_of entries (unwrap_or (last_of (played_before p.round song.id)) song.id))
+back-random p entries song position random d queued there =
+    elim (last_of (played_before p.round song.id)) as (λ o. last_of (played_before p.round song.id) ≡ o → Back p entries song position (entry_of entries (unwrap_or o song.id))) [
+      | None ↦ λ e. subst (λ (o : Option Entry). Back p entries song position o) (sym (entry-found entries song d there)) (To song (in-round p entries song position song random (NoneBefore (none-last (played_before p.round song.id) e) refl)))
       | Some id ↦ λ e.
           let last = last-of (played_before p.round song.id) id e in
           let played : Contains p.round.played id = (of-filter (λ other. not (other == song.id)) p.round.played id (ends-there (played_before p.round song.id) last.0 id last.1)).0 in
-          back-played p entries song place id random d last (queued id played)
+          back-played p entries song position id random d last (queued id played)
     ] refl
 
 get-inside : (entries : List Entry) (n : ℕ) → n < length entries → slice_get entries n ≡ None → ⊥
@@ -319,38 +319,38 @@ get-inside [] n l e = omega (arith, l)
 get-inside (x ∷ entries) zero l e = cc
 get-inside (x ∷ entries) (suc n) l e = get-inside entries n (omega (arith, l)) e
 
-some-at : (p : PlayerState) (entries : List Entry) (song : Entry) (place n : ℕ) → n < length entries → ((entry : Entry) → slice_get entries n ≡ Some entry → IsBefore p entries song place entry)
-    → Back p entries song place (slice_get entries n)
-some-at p entries song place n l h =
-    elim (slice_get entries n) as (λ o. slice_get entries n ≡ o → Back p entries song place o) [ None ↦ λ e. absurd (get-inside entries n l e) | Some entry ↦ λ e. To entry (h entry e) ] refl
+some-at : (p : PlayerState) (entries : List Entry) (song : Entry) (position n : ℕ) → n < length entries → ((entry : Entry) → slice_get entries n ≡ Some entry → IsBefore p entries song position entry)
+    → Back p entries song position (slice_get entries n)
+some-at p entries song position n l h =
+    elim (slice_get entries n) as (λ o. slice_get entries n ≡ o → Back p entries song position o) [ None ↦ λ e. absurd (get-inside entries n l e) | Some entry ↦ λ e. To entry (h entry e) ] refl
 
 back-last : (p : PlayerState) (entries : List Entry) (song : Entry) → p.modes.random ≡ false → p.modes.repeat ≡ true → 0 < length entries → Back p entries song 0 (slice_get entries (length entries - 1))
 back-last p entries song order r l =
-    some-at p entries song 0 (length entries - 1) (omega (arith, l)) (λ entry e. in-queue p entries song 0 entry order (LastPlace (length entries - 1) refl r (omega (arith, l)) e))
+    some-at p entries song 0 (length entries - 1) (omega (arith, l)) (λ entry e. in-queue p entries song 0 entry order (LastPosition (length entries - 1) refl r (omega (arith, l)) e))
 
-back-one : (p : PlayerState) (entries : List Entry) (song : Entry) (k : ℕ) → p.modes.random ≡ false → suc k < length entries → Back p entries song (suc k) (slice_get entries (ends.place_before p.modes.repeat entries (suc k)))
+back-one : (p : PlayerState) (entries : List Entry) (song : Entry) (k : ℕ) → p.modes.random ≡ false → suc k < length entries → Back p entries song (suc k) (slice_get entries (ends.position_before p.modes.repeat entries (suc k)))
 back-one p entries song k order l =
     let more : (suc k == 0) ≡ false = grind arith in
-    let one : ends.place_before p.modes.repeat entries (suc k) ≡ k = ap (λ (b : Bool). cond (b && p.modes.repeat) (length entries - 1) (suc k - 1)) more ∙ omega arith in
+    let one : ends.position_before p.modes.repeat entries (suc k) ≡ k = ap (λ (b : Bool). cond (b && p.modes.repeat) (length entries - 1) (suc k - 1)) more ∙ omega arith in
     subst (λ (n : ℕ). Back p entries song (suc k) (slice_get entries n)) (sym one)
-    (some-at p entries song (suc k) k (omega (arith, l)) (λ entry e. in-queue p entries song (suc k) entry order (PlaceBefore k (omega arith) e)))
+    (some-at p entries song (suc k) k (omega (arith, l)) (λ entry e. in-queue p entries song (suc k) entry order (PositionBefore k (omega arith) e)))
 
-back-place : (p : PlayerState) (entries : List Entry) (song : Entry) (place : ℕ) → p.modes.random ≡ false → slice_get entries place ≡ Some song
-    → Back p entries song place (slice_get entries (ends.place_before p.modes.repeat entries place))
-back-place p entries song zero order at =
-    elim (p.modes.repeat) as (λ v. p.modes.repeat ≡ v → Back p entries song 0 (slice_get entries (ends.place_before v entries 0))) [
+back-position : (p : PlayerState) (entries : List Entry) (song : Entry) (position : ℕ) → p.modes.random ≡ false → slice_get entries position ≡ Some song
+    → Back p entries song position (slice_get entries (ends.position_before p.modes.repeat entries position))
+back-position p entries song zero order at =
+    elim (p.modes.repeat) as (λ v. p.modes.repeat ≡ v → Back p entries song 0 (slice_get entries (ends.position_before v entries 0))) [
       | true ↦ λ r. back-last p entries song order r (get-within entries 0 song at)
-      | false ↦ λ r. subst (λ (o : Option Entry). Back p entries song 0 o) (sym at) (To song (in-queue p entries song 0 song order (SamePlace refl r at)))
+      | false ↦ λ r. subst (λ (o : Option Entry). Back p entries song 0 o) (sym at) (To song (in-queue p entries song 0 song order (SamePosition refl r at)))
     ] refl
-back-place p entries song (suc k) order at = back-one p entries song k order (get-within entries (suc k) song at)
+back-position p entries song (suc k) order at = back-one p entries song k order (get-within entries (suc k) song at)
 
-back : (p : PlayerState) (entries : List Entry) (song : Entry) (place : ℕ) → Distinct entries → PlayedAreQueued p.round.played entries → slice_get entries place ≡ Some song
-    → Back p entries song place (ends.before p.modes p.round entries song.id)
-back p entries song place d queued at =
-    let here : place_of entries song.id ≡ place = place-at entries place song d at in
-    elim (p.modes.random) as (λ v. p.modes.random ≡ v → Back p entries song place (cond v (entry_of entries (unwrap_or (last_of (played_before p.round song.id)) song.id)) (slice_get entries (ends.place_before p.modes.repeat entries (place_of entries song.id))))) [
-      | true ↦ λ r. back-random p entries song place r d queued (get-there entries place song at)
-      | false ↦ λ r. subst (λ (n : ℕ). Back p entries song place (slice_get entries (ends.place_before p.modes.repeat entries n))) (sym here) (back-place p entries song place r at)
+back : (p : PlayerState) (entries : List Entry) (song : Entry) (position : ℕ) → Distinct entries → PlayedAreQueued p.round.played entries → slice_get entries position ≡ Some song
+    → Back p entries song position (ends.before p.modes p.round entries song.id)
+back p entries song position d queued at =
+    let here : entry_position entries song.id ≡ position = position-at entries position song d at in
+    elim (p.modes.random) as (λ v. p.modes.random ≡ v → Back p entries song position (cond v (entry_of entries (unwrap_or (last_of (played_before p.round song.id)) song.id)) (slice_get entries (ends.position_before p.modes.repeat entries (entry_position entries song.id))))) [
+      | true ↦ λ r. back-random p entries song position r d queued (get-there entries position song at)
+      | false ↦ λ r. subst (λ (n : ℕ). Back p entries song position (slice_get entries (ends.position_before p.modes.repeat entries n))) (sym here) (back-position p entries song position r at)
     ] refl
 
 -- the song that is left is played no more, but where it starts again
@@ -383,12 +383,12 @@ still-played played song entry id differ h =
     let apart : not (id == song) ≡ true = grind (arith, differ) in
     last-among id entry (others song played) (inl (in-filter (λ other. not (other == song)) played id apart h))
 
-leaves-played : (p : PlayerState) (entries : List Entry) (song : Entry) (place : ℕ) (entry : Entry) (after : PlayerState) → p.modes.random ≡ true → IsBefore p entries song place entry
+leaves-played : (p : PlayerState) (entries : List Entry) (song : Entry) (position : ℕ) (entry : Entry) (after : PlayerState) → p.modes.random ≡ true → IsBefore p entries song position entry
     → after.round ≡ begun p.modes (ends.round_before p.modes p.round song.id) (Some entry) → LeavesPlayed p after song entry
-leaves-played p entries song place entry after random h e =
+leaves-played p entries song position entry after random h e =
     let round : RoundState = record p.round { played = moved_last (others song.id p.round.played) entry.id } in
     let same : after.round ≡ round = e ∙ sym (back-round p.modes p.round song entry random) in
-    let back : IsPlayedBefore p.round.played entries song entry = subst (λ (b : Bool). IsBeforeBy b p entries song place entry) random h in
+    let back : IsPlayedBefore p.round.played entries song entry = subst (λ (b : Bool). IsBeforeBy b p entries song position entry) random h in
     record {
       leaves = λ differ there. not-played p.round.played song.id entry.id differ (subst (λ (r : RoundState). Contains r.played song.id) same there);
       others = λ id differ. (
@@ -404,23 +404,23 @@ same-round modes round song entry random =
     let back : RoundState = ends.round_before modes round song.id in
     ap (λ (b : Bool). cond b (record back { played = moved_last back.played entry.id }) back) random ∙ ap (λ (b : Bool). cond b (record round { played = played_before round song.id }) round) random
 
-gone-back : (p : PlayerState) (entries : List Entry) (song : Entry) (place : ℕ) (o : Option Entry) → Back p entries song place o
-    → PreviousByRule p entries song place (player.starts_by_hand (record p { round = begun p.modes (ends.round_before p.modes p.round song.id) o }) Play (id_of o) 0)
-gone-back p entries song place _ (To entry h) =
+gone-back : (p : PlayerState) (entries : List Entry) (song : Entry) (position : ℕ) (o : Option Entry) → Back p entries song position o
+    → PreviousByRule p entries song position (player.starts_by_hand (record p { round = begun p.modes (ends.round_before p.modes p.round song.id) o }) Play (id_of o) 0)
+gone-back p entries song position _ (To entry h) =
     record {
       entry = entry;
       is_before = h;
       starts = record {
         current = refl;
         playback = refl;
-        place = refl;
+        offset = refl;
         starts = refl;
         error = refl;
         job = refl;
         fade = refl;
         played = λ r. started-last p.modes (ends.round_before p.modes p.round song.id) entry.id r;
       };
-      played = λ r. leaves-played p entries song place entry (player.starts_by_hand (record p { round = begun p.modes (ends.round_before p.modes p.round song.id) (Some entry) }) Play (Some entry.id) 0) r h refl;
+      played = λ r. leaves-played p entries song position entry (player.starts_by_hand (record p { round = begun p.modes (ends.round_before p.modes p.round song.id) (Some entry) }) Play (Some entry.id) 0) r h refl;
       round = λ r. same-round p.modes p.round song entry r;
       cuts = refl;
       modes = refl;
@@ -428,9 +428,9 @@ gone-back p entries song place _ (To entry h) =
 
 pub previous_consumes_nothing : PreviousConsumesNothing
 previous_consumes_nothing = record {
-  song = λ p entries song place own queued at current.
-      subst (λ (o : Option ℕ). PreviousByRule p entries song place (steps.previous_by p entries o)) (sym current)
-      (gone-back p entries song place (ends.before p.modes p.round entries song.id) (back p entries song place (distinct-from entries own) queued at));
+  song = λ p entries song position own queued at current.
+      subst (λ (o : Option ℕ). PreviousByRule p entries song position (steps.previous_by p entries o)) (sym current)
+      (gone-back p entries song position (ends.before p.modes p.round entries song.id) (back p entries song position (distinct-from entries own) queued at));
   no_song = λ p entries current. ap (steps.previous_by p entries) current;
 }
 
@@ -449,10 +449,10 @@ is-outside n from end (inr h) = grind (arith, h)
 is-inside : (n from end : ℕ) → from ≤ n → n < end → (nat_le from n && nat_lt n end) ≡ true
 is-inside n from end h k = grind (arith, h, k)
 
-held : (p : PlayerState) (entries : List Entry) (song : Entry) (place from end : ℕ) (b : Bool) → Distinct entries → slice_get entries place ≡ Some song → p.current ≡ Some song.id
-    → (nat_le from place && nat_lt place end) ≡ b → steps.holds_current entries p.current from end ≡ b
-held p entries song place from end b d at current h =
-    let here : place_of entries song.id ≡ place = place-at entries place song d at in
+held : (p : PlayerState) (entries : List Entry) (song : Entry) (position from end : ℕ) (b : Bool) → Distinct entries → slice_get entries position ≡ Some song → p.current ≡ Some song.id
+    → (nat_le from position && nat_lt position end) ≡ b → steps.holds_current entries p.current from end ≡ b
+held p entries song position from end b d at current h =
+    let here : entry_position entries song.id ≡ position = position-at entries position song d at in
     ap (λ (o : Option ℕ). steps.holds_current entries o from end) current ∙ ap (λ (n : ℕ). nat_le from n && nat_lt n end) here ∙ h
 
 pub playing-on : (p : PlayerState) (entries : List Entry) (from end : ℕ) → HaveOwnIds entries → from ≤ end → end ≤ length entries → (b : Bool) → b ≡ false
@@ -467,7 +467,7 @@ playing-on p entries from end own sorted within false h =
     record {
       goes_on = goes-cut p q p.playback entries left end 0
           (goes p p.modes round p.playback entries left end 0 next refl
-          (by-order p.modes p.round entries left end next (λ r. chooses_unplayed.at_removal p.modes p.round entries from end r own sorted) (λ r. follows_places.at_removal p.modes p.round entries from end r sorted within))
+          (by-order p.modes p.round entries left end next (λ r. chooses_unplayed.at_removal p.modes p.round entries from end r own sorted) (λ r. follows_positions.at_removal p.modes p.round entries from end r sorted within))
           (λ r. rounds_go_on.at_removal p.modes p.round entries from end r own sorted)
           (λ r. subst (λ (x : RoundState). ForgetsGone p.round x entries left) (sym (plain-round p.modes p.modes (draws.without p.round (order.ids_taken entries from end)) left next r r)) (rounds_forget_gone.deleted p.round entries from end own sorted)));
       cuts = ap (λ (n : ℕ). n + 1) (on-cuts before p.playback (id_of next) 0 None);
@@ -481,16 +481,16 @@ is-going Pause h = refl
 
 pub deletions_go_on : DeletionsGoOn
 deletions_go_on = record {
-  outside = λ p entries song place from end own at current sorted apart.
-      goes-past p (steps.goes_on_without p entries from end) entries from end (steps.holds_current entries p.current from end) own sorted (held p entries song place from end false (distinct-from entries own) at current (is-outside place from end apart));
+  outside = λ p entries song position from end own at current sorted apart.
+      goes-past p (steps.goes_on_without p entries from end) entries from end (steps.holds_current entries p.current from end) own sorted (held p entries song position from end false (distinct-from entries own) at current (is-outside position from end apart));
   no_song = λ p entries from end own sorted current.
       goes-past p (steps.goes_on_without p entries from end) entries from end (steps.holds_current entries p.current from end) own sorted (ap (λ (o : Option ℕ). steps.holds_current entries o from end) current);
-  played = λ p entries song place from end own at current from_it below_end within going.
-      let holds : steps.holds_current entries p.current from end ≡ true = held p entries song place from end true (distinct-from entries own) at current (is-inside place from end from_it below_end) in
+  played = λ p entries song position from end own at current from_it below_end within going.
+      let holds : steps.holds_current entries p.current from end ≡ true = held p entries song position from end true (distinct-from entries own) at current (is-inside position from end from_it below_end) in
       subst (λ (b : Bool). GoesOnWithout p (cond b (steps.goes_on_without p entries from end) (steps.without p entries from end)) entries from end) (sym holds)
       (playing-on p entries from end own (omega (arith, from_it, below_end)) within (player.is_stopped p.playback) (is-going p.playback going));
-  stopped = λ p entries song place from end own at current from_it below_end stop.
-      let holds : steps.holds_current entries p.current from end ≡ true = held p entries song place from end true (distinct-from entries own) at current (is-inside place from end from_it below_end) in
+  stopped = λ p entries song position from end own at current from_it below_end stop.
+      let holds : steps.holds_current entries p.current from end ≡ true = held p entries song position from end true (distinct-from entries own) at current (is-inside position from end from_it below_end) in
       let halt : player.is_stopped p.playback ≡ true = ap player.is_stopped stop in
       subst (λ (b : Bool). StaysStopped p (cond b (steps.goes_on_without p entries from end) (steps.without p entries from end)) entries (left_by entries from end)) (sym holds)
       (subst (λ (b : Bool). StaysStopped p (cond b (record (steps.without p entries from end) { current = None }) (player.cut (player.goes_on (record p { round = ends.round_after_removal p.modes p.round entries from end }) p.playback (id_of (ends.next_after_removal p.modes p.round entries from end)) 0 None))) entries (left_by entries from end)) (sym halt)
@@ -505,7 +505,7 @@ starts-with p modes round frame current o e same h =
     (record {
       current = refl;
       playback = refl;
-      place = refl;
+      offset = refl;
       starts = refl;
       error = refl;
       job = refl;
@@ -524,33 +524,33 @@ foretold : (p : PlayerState) (entries : List Entry) (song entry : Entry) (frame 
 foretold p entries song entry frame single.Off h =
     let f : Following = ends.in_order p.modes p.round entries song.id in
     starts-with p f.modes f.round frame f.current f.entry entry refl
-    (ahead-follows p.modes (ends.round_left p.modes p.round song.id) (ends.entries_left p.modes entries song.id) (ends.place_after p.modes entries song.id) entry h)
+    (ahead-follows p.modes (ends.round_left p.modes p.round song.id) (ends.entries_left p.modes entries song.id) (ends.position_after p.modes entries song.id) entry h)
 foretold p entries song entry frame single.On h =
     let f : Following = ends.alone p.modes p.round entries song.id (ends.again p.modes entries song.id) in
     starts-with p f.modes f.round frame f.current f.entry entry refl h
 foretold p entries song entry frame single.Oneshot h = cc
 
 -- where nothing is ahead
-ahead-none : (p : PlayerState) (entries : List Entry) (song : Entry) (place frame : ℕ) → p.modes.single ≡ single.Off
-    → ((ends.after_next p.modes p.round entries song.id).entry ≡ None) ⊎ ((p.modes.random ≡ true) × AllWerePlayed p.round.played (left_after p.modes.consume entries place))
-    → NothingAhead p (ended-by p frame (ends.in_order p.modes p.round entries song.id)).player (left_after p.modes.consume entries place)
-ahead-none p entries song place frame off (inl h) = let f : Following = ends.in_order p.modes p.round entries song.id in PlayerStops f.current (stops-with p f.modes f.round frame f.current f.entry h)
-ahead-none p entries song place frame off (inr h) = NeedsNewRound off h.0 h.1
+ahead-none : (p : PlayerState) (entries : List Entry) (song : Entry) (position frame : ℕ) → p.modes.single ≡ single.Off
+    → ((ends.after_next p.modes p.round entries song.id).entry ≡ None) ⊎ ((p.modes.random ≡ true) × AllWerePlayed p.round.played (left_after p.modes.consume entries position))
+    → NothingAhead p (ended-by p frame (ends.in_order p.modes p.round entries song.id)).player (left_after p.modes.consume entries position)
+ahead-none p entries song position frame off (inl h) = let f : Following = ends.in_order p.modes p.round entries song.id in PlayerStops f.current (stops-with p f.modes f.round frame f.current f.entry h)
+ahead-none p entries song position frame off (inr h) = NeedsNewRound off h.0 h.1
 
-foretold-none : (p : PlayerState) (entries : List Entry) (song : Entry) (place frame : ℕ) → HaveOwnIds entries → slice_get entries place ≡ Some song → (s : Single) → p.modes.single ≡ s
-    → ends.peek_by s p.modes p.round entries song.id ≡ None → NothingAhead p (ended-by p frame (ends.end_by s p.modes p.round entries song.id)).player (left_after p.modes.consume entries place)
-foretold-none p entries song place frame own at single.Off e h = ahead-none p entries song place frame e (nothing-ahead p.modes p.round entries place song own at h)
-foretold-none p entries song place frame own at single.On e h =
+foretold-none : (p : PlayerState) (entries : List Entry) (song : Entry) (position frame : ℕ) → HaveOwnIds entries → slice_get entries position ≡ Some song → (s : Single) → p.modes.single ≡ s
+    → ends.peek_by s p.modes p.round entries song.id ≡ None → NothingAhead p (ended-by p frame (ends.end_by s p.modes p.round entries song.id)).player (left_after p.modes.consume entries position)
+foretold-none p entries song position frame own at single.Off e h = ahead-none p entries song position frame e (nothing-ahead p.modes p.round entries position song own at h)
+foretold-none p entries song position frame own at single.On e h =
     let f : Following = ends.alone p.modes p.round entries song.id (ends.again p.modes entries song.id) in
     PlayerStops f.current (stops-with p f.modes f.round frame f.current f.entry h)
-foretold-none p entries song place frame own at single.Oneshot e h =
+foretold-none p entries song position frame own at single.Oneshot e h =
     let f : Following = ends.alone p.modes p.round entries song.id None in
     PlayerStops f.current (stops-with p f.modes f.round frame f.current None refl)
 
 pub peek_foretells : PeekForetells
 peek_foretells = record {
   some = λ p entries song entry frame current h. foretold p entries song entry frame p.modes.single (sym (ap (steps.peek_by p entries) current) ∙ h);
-  none = λ p entries song place frame own at current h. foretold-none p entries song place frame own at p.modes.single refl (sym (ap (steps.peek_by p entries) current) ∙ h);
+  none = λ p entries song position frame own at current h. foretold-none p entries song position frame own at p.modes.single refl (sym (ap (steps.peek_by p entries) current) ∙ h);
 }
 
 -- `play`
@@ -558,7 +558,7 @@ starts-first : (p : PlayerState) (round : RoundState) (e : Entry) → Starts p (
 starts-first p round e = record {
   current = refl;
   playback = refl;
-  place = refl;
+  offset = refl;
   starts = refl;
   error = refl;
   job = refl;

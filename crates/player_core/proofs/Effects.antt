@@ -21,17 +21,17 @@ pub data Effect (p q : PlayerState) : Type 0 where
   Asks : (job : Job) → q.cuts ≡ p.cuts → q.jobs ≡ p.jobs + 1 → q.job ≡ Some job → job.number ≡ p.jobs + 1 → Effect p q
 
 -- an entry starts, or the player stops: nothing that was asked for is left
-on-jobs : (p : PlayerState) (playback : Playback) (starts : Option ℕ) (place : ℕ) (current : Option ℕ) → (player.goes_on p playback starts place current).jobs ≡ p.jobs
-on-jobs p playback None place current = refl
-on-jobs p playback (Some id) place current = refl
+on-jobs : (p : PlayerState) (playback : Playback) (starts : Option ℕ) (offset : ℕ) (current : Option ℕ) → (player.goes_on p playback starts offset current).jobs ≡ p.jobs
+on-jobs p playback None offset current = refl
+on-jobs p playback (Some id) offset current = refl
 
-pub on-job : (p : PlayerState) (playback : Playback) (starts : Option ℕ) (place : ℕ) (current : Option ℕ) → (player.goes_on p playback starts place current).job ≡ None
-on-job p playback None place current = refl
-on-job p playback (Some id) place current = refl
+pub on-job : (p : PlayerState) (playback : Playback) (starts : Option ℕ) (offset : ℕ) (current : Option ℕ) → (player.goes_on p playback starts offset current).job ≡ None
+on-job p playback None offset current = refl
+on-job p playback (Some id) offset current = refl
 
-by_hand : (p : PlayerState) (round : RoundState) (playback : Playback) (starts : Option ℕ) (place : ℕ) → Effect p (player.starts_by_hand (record p { round = round }) playback starts place)
-by_hand p round playback None place = Stays refl refl refl
-by_hand p round playback (Some id) place = Voids refl refl
+by_hand : (p : PlayerState) (round : RoundState) (playback : Playback) (starts : Option ℕ) (offset : ℕ) → Effect p (player.starts_by_hand (record p { round = round }) playback starts offset)
+by_hand p round playback None offset = Stays refl refl refl
+by_hand p round playback (Some id) offset = Voids refl refl
 
 of-next : (p : PlayerState) (entries : List Entry) (current : Option ℕ) → Effect p (steps.next_by p entries current).player
 of-next p entries None = Stays refl refl refl
@@ -74,11 +74,11 @@ of-removed p entries from end =
     (Stays refl refl refl)
 
 -- a song ends by itself
-of-ended : (p : PlayerState) (entries : List Entry) (id accepted place : ℕ) → Effect p (steps.ended (record p { place = accepted }) entries id place).player
-of-ended p entries id accepted place =
+of-ended : (p : PlayerState) (entries : List Entry) (id accepted offset : ℕ) → Effect p (steps.ended (record p { offset = accepted }) entries id offset).player
+of-ended p entries id accepted offset =
     let f = ends.after_end p.modes p.round entries id in
-    let q : PlayerState = steps.behind (record p { place = accepted }) f in
-    Voids (on-jobs q p.playback (ends.id_of f.entry) place f.current) (on-job q p.playback (ends.id_of f.entry) place f.current)
+    let q : PlayerState = steps.behind (record p { offset = accepted }) f in
+    Voids (on-jobs q p.playback (ends.id_of f.entry) offset f.current) (on-job q p.playback (ends.id_of f.entry) offset f.current)
 
 -- two players with the same numbers: cuts, jobs, starts, and their limit
 abbrev pub SameNumbers : PlayerState → PlayerState → Type 0
@@ -91,8 +91,8 @@ checked-numbers p next (Some fade) = elim (decoding.is_entry_with next fade.part
 pub faded-numbers : (rate : ℕ) (p : PlayerState) (entry : Entry) (next : Option Entry) → SameNumbers p (decoding.faded rate p entry next)
 faded-numbers rate p entry None = (refl, refl, refl, refl)
 faded-numbers rate p entry (Some next) =
-    let fading : PlayerState = record p { fade = Some (record { partner = next.id; len = decoding.fade_len rate p.crossfade (entry.song.frames - p.place) next }) } in
-    elim (decoding.can_fade p entry next && nat_le (decoding.fade_place rate p entry next) p.place) as (λ v. SameNumbers p (cond v fading p)) [ true ↦ (refl, refl, refl, refl) | false ↦ (refl, refl, refl, refl) ]
+    let fading : PlayerState = record p { fade = Some (record { partner = next.id; len = decoding.fade_len rate p.crossfade (entry.song.frames - p.offset) next }) } in
+    elim (decoding.can_fade p entry next && nat_le (decoding.fade_offset rate p entry next) p.offset) as (λ v. SameNumbers p (cond v fading p)) [ true ↦ (refl, refl, refl, refl) | false ↦ (refl, refl, refl, refl) ]
 
 -- a job is asked for
 of-job : (rate : ℕ) (p : PlayerState) (entry : Entry) (next : Option Entry) → Effect p (decoding.job_for rate p entry next).stepped.player
@@ -106,8 +106,8 @@ of-job rate p entry next =
 of-want_at : (rate : ℕ) (p : PlayerState) (entries : List Entry) (id : ℕ) (entry : Option Entry) → Effect p (decoding.want_at rate p entries id entry).stepped.player
 of-want_at rate p entries id None = Stays refl refl refl
 of-want_at rate p entries id (Some entry) =
-    elim (nat_le entry.song.frames p.place) as (λ v. Effect p (cond v (record { stepped = steps.ended p entries id 0; job = None }) (decoding.job_for rate p entry (ends.peek p.modes p.round entries id))).stepped.player) [
-      | true ↦ of-ended p entries id p.place 0
+    elim (nat_le entry.song.frames p.offset) as (λ v. Effect p (cond v (record { stepped = steps.ended p entries id 0; job = None }) (decoding.job_for rate p entry (ends.peek p.modes p.round entries id))).stepped.player) [
+      | true ↦ of-ended p entries id p.offset 0
       | false ↦ of-job rate p entry (ends.peek p.modes p.round entries id)
     ]
 
@@ -124,8 +124,8 @@ of-want rate p entries enabled owes =
 
 of-accepted : (p : PlayerState) (entries : List Entry) (job : Job) (count : ℕ) → Effect p (decoding.accepted p entries job count).player
 of-accepted p entries job count =
-    elim (decoding.is_last p entries job count) as (λ v. Effect p (cond v (steps.ended (record p { place = p.place + count }) entries job.id (decoding.mixed job.fade count)) (player.stays (record p { place = p.place + count; job = None }))).player) [
-      | true ↦ of-ended p entries job.id (p.place + count) (decoding.mixed job.fade count)
+    elim (decoding.is_last p entries job count) as (λ v. Effect p (cond v (steps.ended (record p { offset = p.offset + count }) entries job.id (decoding.mixed job.fade count)) (player.stays (record p { offset = p.offset + count; job = None }))).player) [
+      | true ↦ of-ended p entries job.id (p.offset + count) (decoding.mixed job.fade count)
       | false ↦ Voids refl refl
     ]
 

@@ -49,13 +49,13 @@ either : (p q r : PlayerState) (b : Bool) → Rises p q → Rises p r → Rises 
 either p q r true h k = h
 either p q r false h k = k
 
-on : (p : PlayerState) (playback : Playback) (starts : Option ℕ) (place : ℕ) (current : Option ℕ) → Rises p (player.goes_on p playback starts place current)
-on p playback None place current = stays p (player.halted p current) refl refl refl refl
-on p playback (Some id) place current = record { cuts = none p.cuts; starts = one p.starts; jobs = none p.jobs; limit = refl }
+on : (p : PlayerState) (playback : Playback) (starts : Option ℕ) (offset : ℕ) (current : Option ℕ) → Rises p (player.goes_on p playback starts offset current)
+on p playback None offset current = stays p (player.halted p current) refl refl refl refl
+on p playback (Some id) offset current = record { cuts = none p.cuts; starts = one p.starts; jobs = none p.jobs; limit = refl }
 
-on-cut : (p : PlayerState) (playback : Playback) (starts : Option ℕ) (place : ℕ) (current : Option ℕ) → Rises p (player.cut (player.goes_on p playback starts place current))
-on-cut p playback None place current = cuts p (player.cut (player.halted p current)) refl refl refl refl
-on-cut p playback (Some id) place current = record { cuts = one p.cuts; starts = one p.starts; jobs = none p.jobs; limit = refl }
+on-cut : (p : PlayerState) (playback : Playback) (starts : Option ℕ) (offset : ℕ) (current : Option ℕ) → Rises p (player.cut (player.goes_on p playback starts offset current))
+on-cut p playback None offset current = cuts p (player.cut (player.halted p current)) refl refl refl refl
+on-cut p playback (Some id) offset current = record { cuts = one p.cuts; starts = one p.starts; jobs = none p.jobs; limit = refl }
 
 -- the same of a player with these numbers
 over : (p q r : PlayerState) → q.cuts ≡ p.cuts → q.starts ≡ p.starts → q.jobs ≡ p.jobs → q.max_cut ≡ p.max_cut → Rises q r → Rises p r
@@ -66,10 +66,10 @@ over p q r c s j m h = record {
   limit = h.limit ∙ m;
 }
 
-by_hand : (p : PlayerState) (round : RoundState) (playback : Playback) (starts : Option ℕ) (place : ℕ) → Rises p (player.starts_by_hand (record p { round = round }) playback starts place)
-by_hand p round playback None place = stays p (record p { round = round }) refl refl refl refl
-by_hand p round playback (Some id) place =
-    let q : PlayerState = record p { round = round } in over p q (player.cut (player.started q playback id place)) refl refl refl refl (on-cut q playback (Some id) place None)
+by_hand : (p : PlayerState) (round : RoundState) (playback : Playback) (starts : Option ℕ) (offset : ℕ) → Rises p (player.starts_by_hand (record p { round = round }) playback starts offset)
+by_hand p round playback None offset = stays p (record p { round = round }) refl refl refl refl
+by_hand p round playback (Some id) offset =
+    let q : PlayerState = record p { round = round } in over p q (player.cut (player.started q playback id offset)) refl refl refl refl (on-cut q playback (Some id) offset None)
 
 of-next : (p : PlayerState) (entries : List Entry) (current : Option ℕ) → Rises p (steps.next_by p entries current).player
 of-next p entries None = same p
@@ -110,11 +110,11 @@ of-removed p entries from end =
     (either p halted on (player.is_stopped p.playback) (stays p halted refl refl refl refl) (over p q on refl refl refl refl (on-cut q p.playback starts 0 None)))
     (stays p gone refl refl refl refl)
 
-of-ended : (p : PlayerState) (entries : List Entry) (id accepted place : ℕ) → Rises p (steps.ended (record p { place = accepted }) entries id place).player
-of-ended p entries id accepted place =
+of-ended : (p : PlayerState) (entries : List Entry) (id accepted offset : ℕ) → Rises p (steps.ended (record p { offset = accepted }) entries id offset).player
+of-ended p entries id accepted offset =
     let f = ends.after_end p.modes p.round entries id in
-    let q : PlayerState = steps.behind (record p { place = accepted }) f in
-    over p q (player.goes_on q p.playback (ends.id_of f.entry) place f.current) refl refl refl refl (on q p.playback (ends.id_of f.entry) place f.current)
+    let q : PlayerState = steps.behind (record p { offset = accepted }) f in
+    over p q (player.goes_on q p.playback (ends.id_of f.entry) offset f.current) refl refl refl refl (on q p.playback (ends.id_of f.entry) offset f.current)
 
 of-job : (rate : ℕ) (p : PlayerState) (entry : Entry) (next : Option Entry) → Rises p (decoding.job_for rate p entry next).stepped.player
 of-job rate p entry next =
@@ -135,8 +135,8 @@ of-job rate p entry next =
 of-want_at : (rate : ℕ) (p : PlayerState) (entries : List Entry) (id : ℕ) (entry : Option Entry) → Rises p (decoding.want_at rate p entries id entry).stepped.player
 of-want_at rate p entries id None = same p
 of-want_at rate p entries id (Some entry) =
-    elim (nat_le entry.song.frames p.place) as (λ v. Rises p (cond v (record { stepped = steps.ended p entries id 0; job = None }) (decoding.job_for rate p entry (ends.peek p.modes p.round entries id))).stepped.player) [
-      | true ↦ of-ended p entries id p.place 0
+    elim (nat_le entry.song.frames p.offset) as (λ v. Rises p (cond v (record { stepped = steps.ended p entries id 0; job = None }) (decoding.job_for rate p entry (ends.peek p.modes p.round entries id))).stepped.player) [
+      | true ↦ of-ended p entries id p.offset 0
       | false ↦ of-job rate p entry (ends.peek p.modes p.round entries id)
     ]
 
@@ -153,8 +153,8 @@ of-want rate p entries enabled owes =
 
 of-accepted : (p : PlayerState) (entries : List Entry) (job : Job) (count : ℕ) → Rises p (decoding.accepted p entries job count).player
 of-accepted p entries job count =
-    elim (decoding.is_last p entries job count) as (λ v. Rises p (cond v (steps.ended (record p { place = p.place + count }) entries job.id (decoding.mixed job.fade count)) (player.stays (record p { place = p.place + count; job = None }))).player) [
-      | true ↦ of-ended p entries job.id (p.place + count) (decoding.mixed job.fade count)
+    elim (decoding.is_last p entries job count) as (λ v. Rises p (cond v (steps.ended (record p { offset = p.offset + count }) entries job.id (decoding.mixed job.fade count)) (player.stays (record p { offset = p.offset + count; job = None }))).player) [
+      | true ↦ of-ended p entries job.id (p.offset + count) (decoding.mixed job.fade count)
       | false ↦ stays p _ refl refl refl refl
     ]
 
@@ -179,9 +179,9 @@ of-failed p entries (Some job) number partner =
 
 of-seek : (p : PlayerState) (entry : Entry) (frame : ℕ) → Rises p (steps.seek p entry frame)
 of-seek p entry frame =
-    let place : ℕ = min frame entry.song.frames in
-    either p (steps.sought p place) (steps.start p (player.playing_or_paused p.playback) entry.id place) (steps.is_current p.current entry.id)
-    (cuts p (steps.sought p place) refl refl refl refl) (by_hand p _ (player.playing_or_paused p.playback) (Some entry.id) place)
+    let offset : ℕ = min frame entry.song.frames in
+    either p (steps.sought p offset) (steps.start p (player.playing_or_paused p.playback) entry.id offset) (steps.is_current p.current entry.id)
+    (cuts p (steps.sought p offset) refl refl refl refl) (by_hand p _ (player.playing_or_paused p.playback) (Some entry.id) offset)
 
 of-event : (p : PlayerState) (event : Event) → Rises p (after p event)
 of-event p (laws.Next entries) = of-next p entries p.current

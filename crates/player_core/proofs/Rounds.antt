@@ -72,22 +72,22 @@ record Next (p : PlayerState) (entries : List Entry) : Type 0 where
   advances : Advances p (steps.next p entries).player entries entry
   goes : GoesAtRandom (steps.next p entries).player entries
 
-place-in : (entries : List Entry) (song : Entry) → Contains entries song → (place : ℕ) × (slice_get entries place ≡ Some song)
-place-in entries song h = (h.0, slice_get_read entries (length entries) h.0 song refl h.1 (sym h.2))
+position-in : (entries : List Entry) (song : Entry) → Contains entries song → (position : ℕ) × (slice_get entries position ≡ Some song)
+position-in entries song h = (h.0, slice_get_read entries (length entries) h.0 song refl h.1 (sym h.2))
 
-off-left : (c : Consume) (entries : List Entry) (place : ℕ) → c ≡ consume.Off → left_after c entries place ≡ entries
-off-left c entries place h = ap (λ (x : Consume). left_after x entries place) h
+off-left : (c : Consume) (entries : List Entry) (position : ℕ) → c ≡ consume.Off → left_after c entries position ≡ entries
+off-left c entries position h = ap (λ (x : Consume). left_after x entries position) h
 
 not-once : (c : Consume) → c ≡ consume.Off → c ≢ consume.Oneshot
 not-once c h k = let lost : consume.Off ≡ consume.Oneshot = sym h ∙ k in cc
 
-next-at : (p : PlayerState) (entries : List Entry) (place : ℕ) → GoesAtRandom p entries → (AllWerePlayed p.round.played entries → ⊥) → NextByRule p entries place (steps.next p entries) → Next p entries
-next-at p entries place g n rule =
+next-at : (p : PlayerState) (entries : List Entry) (position : ℕ) → GoesAtRandom p entries → (AllWerePlayed p.round.played entries → ⊥) → NextByRule p entries position (steps.next p entries) → Next p entries
+next-at p entries position g n rule =
     let q : PlayerState = (steps.next p entries).player in
     let goes = rule.goes_on in
-    let same : left_after p.modes.consume entries place ≡ entries = off-left p.modes.consume entries place g.consume in
-    let follows : FollowsInRound p.modes.repeat p.round (left_after p.modes.consume entries place) goes.entry =
-    subst (λ (b : Bool). FollowsBy b p.modes p.round entries (left_after p.modes.consume entries place) (place + 1) goes.entry) g.random goes.follows in
+    let same : left_after p.modes.consume entries position ≡ entries = off-left p.modes.consume entries position g.consume in
+    let follows : FollowsInRound p.modes.repeat p.round (left_after p.modes.consume entries position) goes.entry =
+    subst (λ (b : Bool). FollowsBy b p.modes p.round entries (left_after p.modes.consume entries position) (position + 1) goes.entry) g.random goes.follows in
     let a = advance p q entries p.modes.repeat goes.entry n (subst (λ (xs : List Entry). FollowsInRound p.modes.repeat p.round xs goes.entry) same follows) goes.starts
     (subst (λ (xs : List Entry). BecomesRound p.round q.round entries xs goes.entry) same (goes.at_random g.random)) in
     record {
@@ -105,7 +105,7 @@ next-at p entries place g n rule =
 
 next-of : (p : PlayerState) (entries : List Entry) → GoesAtRandom p entries → (AllWerePlayed p.round.played entries → ⊥) → Next p entries
 next-of p entries g n =
-    let at = place-in entries g.song g.queued in
+    let at = position-in entries g.song g.queued in
     next-at p entries at.0 g n (next_goes_on.song p entries g.song at.0 g.ids at.1 g.current)
 
 -- one entry fewer is left to be played
@@ -300,27 +300,27 @@ queued-becomes : (repeat : Bool) (r s : RoundState) (entries left : List Entry) 
 queued-becomes repeat r s entries left _ follows (GoesOn c n k) queued = queued-keep r s entries left c k (entry-left repeat r left c follows) queued
 queued-becomes repeat r s entries left o follows (BeginsAnew _ all k) queued = queued-anew repeat r s.played left o follows k.played
 
-queued-goes : (p q : PlayerState) (playback : Playback) (entries left : List Entry) (place frame : ℕ) → choices.GoesOn p q playback entries left place frame → PlayedAreQueued p.round.played entries
+queued-goes : (p q : PlayerState) (playback : Playback) (entries left : List Entry) (position frame : ℕ) → choices.GoesOn p q playback entries left position frame → PlayedAreQueued p.round.played entries
     → PlayedAreQueued q.round.played left
-queued-goes p q playback entries left place frame g queued =
+queued-goes p q playback entries left position frame g queued =
     elim (p.modes.random) as (λ v. p.modes.random ≡ v → PlayedAreQueued q.round.played left) [
-      | true ↦ λ r. queued-becomes p.modes.repeat p.round q.round entries left g.entry (subst (λ (b : Bool). FollowsBy b p.modes p.round entries left place g.entry) r g.follows) (g.at_random r) queued
+      | true ↦ λ r. queued-becomes p.modes.repeat p.round q.round entries left g.entry (subst (λ (b : Bool). FollowsBy b p.modes p.round entries left position g.entry) r g.follows) (g.at_random r) queued
       | false ↦ λ r. queued-forget p.round q.round entries left (g.in_order r) queued
     ] refl
 
 queued-same : (r s : RoundState) (entries : List Entry) → s ≡ r → PlayedAreQueued r.played entries → PlayedAreQueued s.played entries
 queued-same r s entries e queued = subst (λ (x : RoundState). PlayedAreQueued x.played entries) (sym e) queued
 
-queued-end : (p q : PlayerState) (entries left : List Entry) (song : Entry) (place frame : ℕ) → left ≡ left_after p.modes.consume entries place → Contains entries song → EndHasCause p q entries left song place frame
+queued-end : (p q : PlayerState) (entries left : List Entry) (song : Entry) (position frame : ℕ) → left ≡ left_after p.modes.consume entries position → Contains entries song → EndHasCause p q entries left song position frame
     → PlayedAreQueued p.round.played entries → PlayedAreQueued q.round.played left
-queued-end p q entries left song place frame l there (OrderGoesOn off g) queued = queued-goes p q p.playback entries left (place + 1) frame g queued
-queued-end p q entries left song place frame l there (PlaysAgain single s kept same) queued =
-    let all : left ≡ entries = l ∙ off-left p.modes.consume entries place single.consume in
+queued-end p q entries left song position frame l there (OrderGoesOn off g) queued = queued-goes p q p.playback entries left (position + 1) frame g queued
+queued-end p q entries left song position frame l there (PlaysAgain single s kept same) queued =
+    let all : left ≡ entries = l ∙ off-left p.modes.consume entries position single.consume in
     elim (p.modes.random) as (λ v. p.modes.random ≡ v → PlayedAreQueued q.round.played left) [
       | true ↦ λ r. queued-keep p.round q.round entries left song (kept r) (subst (λ (xs : List Entry). Contains xs song) (sym all) there) queued
       | false ↦ λ r. subst (λ (xs : List Entry). PlayedAreQueued q.round.played xs) (sym all) (queued-same p.round q.round entries (same r) queued)
     ] refl
-queued-end p q entries left song place frame l there (StopsBySingle current h k s forgets) queued = queued-forget p.round q.round entries left forgets queued
+queued-end p q entries left song position frame l there (StopsBySingle current h k s forgets) queued = queued-forget p.round q.round entries left forgets queued
 
 queued-others : (p q : PlayerState) (entries : List Entry) (song entry : Entry) → Contains entries song → LeavesPlayed p q song entry → PlayedAreQueued p.round.played entries → PlayedAreQueued q.round.played entries
 queued-others p q entries song entry there l queued id h =
@@ -329,8 +329,8 @@ queued-others p q entries song entry there l queued id h =
       | false ↦ λ e. let differ : id ≢ song.id = grind (arith, e) in queued id ((l.others id differ).0 h)
     ] refl
 
-queued-back : (p q : PlayerState) (entries : List Entry) (song : Entry) (place : ℕ) → Contains entries song → PreviousByRule p entries song place q → PlayedAreQueued p.round.played entries → PlayedAreQueued q.round.played entries
-queued-back p q entries song place there rule queued =
+queued-back : (p q : PlayerState) (entries : List Entry) (song : Entry) (position : ℕ) → Contains entries song → PreviousByRule p entries song position q → PlayedAreQueued p.round.played entries → PlayedAreQueued q.round.played entries
+queued-back p q entries song position there rule queued =
     elim (p.modes.random) as (λ v. p.modes.random ≡ v → PlayedAreQueued q.round.played entries) [
       | true ↦ λ r. queued-others p q entries song rule.entry there (rule.played r) queued
       | false ↦ λ r. queued-same p.round q.round entries (rule.round r) queued
@@ -364,13 +364,13 @@ queued-removed p entries from end own sorted within queued true false =
 
 pub played_stay_queued : PlayedStayQueued
 played_stay_queued = record {
-  ended = λ p entries song place frame own at queued.
-      queued-end p (steps.ended p entries song.id frame).player entries (left_after p.modes.consume entries place) song place frame refl (get-there entries place song at)
-      (ends_stop_for_a_cause p entries song place frame own at).cause queued;
-  next = λ p entries song place own at current queued.
-      queued-goes p (steps.next p entries).player Play entries (left_after p.modes.consume entries place) (place + 1) 0 (next_goes_on.song p entries song place own at current).goes_on queued;
-  previous = λ p entries song place own at current queued.
-      queued-back p (steps.previous p entries) entries song place (get-there entries place song at) (previous_consumes_nothing.song p entries song place own queued at current) queued;
+  ended = λ p entries song position frame own at queued.
+      queued-end p (steps.ended p entries song.id frame).player entries (left_after p.modes.consume entries position) song position frame refl (get-there entries position song at)
+      (ends_stop_for_a_cause p entries song position frame own at).cause queued;
+  next = λ p entries song position own at current queued.
+      queued-goes p (steps.next p entries).player Play entries (left_after p.modes.consume entries position) (position + 1) 0 (next_goes_on.song p entries song position own at current).goes_on queued;
+  previous = λ p entries song position own at current queued.
+      queued-back p (steps.previous p entries) entries song position (get-there entries position song at) (previous_consumes_nothing.song p entries song position own queued at current) queued;
   started = λ p entries entry there queued. queued-start p.modes p.round entries entry there queued;
   removed = λ p entries from end own sorted within queued. queued-removed p entries from end own sorted within queued (steps.holds_current entries p.current from end) (player.is_stopped p.playback);
 }

@@ -81,11 +81,11 @@ feeds-of p entries (Some job) n count cut h =
 -- what is fed leaves no job
 accepted-job : (p : PlayerState) (entries : List Entry) (job : Job) (count : ℕ) → (decoding.accepted p entries job count).player.job ≡ None
 accepted-job p entries job count =
-    let place : ℕ = decoding.mixed job.fade count in
-    let at : PlayerState = record p { place = p.place + count } in
+    let offset : ℕ = decoding.mixed job.fade count in
+    let at : PlayerState = record p { offset = p.offset + count } in
     let f = ends.after_end at.modes at.round entries job.id in
-    elim (decoding.is_last p entries job count) as (λ v. (cond v (steps.ended at entries job.id place) (player.stays (record p { place = p.place + count; job = None }))).player.job ≡ None) [
-      | true ↦ on-job (steps.behind at f) at.playback (ends.id_of f.entry) place f.current
+    elim (decoding.is_last p entries job count) as (λ v. (cond v (steps.ended at entries job.id offset) (player.stays (record p { offset = p.offset + count; job = None }))).player.job ≡ None) [
+      | true ↦ on-job (steps.behind at f) at.playback (ends.id_of f.entry) offset f.current
       | false ↦ refl
     ]
 
@@ -125,7 +125,7 @@ feeds_once max_cut g before entries number count cut fed between later more =
     not-fed (run q between) later number more (decoding.have (run q between) later number more).feed refl (given-run number (λ c. ⊥) q between here).open_with
 
 -- what a want that gives a job leaves
-record Asked (p : PlayerState) (w : decoding.Wanted) (job : Job) : Type 0 where
+record Asked (p : PlayerState) (w : decoding.DueJob) (job : Job) : Type 0 where
   is_open : w.stepped.player.job ≡ Some job
   is_last : job.number ≡ w.stepped.player.jobs
   same_cuts : w.stepped.player.cuts ≡ p.cuts
@@ -142,9 +142,9 @@ asked-for rate p entry next job h =
 asked-at : (rate : ℕ) (p : PlayerState) (entries : List Entry) (id : ℕ) (entry : Option Entry) (job : Job) → (decoding.want_at rate p entries id entry).job ≡ Some job → Asked p (decoding.want_at rate p entries id entry) job
 asked-at rate p entries id None job h = cc
 asked-at rate p entries id (Some entry) job h =
-    let ending : decoding.Wanted = record { stepped = steps.ended p entries id 0; job = None } in
-    let asking : decoding.Wanted = decoding.job_for rate p entry (ends.peek p.modes p.round entries id) in
-    elim (nat_le entry.song.frames p.place) as (λ v. (cond v ending asking).job ≡ Some job → Asked p (cond v ending asking) job) [
+    let ending : decoding.DueJob = record { stepped = steps.ended p entries id 0; job = None } in
+    let asking : decoding.DueJob = decoding.job_for rate p entry (ends.peek p.modes p.round entries id) in
+    elim (nat_le entry.song.frames p.offset) as (λ v. (cond v ending asking).job ≡ Some job → Asked p (cond v ending asking) job) [
       | true ↦ λ e. cc
       | false ↦ λ e. asked-for rate p entry (ends.peek p.modes p.round entries id) job e
     ] h

@@ -19,7 +19,7 @@ use Rattle.player_core.specs.Steps as steps
 pub record Starts (before after : PlayerState) (state : Playback) (entry : Entry) (frame : ℕ) : Type 0 where
   pub current : after.current ≡ Some entry.id
   pub playback : after.playback ≡ state
-  pub place : after.place ≡ frame
+  pub offset : after.offset ≡ frame
   pub starts : after.starts ≡ before.starts + 1
   pub error : after.error ≡ None
   pub job : after.job ≡ None
@@ -42,11 +42,11 @@ pub data StartsOrStops (before after : PlayerState) (playback : Playback) (frame
       → StartsOrStops before after playback frame (Some entry)
   NoneStarts : Stops before after None → StartsOrStops before after playback frame None
 
--- a step goes on with what follows after a place of the queue of which some entries are left
+-- a step goes on with what follows after a position of the queue of which some entries are left
 pub record GoesOn
-    (before after : PlayerState) (playback : Playback) (entries left : List Entry) (place frame : ℕ) : Type 0 where
+    (before after : PlayerState) (playback : Playback) (entries left : List Entry) (position frame : ℕ) : Type 0 where
   pub entry : Option Entry
-  pub follows : Follows before.modes before.round entries left place entry
+  pub follows : Follows before.modes before.round entries left position entry
   pub starts : StartsOrStops before after playback frame entry
   pub at_random : before.modes.random ≡ true → BecomesRound before.round after.round entries left entry
   pub in_order : before.modes.random ≡ false → ForgetsGone before.round after.round entries left
@@ -70,24 +70,24 @@ pub record StaysIfQueued (left : List Entry) (song : Entry) (current : Option �
 
 -- why the player goes on, starts again or stops at the end of a song
 pub data EndHasCause
-    (before after : PlayerState) (entries left : List Entry) (song : Entry) (place frame : ℕ) : Type 0 where
+    (before after : PlayerState) (entries left : List Entry) (song : Entry) (position frame : ℕ) : Type 0 where
   OrderGoesOn :
       before.modes.single ≡ single.Off
-      → GoesOn before after before.playback entries left (place + 1) frame
-      → EndHasCause before after entries left song place frame
+      → GoesOn before after before.playback entries left (position + 1) frame
+      → EndHasCause before after entries left song position frame
   PlaysAgain :
       SingleRepeats before.modes
       → Starts before after before.playback song frame
       → (before.modes.random ≡ true → KeepsRound before.round after.round entries left song)
       → (before.modes.random ≡ false → after.round ≡ before.round)
-      → EndHasCause before after entries left song place frame
+      → EndHasCause before after entries left song position frame
   StopsBySingle :
       (current : Option ℕ)
       → SingleStops before.modes
       → StaysIfQueued left song current
       → Stops before after current
       → ForgetsGone before.round after.round entries left
-      → EndHasCause before after entries left song place frame
+      → EndHasCause before after entries left song position frame
 
 -- consume is off after one song where it was to act once; repeat and random stay
 pub record ConsumesOnce (before after : Modes) : Type 0 where
@@ -101,62 +101,62 @@ pub record StopsOnce (before after : Modes) : Type 0 where
   pub once : before.single ≡ single.Oneshot → after.single ≡ single.Off
   pub single : before.single ≢ single.Oneshot → after.single ≡ before.single
 
--- the natural end of the song at a place: consume alone takes it out of the queue, no cut is raised, and what
+-- the natural end of the song at a position: consume alone takes it out of the queue, no cut is raised, and what
 -- becomes of the player has its cause
 pub record EndsByRule
-    (before : PlayerState) (entries : List Entry) (song : Entry) (place frame : ℕ) (end : Stepped) : Type 0 where
-  pub queue : end.edit ≡ Some (left_after before.modes.consume entries place)
+    (before : PlayerState) (entries : List Entry) (song : Entry) (position frame : ℕ) (end : Stepped) : Type 0 where
+  pub queue : end.edit ≡ Some (left_after before.modes.consume entries position)
   pub consume : ConsumesOnce before.modes end.player.modes
   pub single : StopsOnce before.modes end.player.modes
   pub cuts : end.player.cuts ≡ before.cuts
-  pub cause : EndHasCause before end.player entries (left_after before.modes.consume entries place) song place frame
+  pub cause : EndHasCause before end.player entries (left_after before.modes.consume entries position) song position frame
 
 -- each natural end of a song of the queue is so
 abbrev pub EndsStopForACause : Type 0
 EndsStopForACause =
-    (p : PlayerState) (entries : List Entry) (song : Entry) (place frame : ℕ)
+    (p : PlayerState) (entries : List Entry) (song : Entry) (position frame : ℕ)
     → HaveOwnIds entries
-    → slice_get entries place ≡ Some song
-    → EndsByRule p entries song place frame (steps.ended p entries song.id frame)
+    → slice_get entries position ≡ Some song
+    → EndsByRule p entries song position frame (steps.ended p entries song.id frame)
 
--- the end of the song at a place by `next`: what follows plays from its first frame, whatever single is, and
+-- the end of the song at a position by `next`: what follows plays from its first frame, whatever single is, and
 -- there is a cut
-pub record NextByRule (before : PlayerState) (entries : List Entry) (place : ℕ) (end : Stepped) : Type 0 where
-  pub queue : end.edit ≡ Some (left_after before.modes.consume entries place)
+pub record NextByRule (before : PlayerState) (entries : List Entry) (position : ℕ) (end : Stepped) : Type 0 where
+  pub queue : end.edit ≡ Some (left_after before.modes.consume entries position)
   pub consume : ConsumesOnce before.modes end.player.modes
   pub single : end.player.modes.single ≡ before.modes.single
   pub cuts : end.player.cuts ≡ before.cuts + 1
-  pub goes_on : GoesOn before end.player Play entries (left_after before.modes.consume entries place) (place + 1) 0
+  pub goes_on : GoesOn before end.player Play entries (left_after before.modes.consume entries position) (position + 1) 0
 
 -- `next` goes on with what follows; with no current song it does nothing
 pub record NextGoesOn : Type 0 where
   pub song :
-      (p : PlayerState) (entries : List Entry) (song : Entry) (place : ℕ)
+      (p : PlayerState) (entries : List Entry) (song : Entry) (position : ℕ)
       → HaveOwnIds entries
-      → slice_get entries place ≡ Some song
+      → slice_get entries position ≡ Some song
       → p.current ≡ Some song.id
-      → NextByRule p entries place (steps.next p entries)
+      → NextByRule p entries position (steps.next p entries)
   pub no_song : (p : PlayerState) (entries : List Entry) → p.current ≡ None → steps.next p entries ≡ stays p
 
 -- the entry that `previous` goes back to in the order of the queue
-pub data IsPlaceBefore (repeat : Bool) (entries : List Entry) (place : ℕ) (entry : Entry) : Type 0 where
-  PlaceBefore :
+pub data IsPositionBefore (repeat : Bool) (entries : List Entry) (position : ℕ) (entry : Entry) : Type 0 where
+  PositionBefore :
       (before : ℕ)
-      → before + 1 ≡ place
+      → before + 1 ≡ position
       → slice_get entries before ≡ Some entry
-      → IsPlaceBefore repeat entries place entry
-  LastPlace :
+      → IsPositionBefore repeat entries position entry
+  LastPosition :
       (last : ℕ)
-      → place ≡ 0
+      → position ≡ 0
       → repeat ≡ true
       → last + 1 ≡ length entries
       → slice_get entries last ≡ Some entry
-      → IsPlaceBefore repeat entries place entry
-  SamePlace :
-      place ≡ 0
+      → IsPositionBefore repeat entries position entry
+  SamePosition :
+      position ≡ 0
       → repeat ≡ false
-      → slice_get entries place ≡ Some entry
-      → IsPlaceBefore repeat entries place entry
+      → slice_get entries position ≡ Some entry
+      → IsPositionBefore repeat entries position entry
 
 -- the songs that were played in this round beside one
 abbrev pub played_beside : List ℕ → ℕ → List ℕ
@@ -173,10 +173,10 @@ pub data IsPlayedBefore (played : List ℕ) (entries : List Entry) (song entry :
 
 -- what `previous` goes back to, in random order and else
 abbrev pub IsBeforeBy : Bool → PlayerState → List Entry → Entry → ℕ → Entry → Type 0
-IsBeforeBy true p entries song place entry = IsPlayedBefore p.round.played entries song entry
-IsBeforeBy false p entries song place entry = IsPlaceBefore p.modes.repeat entries place entry
+IsBeforeBy true p entries song position entry = IsPlayedBefore p.round.played entries song entry
+IsBeforeBy false p entries song position entry = IsPositionBefore p.modes.repeat entries position entry
 
--- what `previous` goes back to from the song at a place
+-- what `previous` goes back to from the song at a position
 abbrev pub IsBefore : PlayerState → List Entry → Entry → ℕ → Entry → Type 0
 IsBefore p = IsBeforeBy p.modes.random p
 
@@ -188,11 +188,11 @@ pub record LeavesPlayed (before after : PlayerState) (song entry : Entry) : Type
   pub ranks : after.round.ranks ≡ before.round.ranks
   pub generator : after.round.generator ≡ before.round.generator
 
--- `previous` plays what was before the song at a place from its first frame, with a cut; no mode changes
+-- `previous` plays what was before the song at a position from its first frame, with a cut; no mode changes
 pub record PreviousByRule
-    (before : PlayerState) (entries : List Entry) (song : Entry) (place : ℕ) (after : PlayerState) : Type 0 where
+    (before : PlayerState) (entries : List Entry) (song : Entry) (position : ℕ) (after : PlayerState) : Type 0 where
   pub entry : Entry
-  pub is_before : IsBefore before entries song place entry
+  pub is_before : IsBefore before entries song position entry
   pub starts : Starts before after Play entry 0
   pub played : before.modes.random ≡ true → LeavesPlayed before after song entry
   pub round : before.modes.random ≡ false → after.round ≡ before.round
@@ -208,12 +208,12 @@ PlayedAreQueued played entries =
 -- nothing
 pub record PreviousConsumesNothing : Type 0 where
   pub song :
-      (p : PlayerState) (entries : List Entry) (song : Entry) (place : ℕ)
+      (p : PlayerState) (entries : List Entry) (song : Entry) (position : ℕ)
       → HaveOwnIds entries
       → PlayedAreQueued p.round.played entries
-      → slice_get entries place ≡ Some song
+      → slice_get entries position ≡ Some song
       → p.current ≡ Some song.id
-      → PreviousByRule p entries song place (steps.previous p entries)
+      → PreviousByRule p entries song position (steps.previous p entries)
   pub no_song : (p : PlayerState) (entries : List Entry) → p.current ≡ None → steps.previous p entries ≡ p
 
 -- a deletion goes past a player: the round forgets the entries that are gone, and nothing else changes
@@ -233,15 +233,15 @@ pub record StaysStopped (before after : PlayerState) (entries left : List Entry)
   pub round : ForgetsGone before.round after.round entries left
   pub rest : after ≡ record before { current = None; round = after.round }
 
--- what a deletion of the entries from a place up to another leads to, by where the current song stands
+-- what a deletion of the entries from a position up to another leads to, by where the current song stands
 pub record DeletionsGoOn : Type 0 where
   pub outside :
-      (p : PlayerState) (entries : List Entry) (song : Entry) (place from end : ℕ)
+      (p : PlayerState) (entries : List Entry) (song : Entry) (position from end : ℕ)
       → HaveOwnIds entries
-      → slice_get entries place ≡ Some song
+      → slice_get entries position ≡ Some song
       → p.current ≡ Some song.id
       → from ≤ end
-      → (place < from) ⊎ (end ≤ place)
+      → (position < from) ⊎ (end ≤ position)
       → GoesPast p (steps.removed p entries from end) entries (left_by entries from end)
   pub no_song :
       (p : PlayerState) (entries : List Entry) (from end : ℕ)
@@ -250,22 +250,22 @@ pub record DeletionsGoOn : Type 0 where
       → p.current ≡ None
       → GoesPast p (steps.removed p entries from end) entries (left_by entries from end)
   pub played :
-      (p : PlayerState) (entries : List Entry) (song : Entry) (place from end : ℕ)
+      (p : PlayerState) (entries : List Entry) (song : Entry) (position from end : ℕ)
       → HaveOwnIds entries
-      → slice_get entries place ≡ Some song
+      → slice_get entries position ≡ Some song
       → p.current ≡ Some song.id
-      → from ≤ place
-      → place < end
+      → from ≤ position
+      → position < end
       → end ≤ length entries
       → p.playback ≢ Stop
       → GoesOnWithout p (steps.removed p entries from end) entries from end
   pub stopped :
-      (p : PlayerState) (entries : List Entry) (song : Entry) (place from end : ℕ)
+      (p : PlayerState) (entries : List Entry) (song : Entry) (position from end : ℕ)
       → HaveOwnIds entries
-      → slice_get entries place ≡ Some song
+      → slice_get entries position ≡ Some song
       → p.current ≡ Some song.id
-      → from ≤ place
-      → place < end
+      → from ≤ position
+      → position < end
       → p.playback ≡ Stop
       → StaysStopped p (steps.removed p entries from end) entries (left_by entries from end)
 
@@ -287,12 +287,12 @@ pub record PeekForetells : Type 0 where
       → steps.peek p entries ≡ Some entry
       → Starts p (steps.ended p entries song.id frame).player p.playback entry frame
   pub none :
-      (p : PlayerState) (entries : List Entry) (song : Entry) (place frame : ℕ)
+      (p : PlayerState) (entries : List Entry) (song : Entry) (position frame : ℕ)
       → HaveOwnIds entries
-      → slice_get entries place ≡ Some song
+      → slice_get entries position ≡ Some song
       → p.current ≡ Some song.id
       → steps.peek p entries ≡ None
-      → NothingAhead p (steps.ended p entries song.id frame).player (left_after p.modes.consume entries place)
+      → NothingAhead p (steps.ended p entries song.id frame).player (left_after p.modes.consume entries position)
 
 -- an opening starts an entry, with a cut; where the queue is empty nothing starts, and nothing but the round
 -- changes

@@ -31,37 +31,37 @@ fade_len rate seconds left partner = min (min (rate * seconds) left) partner.son
 abbrev pub can_fade : PlayerState → Entry → Entry → Bool
 can_fade p entry next = not (p.crossfade == 0) && not p.gave_up && not (is_some p.fade) && not (next.id == entry.id)
 
--- the place where a fade into the next entry would begin
-abbrev pub fade_place : ℕ → PlayerState → Entry → Entry → ℕ
-fade_place rate p entry next = entry.song.frames - fade_len rate p.crossfade entry.song.frames next
+-- the offset where a fade into the next entry would begin
+abbrev pub fade_offset : ℕ → PlayerState → Entry → Entry → ℕ
+fade_offset rate p entry next = entry.song.frames - fade_len rate p.crossfade entry.song.frames next
 
--- a fade is fixed where its place is reached
+-- a fade is fixed where its offset is reached
 abbrev pub faded : ℕ → PlayerState → Entry → Option Entry → PlayerState
 faded rate p entry None = p
 faded rate p entry (Some next) =
-    if can_fade p entry next && nat_le (fade_place rate p entry next) p.place
-    then record p { fade = Some (record { partner = next.id; len = fade_len rate p.crossfade (entry.song.frames - p.place) next }) }
+    if can_fade p entry next && nat_le (fade_offset rate p entry next) p.offset
+    then record p { fade = Some (record { partner = next.id; len = fade_len rate p.crossfade (entry.song.frames - p.offset) next }) }
     else p
 
 -- how far a job may go: to the song's end, or to where a fade would begin
 abbrev pub reach : ℕ → PlayerState → Entry → Option Entry → ℕ
 reach rate p entry None = entry.song.frames
 reach rate p entry (Some next) =
-    if can_fade p entry next && nat_lt p.place (fade_place rate p entry next) then fade_place rate p entry next else entry.song.frames
+    if can_fade p entry next && nat_lt p.offset (fade_offset rate p entry next) then fade_offset rate p entry next else entry.song.frames
 
--- the part of the fade that begins at the player's place
+-- the part of the fade that begins at the player's offset
 abbrev pub part_of : PlayerState → Entry → Option Fade → Option FadePart
 part_of p entry None = None
 part_of p entry (Some fade) =
-    Some (record { partner = fade.partner; index = p.place - (entry.song.frames - fade.len); len = fade.len })
+    Some (record { partner = fade.partner; index = p.offset - (entry.song.frames - fade.len); len = fade.len })
 
--- a job from the player's place, of 1,024 frames at most
+-- a job from the player's offset, of 1,024 frames at most
 abbrev pub job_of : PlayerState → Entry → ℕ → Job
 job_of p entry end = record {
   number = p.jobs + 1;
   id = entry.id;
-  from = p.place;
-  count = min 1024 (end - p.place);
+  from = p.offset;
+  count = min 1024 (end - p.offset);
   fade = part_of p entry p.fade;
 }
 
@@ -69,14 +69,14 @@ abbrev pub with_job : PlayerState → Job → PlayerState
 with_job p job = record p { jobs = job.number; job = Some job }
 
 -- what a want leaves, and the job that it is given
-pub record Wanted : Type 0 where
+pub record DueJob : Type 0 where
   pub stepped : Stepped
   pub job : Option Job
 
-abbrev pub given : PlayerState → Job → Wanted
+abbrev pub given : PlayerState → Job → DueJob
 given p job = record { stepped = stays (with_job p job); job = Some job }
 
-abbrev pub job_for : ℕ → PlayerState → Entry → Option Entry → Wanted
+abbrev pub job_for : ℕ → PlayerState → Entry → Option Entry → DueJob
 job_for rate p entry next =
     let q = checked p next p.fade in
     let r = faded rate q entry next in
@@ -90,18 +90,18 @@ with_job_for rate p entry next = (job_for rate p entry next).stepped.player
 abbrev pub IsJobFor : ℕ → PlayerState → Entry → Option Entry → Job → Type 0
 IsJobFor rate p entry next job = Some job ≡ (job_for rate p entry next).job
 
-abbrev pub nothing : PlayerState → Wanted
+abbrev pub nothing : PlayerState → DueJob
 nothing p = record { stepped = stays p; job = None }
 
 -- after the last frame of its entry the current song ends, and there is no job
-abbrev pub want_at : ℕ → PlayerState → List Entry → ℕ → Option Entry → Wanted
+abbrev pub want_at : ℕ → PlayerState → List Entry → ℕ → Option Entry → DueJob
 want_at rate p entries id None = nothing p
 want_at rate p entries id (Some entry) =
-    if nat_le entry.song.frames p.place
+    if nat_le entry.song.frames p.offset
     then record { stepped = ended p entries id 0; job = None }
     else job_for rate p entry (ends.peek p.modes p.round entries id)
 
-abbrev pub want_of : ℕ → PlayerState → List Entry → Option ℕ → Wanted
+abbrev pub want_of : ℕ → PlayerState → List Entry → Option ℕ → DueJob
 want_of rate p entries None = nothing p
 want_of rate p entries (Some id) = want_at rate p entries id (entry_of entries id)
 
@@ -110,7 +110,7 @@ abbrev pub after_want_of : ℕ → PlayerState → QueueState → ℕ → Player
 after_want_of rate p q id = both_after q (want_of rate p (queue_of q) (Some id)).stepped
 
 -- a want: there is a job only while the player plays, an output is enabled, and no feeder still owes frames
-abbrev pub want : ℕ → PlayerState → List Entry → Bool → Bool → Wanted
+abbrev pub want : ℕ → PlayerState → List Entry → Bool → Bool → DueJob
 want rate p entries enabled owes = if is_playing p.playback && enabled && not owes then want_of rate p entries p.current else nothing p
 
 -- the player and its queue after a want
@@ -130,21 +130,21 @@ abbrev pub mixed : Option FadePart → ℕ → ℕ
 mixed None count = 0
 mixed (Some part) count = part.index + count
 
--- whether the song of an entry has been heard to its end at a place
+-- whether the song of an entry has been heard to its end at an offset
 abbrev pub is_heard : Option Entry → ℕ → Bool
-is_heard None place = false
-is_heard (Some entry) place = nat_le entry.song.frames place
+is_heard None offset = false
+is_heard (Some entry) offset = nat_le entry.song.frames offset
 
 -- whether so many frames of a job are the last of its song
 abbrev pub is_last : PlayerState → List Entry → Job → ℕ → Bool
-is_last p entries job count = nat_lt count job.count || is_heard (entry_of entries job.id) (p.place + count)
+is_last p entries job count = nat_lt count job.count || is_heard (entry_of entries job.id) (p.offset + count)
 
 -- frames of a job are accepted, and the song ends where they are its last
 abbrev pub accepted : PlayerState → List Entry → Job → ℕ → Stepped
 accepted p entries job count =
     if is_last p entries job count
-    then ended (record p { place = p.place + count }) entries job.id (mixed job.fade count)
-    else stays (record p { place = p.place + count; job = None })
+    then ended (record p { offset = p.offset + count }) entries job.id (mixed job.fade count)
+    else stays (record p { offset = p.offset + count; job = None })
 
 -- the player and its queue when frames of a job are accepted
 abbrev pub after_accepted : PlayerState → QueueState → Job → ℕ → PlayerAndQueue

@@ -26,7 +26,7 @@ pub record PlayerState : Type 0 where
   -- the id of the current song
   pub current : Option ℕ
   -- how many frames of the current song were accepted
-  pub place : ℕ
+  pub offset : ℕ
   -- how many songs have started
   pub starts : ℕ
   -- how often frames of earlier blocks were no longer to be heard
@@ -51,7 +51,7 @@ opened max_cut g = record {
   crossfade = 0;
   playback = Stop;
   current = None;
-  place = 0;
+  offset = 0;
   starts = 0;
   cuts = 0;
   error = None;
@@ -76,7 +76,7 @@ pub record IsPlayer (p : PlayerState) : Type 0 where
   pub starts : p.starts ≤ p.max_cut
   pub jobs : p.jobs ≤ p.max_cut
   pub max_cut : p.max_cut < 9223372036854775808
-  pub job : ForSome p.job (λ j. (p.place + j.count < 2 ^ 64) × ForSome j.fade (λ f. f.index ≤ p.place))
+  pub job : ForSome p.job (λ j. (p.offset + j.count < 2 ^ 64) × ForSome j.fade (λ f. f.index ≤ p.offset))
 
 -- what a step leaves: the player, and what is left of the queue where a song has ended
 pub record Stepped : Type 0 where
@@ -132,27 +132,27 @@ voided p = record p { job = None; fade = None }
 abbrev pub given_up : PlayerState → PlayerState
 given_up p = record (voided p) { gave_up = true }
 
--- the entry with an id starts at a place; what its start does to the round is said with each step
+-- the entry with an id starts at an offset; what its start does to the round is said with each step
 abbrev pub started : PlayerState → Playback → ℕ → ℕ → PlayerState
-started p playback id place = record (voided p) {
+started p playback id offset = record (voided p) {
   playback = playback;
   current = Some id;
-  place = place;
+  offset = offset;
   starts = p.starts + 1;
   error = None;
   gave_up = false;
 }
 
--- the player stops, with this current song; its place stays
+-- the player stops, with this current song; its offset stays
 abbrev pub halted : PlayerState → Option ℕ → PlayerState
 halted p current = record (voided p) { playback = Stop; current = current }
 
--- an entry starts at a place, or the player stops where there is none
+-- an entry starts at an offset, or the player stops where there is none
 abbrev pub goes_on : PlayerState → Playback → Option ℕ → ℕ → Option ℕ → PlayerState
-goes_on p playback (Some id) place current = started p playback id place
-goes_on p playback None place current = halted p current
+goes_on p playback (Some id) offset current = started p playback id offset
+goes_on p playback None offset current = halted p current
 
 -- an entry starts by hand, if there is one: with a cut
 abbrev pub starts_by_hand : PlayerState → Playback → Option ℕ → ℕ → PlayerState
-starts_by_hand p playback (Some id) place = cut (started p playback id place)
-starts_by_hand p playback None place = p
+starts_by_hand p playback (Some id) offset = cut (started p playback id offset)
+starts_by_hand p playback None offset = p

@@ -64,22 +64,22 @@ played_after end = end.player.round.played
 -- where `previous` goes back, where an entry starts, and where entries are deleted
 pub record PlayedStayQueued : Type 0 where
   pub ended :
-      (p : PlayerState) (entries : List Entry) (song : Entry) (place frame : ℕ)
+      (p : PlayerState) (entries : List Entry) (song : Entry) (position frame : ℕ)
       → HaveOwnIds entries
-      → slice_get entries place ≡ Some song
+      → slice_get entries position ≡ Some song
       → PlayedAreQueued p.round.played entries
-      → PlayedAreQueued (played_after (steps.ended p entries song.id frame)) (left_after p.modes.consume entries place)
+      → PlayedAreQueued (played_after (steps.ended p entries song.id frame)) (left_after p.modes.consume entries position)
   pub next :
-      (p : PlayerState) (entries : List Entry) (song : Entry) (place : ℕ)
+      (p : PlayerState) (entries : List Entry) (song : Entry) (position : ℕ)
       → HaveOwnIds entries
-      → slice_get entries place ≡ Some song
+      → slice_get entries position ≡ Some song
       → p.current ≡ Some song.id
       → PlayedAreQueued p.round.played entries
-      → PlayedAreQueued (played_after (steps.next p entries)) (left_after p.modes.consume entries place)
+      → PlayedAreQueued (played_after (steps.next p entries)) (left_after p.modes.consume entries position)
   pub previous :
-      (p : PlayerState) (entries : List Entry) (song : Entry) (place : ℕ)
+      (p : PlayerState) (entries : List Entry) (song : Entry) (position : ℕ)
       → HaveOwnIds entries
-      → slice_get entries place ≡ Some song
+      → slice_get entries position ≡ Some song
       → p.current ≡ Some song.id
       → PlayedAreQueued p.round.played entries
       → PlayedAreQueued (steps.previous p entries).round.played entries

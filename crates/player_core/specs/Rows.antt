@@ -10,7 +10,7 @@ use Rattle.player_core.specs.declared.state.Job.{Job}
 use Rattle.play_order.specs.Order.{left_by}
 use Rattle.player_core.specs.Player.{PlayerState, Stepped, opened, is_within}
 use Rattle.player_core.specs.Steps.{play, play_entry, next, previous, removed, seek, pause, random, set_consume, set_repeat, set_single, set_crossfade, clear_error}
-use Rattle.player_core.specs.Decoding.{want, have, failed, Wanted, Had}
+use Rattle.player_core.specs.Decoding.{want, have, failed, DueJob, Had}
 
 abbrev entry : ℕ → ℕ → ℕ → Entry
 entry id frames priority = record { id = id; song = record { uri = id ∷ []; tags = []; frames = frames }; priority = priority }
@@ -82,7 +82,7 @@ with_player t p = record t { player = p }
 abbrev stepped : Table → Stepped → Table
 stepped t s = record { entries = after t.entries s; player = s.player }
 
-abbrev ask : Table → Wanted
+abbrev ask : Table → DueJob
 ask t = want 8000 t.player t.entries true false
 
 abbrev asked : Table → Table
@@ -149,13 +149,13 @@ seek_accepted g = handed (asked (seek_table g)) 1 1024
 seek_twice : (g : Lcg) → (hand (seek_accepted g) 1 1024).feed ≡ None
 seek_twice g = refl
 
-seek_elapsed : (g : Lcg) → milliseconds_of 8000 (seek_accepted g).player.place ≡ 128
+seek_elapsed : (g : Lcg) → milliseconds_of 8000 (seek_accepted g).player.offset ≡ 128
 seek_elapsed g = refl
 
 abbrev seek_sought : Lcg → Table
 seek_sought g =
     let t = seek_accepted g in
-    with_player t (seek t.player (entry 1 16000 0) (frames_of 8000 (milliseconds_of 8000 t.player.place + 1500)))
+    with_player t (seek t.player (entry 1 16000 0) (frames_of 8000 (milliseconds_of 8000 t.player.offset + 1500)))
 
 seek_second : (g : Lcg) → (ask (seek_sought g)).job ≡ job 2 1 13024 1024
 seek_second g = refl

@@ -9,7 +9,7 @@ use Rattle.play_order.specs.declared.modes.Single.{Single}
 use Rattle.play_order.specs.declared.modes.Consume.{Consume}
 use Rattle.play_order.specs.Draws as draws
 use Rattle.play_order.specs.Order as order
-use Rattle.play_order.specs.Order.{place_of, entry_of, begun}
+use Rattle.play_order.specs.Order.{entry_position, entry_of, begun}
 use Rattle.play_order.specs.Ends as ends
 use Rattle.play_order.specs.Ends.{Following, id_of}
 use Rattle.player_core.specs.declared.state.Playback.{Playback}
@@ -20,15 +20,15 @@ use Rattle.player_core.specs.Player.{PlayerState, PlayerAndQueue, Stepped, both_
 abbrev pub behind : PlayerState → Following → PlayerState
 behind p f = record p { modes = f.modes; round = ends.round_after f }
 
--- the natural end of a song: no cut, and what follows starts at a place in the state that is
+-- the natural end of a song: no cut, and what follows starts at an offset in the state that is
 abbrev pub ended : PlayerState → List Entry → ℕ → ℕ → Stepped
-ended p entries id place =
+ended p entries id offset =
     let f = ends.after_end p.modes p.round entries id in
-    record { player = goes_on (behind p f) p.playback (id_of f.entry) place f.current; edit = Some f.left }
+    record { player = goes_on (behind p f) p.playback (id_of f.entry) offset f.current; edit = Some f.left }
 
 -- the player and its queue after the natural end of a song of which so many frames were accepted
 abbrev pub after_end : PlayerState → QueueState → ℕ → ℕ → ℕ → PlayerAndQueue
-after_end p q accepted id place = both_after q (ended (record p { place = accepted }) (queue_of q) id place)
+after_end p q accepted id offset = both_after q (ended (record p { offset = accepted }) (queue_of q) id offset)
 
 -- `next`: the end of the current song as if single were off, with a cut; what follows plays
 abbrev pub next_by : PlayerState → List Entry → Option ℕ → Stepped
@@ -46,7 +46,7 @@ after_next p q = both_after q (next p (queue_of q))
 
 -- the entry with an id starts by hand
 abbrev pub start : PlayerState → Playback → ℕ → ℕ → PlayerState
-start p playback id place = starts_by_hand (record p { round = order.started p.modes p.round id }) playback (Some id) place
+start p playback id offset = starts_by_hand (record p { round = order.started p.modes p.round id }) playback (Some id) offset
 
 -- an entry that is looked for starts by hand
 abbrev pub start_found : PlayerState → Playback → Option Entry → PlayerState
@@ -87,7 +87,7 @@ play_by p entries Pause = record p { playback = Play }
 abbrev pub play : PlayerState → List Entry → PlayerState
 play p entries = play_by p entries p.playback
 
--- `stop`: the song stays current, and its place stays
+-- `stop`: the song stays current, and its offset stays
 abbrev pub stop : PlayerState → PlayerState
 stop p = if is_stopped p.playback then p else cut (halted p p.current)
 
@@ -104,19 +104,19 @@ is_current (Some current) id = current == id
 
 -- a seek in the current song raises the cut, and is no start
 abbrev pub sought : PlayerState → ℕ → PlayerState
-sought p place = cut (record (voided p) { playback = playing_or_paused p.playback; place = place; gave_up = false })
+sought p offset = cut (record (voided p) { playback = playing_or_paused p.playback; offset = offset; gave_up = false })
 
 -- `seek`: to a frame of an entry, at most its length; another song starts there
 abbrev pub seek : PlayerState → Entry → ℕ → PlayerState
 seek p entry frame =
-    let place = min frame entry.song.frames in
-    if is_current p.current entry.id then sought p place else start p (playing_or_paused p.playback) entry.id place
+    let offset = min frame entry.song.frames in
+    if is_current p.current entry.id then sought p offset else start p (playing_or_paused p.playback) entry.id offset
 
 -- songs are put into the queue: each of the new entries draws a rank
 abbrev pub inserted : PlayerState → QueueState → List SongData → PlayerState
 inserted p q songs = record p { round = draws.added p.round (order.new_ids q songs) }
 
--- the entries from a place up to another are shuffled: a word is drawn for each of their places but the first
+-- the entries from a position up to another are shuffled: a word is drawn for each of their positions but the first
 abbrev pub shuffled : PlayerState → ℕ → ℕ → PlayerState
 shuffled p from end = record p { round = draws.drawn_from p.round (end - from - 1) }
 
@@ -124,12 +124,12 @@ shuffled p from end = record p { round = draws.drawn_from p.round (end - from - 
 abbrev pub shuffle_words : PlayerState → ℕ → ℕ → List ℕ
 shuffle_words p from end = draws.words_drawn p.round.generator (end - from - 1)
 
--- whether the current song stands in a range of places
+-- whether the current song stands in a range of positions
 abbrev pub holds_current : List Entry → Option ℕ → ℕ → ℕ → Bool
 holds_current entries None from end = false
-holds_current entries (Some id) from end = nat_le from (place_of entries id) && nat_lt (place_of entries id) end
+holds_current entries (Some id) from end = nat_le from (entry_position entries id) && nat_lt (entry_position entries id) end
 
--- the entries from a place up to another leave the queue and the round
+-- the entries from a position up to another leave the queue and the round
 abbrev pub without : PlayerState → List Entry → ℕ → ℕ → PlayerState
 without p entries from end = record p { round = draws.without p.round (order.ids_taken entries from end) }
 
@@ -144,7 +144,7 @@ goes_on_without p entries from end =
     (goes_on (record p { round = ends.round_after_removal p.modes p.round entries from end }) p.playback
     (id_of (ends.next_after_removal p.modes p.round entries from end)) 0 None)
 
--- the entries from a place up to another are deleted
+-- the entries from a position up to another are deleted
 abbrev pub removed : PlayerState → List Entry → ℕ → ℕ → PlayerState
 removed p entries from end = if holds_current entries p.current from end then goes_on_without p entries from end else without p entries from end
 

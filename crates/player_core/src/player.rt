@@ -22,7 +22,7 @@ use std::alloc::{AllocError, Global};
 use std::marker::Model;
 
 /// A player beside the queue that it plays. A clause sees a record: modes, round, playback, current song,
-/// place, numbers of starts, cuts and jobs, job, fade and error.
+/// offset, numbers of starts, cuts and jobs, job, fade and error.
 #[derive(Drop)]
 pub struct Player {
     alloc: Global,
@@ -31,7 +31,7 @@ pub struct Player {
     crossfade: u32,
     playback: Playback,
     current: Option<u32>,
-    place: u64,
+    offset: u64,
     starts: u64,
     cuts: u64,
     error: Option<String>,
@@ -72,7 +72,7 @@ impl Player {
             crossfade: 0,
             playback: Playback::Stop,
             current: None,
-            place: 0,
+            offset: 0,
             starts: 0,
             cuts: 0,
             error: None,
@@ -99,7 +99,7 @@ impl Player {
             crossfade: self.crossfade,
             playback: self.playback,
             current: self.current,
-            place: self.place,
+            offset: self.offset,
             starts: self.starts,
             cuts: self.cuts,
             error,
@@ -133,10 +133,10 @@ impl Player {
     }
 
     /// How many frames of the current song were accepted.
-    pub fn place(&self) -> u64
-        ensures { result ≡ self.now.place }
+    pub fn offset(&self) -> u64
+        ensures { result ≡ self.now.offset }
     {
-        self.place
+        self.offset
     }
 
     /// What went wrong, until a song starts or it is cleared.

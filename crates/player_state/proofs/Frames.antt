@@ -42,8 +42,8 @@ by_single single_mode.Off modes round es id = few_left modes es id
 by_single single_mode.On modes round es id = few_left modes es id
 by_single single_mode.Oneshot modes round es id = few_left modes es id
 
-ended_keeps : (p : PlayerState) (es : List Entry) (id place : ℕ) → Keeps es (ByStep (steps.ended p es id place).edit)
-ended_keeps p es id place = by_single p.modes.single p.modes p.round es id
+ended_keeps : (p : PlayerState) (es : List Entry) (id offset : ℕ) → Keeps es (ByStep (steps.ended p es id offset).edit)
+ended_keeps p es id offset = by_single p.modes.single p.modes p.round es id
 
 next_keeps : (p : PlayerState) (es : List Entry) (current : Option ℕ) → Keeps es (ByStep (steps.next_by p es current).edit)
 next_keeps p es None = tt
@@ -52,9 +52,9 @@ next_keeps p es (Some id) = few_left p.modes es id
 found_keeps : (rate : ℕ) (p : PlayerState) (es : List Entry) (id : ℕ) (found : Option Entry) → Keeps es (ByStep (decoding.want_at rate p es id found).stepped.edit)
 found_keeps rate p es id None = tt
 found_keeps rate p es id (Some entry) =
-    let ends_here : decoding.Wanted = record { stepped = steps.ended p es id 0; job = None } in
-    let goes_on : decoding.Wanted = decoding.job_for rate p entry (ends.peek p.modes p.round es id) in
-    elim (nat_le entry.song.frames p.place) as (λ b. Keeps es (ByStep (if b then ends_here else goes_on).stepped.edit)) [ true ↦ ended_keeps p es id 0 | false ↦ tt ]
+    let ends_here : decoding.DueJob = record { stepped = steps.ended p es id 0; job = None } in
+    let goes_on : decoding.DueJob = decoding.job_for rate p entry (ends.peek p.modes p.round es id) in
+    elim (nat_le entry.song.frames p.offset) as (λ b. Keeps es (ByStep (if b then ends_here else goes_on).stepped.edit)) [ true ↦ ended_keeps p es id 0 | false ↦ tt ]
 
 current_keeps : (rate : ℕ) (p : PlayerState) (es : List Entry) (current : Option ℕ) → Keeps es (ByStep (decoding.want_of rate p es current).stepped.edit)
 current_keeps rate p es None = tt
@@ -67,10 +67,10 @@ want_keeps rate p es enabled owes =
 
 accepted_keeps : (p : PlayerState) (es : List Entry) (job : Job) (count : ℕ) → Keeps es (ByStep (decoding.accepted p es job count).edit)
 accepted_keeps p es job count =
-    let place : ℕ = decoding.mixed job.fade count in
+    let offset : ℕ = decoding.mixed job.fade count in
     elim (decoding.is_last p es job count)
-    as (λ b. Keeps es (ByStep (if b then steps.ended (record p { place = p.place + count }) es job.id place else stays (record p { place = p.place + count; job = None })).edit))
-    [ true ↦ ended_keeps (record p { place = p.place + count }) es job.id place | false ↦ tt ]
+    as (λ b. Keeps es (ByStep (if b then steps.ended (record p { offset = p.offset + count }) es job.id offset else stays (record p { offset = p.offset + count; job = None })).edit))
+    [ true ↦ ended_keeps (record p { offset = p.offset + count }) es job.id offset | false ↦ tt ]
 
 job_keeps : (p : PlayerState) (es : List Entry) (job : Option Job) (number count : ℕ) → Keeps es (ByStep (decoding.have_of p es job number count).stepped.edit)
 job_keeps p es None number count = tt

@@ -15,7 +15,7 @@ use Rattle.player_core.specs.Steps as steps
 use Rattle.player_core.specs.Decoding as decoding
 use Rattle.player_state.specs.declared.effect.Effect.{Effect}
 use Rattle.player_state.specs.declared.effect.Effect.TheVariants.{ByCommand, ByAudio}
-use Rattle.player_state.specs.declared.effect.CommandEffect.TheVariants.{Rests, Edits, Shuffles, SetsVolume, SetsRepeat, SetsRandom, SetsSingle, SetsConsume, SetsCrossfade, ClearsError, Plays, PlaysPlace, Pauses, TogglesPause, Stops, GoesOn, GoesBack, Seeks, Switches, Subscribes, Unsubscribes, Sends, ReadsMessages, Leaves}
+use Rattle.player_state.specs.declared.effect.CommandEffect.TheVariants.{Rests, Edits, Shuffles, SetsVolume, SetsRepeat, SetsRandom, SetsSingle, SetsConsume, SetsCrossfade, ClearsError, Plays, PlaysPosition, Pauses, TogglesPause, Stops, GoesOn, GoesBack, Seeks, Switches, Subscribes, Unsubscribes, Sends, ReadsMessages, Leaves}
 use Rattle.player_state.specs.declared.effect.AudioStep.TheVariants.{Wants, Accepts, Fails, Settles}
 use Rattle.player_state.specs.declared.report.Feed.{Feed}
 use Rattle.player_state.specs.declared.report.Report.{Report}
@@ -29,7 +29,7 @@ use Rattle.player_state.specs.Scans.{ScanData}
 abbrev pub entries : Part → List Entry
 entries part = queue_of part.queue
 
--- a song by its place starts, or is sought in; nothing happens where there is none
+-- a song by its position starts, or is sought in; nothing happens where there is none
 abbrev pub played_entry : PlayerState → Option Entry → PlayerState
 played_entry p None = p
 played_entry p (Some entry) = steps.play_entry p entry
@@ -48,13 +48,13 @@ player_edited p queue (Prioritize ranges priority) = p
 player_edited p queue (Swap a b) = p
 player_edited p queue (Shuffle start end words) = p
 
--- the song at a place starts
-abbrev pub played_place : Part → ℕ → PlayerState
-played_place part place = played_entry part.player (slice_get (entries part) place)
+-- the song at a position starts
+abbrev pub played_position : Part → ℕ → PlayerState
+played_position part position = played_entry part.player (slice_get (entries part) position)
 
--- the song at a place is played from a frame on
-abbrev pub sought_place : Part → ℕ → ℕ → PlayerState
-sought_place part place frame = sought_entry part.player (slice_get (entries part) place) frame
+-- the song at a position is played from a frame on
+abbrev pub sought_position : Part → ℕ → ℕ → PlayerState
+sought_position part position frame = sought_entry part.player (slice_get (entries part) position) frame
 
 -- the queue is edited, and the player goes along
 abbrev pub part_edited : Part → Edit → Part
@@ -68,8 +68,8 @@ part_stepped part stepped = record part { queue = player.queue_after part.queue 
 abbrev pub with_channels : Part → List MemberData → Part
 with_channels part channels = record part { channels = channels }
 
-abbrev pub wanted : ℕ → Part → Bool → decoding.Wanted
-wanted rate part owes = decoding.want rate part.player (entries part) (any_enabled part.outputs) owes
+abbrev pub due_job : ℕ → Part → Bool → decoding.DueJob
+due_job rate part owes = decoding.want rate part.player (entries part) (any_enabled part.outputs) owes
 
 abbrev pub had : Part → ℕ → ℕ → decoding.Had
 had part number frames = decoding.have part.player (entries part) number frames
@@ -87,15 +87,15 @@ player_after rate part (ByCommand (SetsConsume consume)) = steps.set_consume par
 player_after rate part (ByCommand (SetsCrossfade seconds)) = steps.set_crossfade part.player seconds
 player_after rate part (ByCommand ClearsError) = steps.clear_error part.player
 player_after rate part (ByCommand Plays) = steps.play part.player (entries part)
-player_after rate part (ByCommand (PlaysPlace place)) = played_place part place
+player_after rate part (ByCommand (PlaysPosition position)) = played_position part position
 player_after rate part (ByCommand (Pauses on)) = steps.pause part.player on
 player_after rate part (ByCommand TogglesPause) = steps.toggle_pause part.player
 player_after rate part (ByCommand Stops) = steps.stop part.player
 player_after rate part (ByCommand GoesOn) = (steps.next part.player (entries part)).player
 player_after rate part (ByCommand GoesBack) = steps.previous part.player (entries part)
-player_after rate part (ByCommand (Seeks place frame)) = sought_place part place frame
+player_after rate part (ByCommand (Seeks position frame)) = sought_position part position frame
 player_after rate part (ByCommand (Switches output on)) = part.player
-player_after rate part (ByAudio (Wants owes)) = (wanted rate part owes).stepped.player
+player_after rate part (ByAudio (Wants owes)) = (due_job rate part owes).stepped.player
 player_after rate part (ByAudio (Accepts number frames)) = (had part number frames).stepped.player
 player_after rate part (ByAudio (Fails number partner)) = decoding.failed part.player (entries part) number partner
 player_after rate part (ByAudio (Settles output written discarded failed)) = part.player
@@ -114,7 +114,7 @@ abbrev pub change_of : ℕ → Part → Effect → Change
 change_of rate part (ByCommand (Edits edit)) = ByEdit edit
 change_of rate part (ByCommand (Shuffles start end)) = ByEdit (Shuffle start end (steps.shuffle_words part.player start end))
 change_of rate part (ByCommand GoesOn) = ByStep (steps.next part.player (entries part)).edit
-change_of rate part (ByAudio (Wants owes)) = ByStep (wanted rate part owes).stepped.edit
+change_of rate part (ByAudio (Wants owes)) = ByStep (due_job rate part owes).stepped.edit
 change_of rate part (ByAudio (Accepts number frames)) = ByStep (had part number frames).stepped.edit
 change_of rate part _ = ByStep None
 
@@ -133,7 +133,7 @@ asked_for (Some job) outputs = asked_all outputs
 
 abbrev pub outputs_after : ℕ → Part → Effect → OutputsData
 outputs_after rate part (ByCommand (Switches output on)) = switched part.outputs output on
-outputs_after rate part (ByAudio (Wants owes)) = asked_for (wanted rate part owes).job part.outputs
+outputs_after rate part (ByAudio (Wants owes)) = asked_for (due_job rate part owes).job part.outputs
 outputs_after rate part (ByAudio (Settles output written discarded failed)) = turned part.outputs output failed
 outputs_after rate part _ = part.outputs
 
@@ -162,7 +162,7 @@ played_after part _ = part.played
 -- the decoder asks for a job
 abbrev pub part_asked : ℕ → Part → Bool → Part
 part_asked rate part owes =
-    record (part_stepped part (wanted rate part owes).stepped) { outputs = asked_for (wanted rate part owes).job part.outputs }
+    record (part_stepped part (due_job rate part owes).stepped) { outputs = asked_for (due_job rate part owes).job part.outputs }
 
 -- the player takes frames of a job
 abbrev pub part_with : Part → ℕ → ℕ → Part
@@ -171,7 +171,7 @@ part_with part number frames = record (part_stepped part (had part number frames
 -- what one player owns, after an event; its number and its name stay
 abbrev pub part_after : ℕ → Part → Effect → Part
 part_after rate part effect = record {
-  place = part.place;
+  index = part.index;
   name = part.name;
   queue = queue_after part.queue (change_of rate part effect);
   player = player_after rate part effect;
@@ -205,7 +205,7 @@ told_or other own = other
 -- Another event is answered this report
 abbrev pub report_after : ℕ → Part → Effect → Report → Report
 report_after rate part (ByCommand Rests) report = report
-report_after rate part (ByAudio (Wants owes)) report = ToDecode (wanted rate part owes).job
+report_after rate part (ByAudio (Wants owes)) report = ToDecode (due_job rate part owes).job
 report_after rate part (ByAudio (Accepts number frames)) report = ToFeed (fed_with part number frames)
 report_after rate part (ByAudio (Settles output written discarded failed)) report = told_or report (heard_after_turn part output failed)
 report_after rate part _ report = Nothing

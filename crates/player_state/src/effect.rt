@@ -5,7 +5,7 @@ ghost use Rattle.song_queue.specs.Laws.{Takes};
 ghost use Rattle.player_core.specs.Player as player;
 ghost use Rattle.player_state.specs.Outputs.{turned};
 ghost use Rattle.player_state.specs.Fits.{Fits};
-ghost use Rattle.player_state.specs.Effects.{asked_for, fed_with, feed_of as feed_of_lem, had, heard_after_turn, part_after, part_asked, part_edited, part_with, played_place, played_with as played_with_lem, player_after, player_edited, report_after, sought_place, told_or as told_or_lem, wanted, with_channels};
+ghost use Rattle.player_state.specs.Effects.{asked_for, fed_with, feed_of as feed_of_lem, had, heard_after_turn, part_after, part_asked, part_edited, part_with, played_position, played_with as played_with_lem, player_after, player_edited, report_after, sought_position, told_or as told_or_lem, due_job, with_channels};
 ghost use Rattle.player_state.specs.Outcomes.{IsAtLimitOnlyBeyond, IsDoneOnlyWithin, Reports};
 
 use crate::outputs::Outputs;
@@ -35,8 +35,8 @@ pub enum CommandEffect {
     ClearsError,
     /// What is paused plays, and what is stopped begins.
     Plays,
-    /// The entry at a place starts.
-    PlaysPlace(usize),
+    /// The entry at a position starts.
+    PlaysPosition(usize),
     Pauses(bool),
     TogglesPause,
     Stops,
@@ -44,7 +44,7 @@ pub enum CommandEffect {
     GoesOn,
     /// The song before starts.
     GoesBack,
-    /// The entry at a place is played from a frame on.
+    /// The entry at a position is played from a frame on.
     Seeks(usize, u64),
     /// An output is turned on or off.
     Switches(usize, bool),
@@ -75,7 +75,7 @@ impl Drop for CommandEffect {
             | CommandEffect::SetsCrossfade(_)
             | CommandEffect::ClearsError
             | CommandEffect::Plays
-            | CommandEffect::PlaysPlace(_)
+            | CommandEffect::PlaysPosition(_)
             | CommandEffect::Pauses(_)
             | CommandEffect::TogglesPause
             | CommandEffect::Stops
@@ -115,13 +115,13 @@ impl CommandEffect {
             CommandEffect::SetsCrossfade(seconds) => { part.player.set_crossfade(seconds); Ok(done(part)) }
             CommandEffect::ClearsError => { part.player.clear_error(); Ok(done(part)) }
             CommandEffect::Plays => { part.player.play(&part.queue)?; Ok(done(part)) }
-            CommandEffect::PlaysPlace(place) => play_place(part, place),
+            CommandEffect::PlaysPosition(position) => play_position(part, position),
             CommandEffect::Pauses(on) => { part.player.pause(on); Ok(done(part)) }
             CommandEffect::TogglesPause => { part.player.toggle_pause(); Ok(done(part)) }
             CommandEffect::Stops => { part.player.stop()?; Ok(done(part)) }
             CommandEffect::GoesOn => { part.player.next(&mut part.queue)?; Ok(done(part)) }
             CommandEffect::GoesBack => { part.player.previous(&part.queue)?; Ok(done(part)) }
-            CommandEffect::Seeks(place, frame) => seek_place(part, place, frame),
+            CommandEffect::Seeks(position, frame) => seek_position(part, position, frame),
             CommandEffect::Switches(output, on) => { part.outputs.switch(output, on); Ok(done(part)) }
             CommandEffect::Subscribes(client, channel) => { subscribe(part, client, channel.as_str())?; Ok(done(part)) }
             CommandEffect::Unsubscribes(client, channel) => { unsubscribe(part, client, channel.as_str()); Ok(done(part)) }
@@ -284,27 +284,27 @@ fn edit_queue(part: &mut Part, edit: Edit) -> Result<Report, PlayerFault>
     }
 }
 
-fn play_place(part: &mut Part, place: usize) -> Result<Report, PlayerFault>
-    ensures part { OnOk result (part.new ≡ record part.old { player = played_place part.old place }) }
+fn play_position(part: &mut Part, position: usize) -> Result<Report, PlayerFault>
+    ensures part { OnOk result (part.new ≡ record part.old { player = played_position part.old position }) }
     ensures report { Reports result Report.Nothing }
-    ensures within { IsDoneOnlyWithin result (played_place part.old place) }
-    ensures limit { IsAtLimitOnlyBeyond result (played_place part.old place) }
+    ensures within { IsDoneOnlyWithin result (played_position part.old position) }
+    ensures limit { IsAtLimitOnlyBeyond result (played_position part.old position) }
     ensures err { OnErr result (part.new ≡ part.old) }
 {
-    if let Some(entry) = part.queue.get(place) {
+    if let Some(entry) = part.queue.get(position) {
         part.player.play_entry(entry)?;
     }
     Ok(done(part))
 }
 
-fn seek_place(part: &mut Part, place: usize, frame: u64) -> Result<Report, PlayerFault>
-    ensures part { OnOk result (part.new ≡ record part.old { player = sought_place part.old place frame }) }
+fn seek_position(part: &mut Part, position: usize, frame: u64) -> Result<Report, PlayerFault>
+    ensures part { OnOk result (part.new ≡ record part.old { player = sought_position part.old position frame }) }
     ensures report { Reports result Report.Nothing }
-    ensures within { IsDoneOnlyWithin result (sought_place part.old place frame) }
-    ensures limit { IsAtLimitOnlyBeyond result (sought_place part.old place frame) }
+    ensures within { IsDoneOnlyWithin result (sought_position part.old position frame) }
+    ensures limit { IsAtLimitOnlyBeyond result (sought_position part.old position frame) }
     ensures err { OnErr result (part.new ≡ part.old) }
 {
-    if let Some(entry) = part.queue.get(place) {
+    if let Some(entry) = part.queue.get(position) {
         part.player.seek(entry, frame)?;
     }
     Ok(done(part))
@@ -312,9 +312,9 @@ fn seek_place(part: &mut Part, place: usize, frame: u64) -> Result<Report, Playe
 
 fn want(part: &mut Part, rate: &Rate, owes: bool) -> Result<Report, PlayerFault>
     ensures part { OnOk result (part.new ≡ part_asked rate.now part.old owes) }
-    ensures report { Reports result (Report.ToDecode (wanted rate.now part.old owes).job) }
-    ensures within { IsDoneOnlyWithin result (wanted rate.now part.old owes).stepped.player }
-    ensures limit { IsAtLimitOnlyBeyond result (wanted rate.now part.old owes).stepped.player }
+    ensures report { Reports result (Report.ToDecode (due_job rate.now part.old owes).job) }
+    ensures within { IsDoneOnlyWithin result (due_job rate.now part.old owes).stepped.player }
+    ensures limit { IsAtLimitOnlyBeyond result (due_job rate.now part.old owes).stepped.player }
     ensures err { OnErr result (part.new ≡ part.old) }
 {
     let enabled = part.outputs.any_enabled();

@@ -17,7 +17,7 @@ use std::alloc::{AllocError, Global};
 pub struct Client {
     pub number: u32,
     /// The partition that it is in, by its number.
-    pub place: u8,
+    pub index: u8,
     /// The tags that it is shown.
     pub tags: TagSet,
     pub pending: Pending,
@@ -39,7 +39,7 @@ pub struct Library {
 #[derive(Drop)]
 pub struct Part {
     /// Its number, by which clients and steps name it; 0 is the one that is always there.
-    pub place: u8,
+    pub index: u8,
     pub name: SharedText,
     pub queue: Queue,
     pub player: Player,

@@ -7,7 +7,7 @@ use mpd_command::{
 };
 use std::alloc::{AllocError, Global};
 use std::test::Fail;
-use test_texts::{Told, wants};
+use test_texts::{Recorder, wants};
 
 /// A command that has no argument.
 fn bare(command: &Command) -> &'static str {
@@ -23,66 +23,72 @@ fn bare(command: &Command) -> &'static str {
 }
 
 /// Adds a command of an output or of the options, or one that has no argument.
-fn add_option(told: &mut Told, command: &Command) {
+fn add_option(recorder: &mut Recorder, command: &Command) {
     match command {
         Command::Outputs(OutputCommand::DisableOutput(output)) => {
-            told.add(format_args!("DisableOutput({output})"));
+            recorder.add(format_args!("DisableOutput({output})"));
         }
         Command::Outputs(OutputCommand::EnableOutput(output)) => {
-            told.add(format_args!("EnableOutput({output})"));
+            recorder.add(format_args!("EnableOutput({output})"));
         }
         Command::Outputs(OutputCommand::ToggleOutput(output)) => {
-            told.add(format_args!("ToggleOutput({output})"));
+            recorder.add(format_args!("ToggleOutput({output})"));
         }
         Command::Options(OptionCommand::Consume(mode)) => {
-            told.add(format_args!("Consume({mode:?})"));
+            recorder.add(format_args!("Consume({mode:?})"));
         }
-        Command::Options(OptionCommand::Random(on)) => told.add(format_args!("Random({on})")),
-        Command::Options(OptionCommand::Single(mode)) => told.add(format_args!("Single({mode:?})")),
-        Command::Queue(QueueCommand::Shuffle(range)) => told.add(format_args!(
+        Command::Options(OptionCommand::Random(on)) => recorder.add(format_args!("Random({on})")),
+        Command::Options(OptionCommand::Single(mode)) => recorder.add(format_args!(
+            "Single({mode:?})"
+        )),
+        Command::Queue(QueueCommand::Shuffle(range)) => recorder.add(format_args!(
             "Shuffle({range:?})"
         )),
-        _ => told.add(bare(command)),
+        _ => recorder.add(bare(command)),
     }
 }
 
 /// Adds a command with its values.
-fn add_command(told: &mut Told, command: &Command) {
+fn add_command(recorder: &mut Recorder, command: &Command) {
     match command {
-        Command::Playback(PlaybackCommand::Pause(on)) => told.add(format_args!("Pause({on:?})")),
-        Command::Playback(PlaybackCommand::Play(place)) => told.add(format_args!(
-            "Play({place:?})"
+        Command::Playback(PlaybackCommand::Pause(on)) => recorder.add(format_args!(
+            "Pause({on:?})"
         )),
-        Command::Playback(PlaybackCommand::PlayId(id)) => told.add(format_args!("PlayId({id:?})")),
-        Command::Playback(PlaybackCommand::Seek(place, time)) => {
-            told.add(format_args!("Seek({place}, {})", time.0));
+        Command::Playback(PlaybackCommand::Play(position)) => recorder.add(format_args!(
+            "Play({position:?})"
+        )),
+        Command::Playback(PlaybackCommand::PlayId(id)) => recorder.add(format_args!(
+            "PlayId({id:?})"
+        )),
+        Command::Playback(PlaybackCommand::Seek(position, time)) => {
+            recorder.add(format_args!("Seek({position}, {})", time.0));
         }
         Command::Playback(PlaybackCommand::SeekId(id, time)) => {
-            told.add(format_args!("SeekId({id}, {})", time.0));
+            recorder.add(format_args!("SeekId({id}, {})", time.0));
         }
         Command::Playback(PlaybackCommand::SeekCur(seeking)) => {
-            told.add(format_args!("SeekCur({seeking:?})"));
+            recorder.add(format_args!("SeekCur({seeking:?})"));
         }
-        _ => add_option(told, command),
+        _ => add_option(recorder, command),
     }
 }
 
 /// Adds what a line is read as.
-fn add_read(told: &mut Told, alloc: Global, line: &str) {
+fn add_read(recorder: &mut Recorder, alloc: Global, line: &str) {
     match &Request::of_line(alloc, line, CommandSet::base()) {
-        Ok(Request::Run(_, command)) => add_command(told, command),
-        Ok(Request::Refused(ack)) => told.add(ack.text.as_str()),
-        Err(_) => told.fail(),
+        Ok(Request::Run(_, command)) => add_command(recorder, command),
+        Ok(Request::Refused(ack)) => recorder.add(ack.text.as_str()),
+        Err(_) => recorder.fail(),
     }
-    told.add("\n");
+    recorder.add("\n");
 }
 
 fn read_each(alloc: Global, lines: &str) -> Result<String, AllocError> {
-    let mut told = Told::new(alloc);
+    let mut recorder = Recorder::new(alloc);
     for line in lines.lines() {
-        add_read(&mut told, alloc, line);
+        add_read(&mut recorder, alloc, line);
     }
-    told.into_text()
+    recorder.into_text()
 }
 
 const COMMANDS: &str = "clearerror

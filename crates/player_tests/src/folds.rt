@@ -5,16 +5,16 @@ use crate::sessions::{ROOMS, ROOMS_TELL, SCANS, SCANS_TELL, add_numbered};
 use crate::shelf_sizes::{add_doubled, add_doubling};
 use std::alloc::{AllocError, Global};
 use std::test::Fail;
-use test_texts::{Told, wants, wants_made};
+use test_texts::{Recorder, wants, wants_made};
 
 /// The most events of the windows in which each session is run.
 const WINDOWS: [u32; 4] = [1, 2, 3, 4096];
 
-/// What a session tells with a fold before the step at a place; places count from 0.
-fn with_fold(alloc: Global, uris: &str, steps: &str, place: usize) -> Result<String, AllocError> {
-    let mut folded = Told::new(alloc);
+/// What a session tells with a fold before the step at an index; indices count from 0.
+fn with_fold(alloc: Global, uris: &str, steps: &str, index: usize) -> Result<String, AllocError> {
+    let mut folded = Recorder::new(alloc);
     for (number, line) in steps.lines().enumerate() {
-        if number == place {
+        if number == index {
             folded.add("folds\n");
         }
         folded.add(format_args!("{line}\n"));
@@ -24,35 +24,47 @@ fn with_fold(alloc: Global, uris: &str, steps: &str, place: usize) -> Result<Str
 
 /// Adds where a session was, where it told something else than is wanted.
 fn add_odd(
-    told: &mut Told,
+    recorder: &mut Recorder,
     session: Result<String, AllocError>,
-    wanted: &str,
+    expected: &str,
     at: &str,
     number: usize,
 ) {
     match session {
         Ok(text) => {
-            if text.as_str() != wanted {
-                told.add(format_args!("{at} {number}\n"));
+            if text.as_str() != expected {
+                recorder.add(format_args!("{at} {number}\n"));
             }
         }
-        Err(_) => told.fail(),
+        Err(_) => recorder.fail(),
     }
 }
 
-/// The numbers of the windows in which a session tells something else than is wanted, and the places of the
+/// The numbers of the windows in which a session tells something else than is wanted, and the indices of the
 /// steps before which a fold makes it do so, each in a line.
-fn oddities(alloc: Global, uris: &str, steps: &str, wanted: &str) -> Result<String, AllocError> {
-    let mut told = Told::new(alloc);
+fn oddities(alloc: Global, uris: &str, steps: &str, expected: &str) -> Result<String, AllocError> {
+    let mut recorder = Recorder::new(alloc);
     for most in WINDOWS.iter() {
         let session = session_within(alloc, *most, uris, steps);
-        add_odd(&mut told, session, wanted, "in a window of", *most as usize);
+        add_odd(
+            &mut recorder,
+            session,
+            expected,
+            "in a window of",
+            *most as usize,
+        );
     }
-    for place in 0..steps.lines().count() {
-        let session = with_fold(alloc, uris, steps, place);
-        add_odd(&mut told, session, wanted, "with a fold before step", place);
+    for index in 0..steps.lines().count() {
+        let session = with_fold(alloc, uris, steps, index);
+        add_odd(
+            &mut recorder,
+            session,
+            expected,
+            "with a fold before step",
+            index,
+        );
     }
-    told.into_text()
+    recorder.into_text()
 }
 
 /// A session that leaves something in each part of the state, and then shows all of it.
@@ -300,7 +312,7 @@ fn windows_are_counted_and_folded(rt: HostRuntime) -> Result<(), Fail> {
 
 /// What is told where the greatest window is filled, and two more events come.
 fn greatest_window(alloc: Global) -> Result<String, AllocError> {
-    let mut steps = Told::new(alloc);
+    let mut steps = Recorder::new(alloc);
     steps.add("comes 1\n");
     steps.add_made("1 ping\n".repeat(alloc, 4095));
     steps.add("show window\n1 ping\nshow window\n1 ping\nshow window\n");
@@ -308,13 +320,13 @@ fn greatest_window(alloc: Global) -> Result<String, AllocError> {
 }
 
 fn greatest_window_tells(alloc: Global) -> Result<String, AllocError> {
-    let mut told = Told::new(alloc);
-    told.add("OK MPD 0.23.0\n");
-    told.add_made("OK\n".repeat(alloc, 4095));
-    told.add(
+    let mut recorder = Recorder::new(alloc);
+    recorder.add("OK MPD 0.23.0\n");
+    recorder.add_made("OK\n".repeat(alloc, 4095));
+    recorder.add(
         "events: 4096, bytes: 12299, all: 4096\nOK\nevents: 1, bytes: 3, all: 4097\nOK\nevents: 2, bytes: 6, all: 4098\n",
     );
-    told.into_text()
+    recorder.into_text()
 }
 
 /// The window of 93 events is full, is folded by the next event, and then by hand. The order of play is the
@@ -366,7 +378,7 @@ seat 15: 64, seat 3: 38, all: 102, entries: 16383, clients: 64, volume: 100
 
 /// What is told where the state is the greatest: 16,384 entries and 64 clients.
 fn greatest(alloc: Global) -> Result<String, AllocError> {
-    let mut steps = Told::new(alloc);
+    let mut steps = Recorder::new(alloc);
     add_doubling(&mut steps);
     add_numbered(&mut steps, "comes ", 2, "");
     steps.add(GREATEST);
@@ -374,11 +386,11 @@ fn greatest(alloc: Global) -> Result<String, AllocError> {
 }
 
 fn greatest_tells(alloc: Global) -> Result<String, AllocError> {
-    let mut told = Told::new(alloc);
-    add_doubled(&mut told, alloc);
-    told.add_made("OK MPD 0.23.0\n".repeat(alloc, 63));
-    told.add(GREATEST_TELLS);
-    told.into_text()
+    let mut recorder = Recorder::new(alloc);
+    add_doubled(&mut recorder, alloc);
+    recorder.add_made("OK MPD 0.23.0\n".repeat(alloc, 63));
+    recorder.add(GREATEST_TELLS);
+    recorder.into_text()
 }
 
 #[test]

@@ -3,7 +3,7 @@ use crate::session::session_over;
 use kept_state::{kept_of, state_text};
 use std::alloc::{AllocError, Global};
 use std::test::Fail;
-use test_texts::{Told, wants_made};
+use test_texts::{Recorder, wants_made};
 
 const SONGS: &str = "a.wav\nb.wav\nc.wav";
 
@@ -25,13 +25,13 @@ const FIRST_OPTIONS: &str = "setvol 100\nrepeat 0\nrandom 0\nsingle 0\nconsume 0
 /// The state of a player that was told these steps.
 fn state_after(alloc: Global, uris: &str, steps: &str) -> Result<String, AllocError> {
     let steps = format!(in alloc; "comes 1\n{steps}{QUESTIONS}")?;
-    let told = session_over(alloc, uris, steps.as_str())?;
-    state_text(alloc, &kept_of(alloc, told.as_str())?)
+    let observed = session_over(alloc, uris, steps.as_str())?;
+    state_text(alloc, &kept_of(alloc, observed.as_str())?)
 }
 
 /// The steps of a client that says these lines.
 pub(crate) fn steps_of(alloc: Global, lines: &str) -> Result<String, AllocError> {
-    let mut steps = Told::new(alloc);
+    let mut steps = Recorder::new(alloc);
     let mut is_in_list = false;
     for line in lines.lines() {
         if line == "command_list_begin" {
@@ -113,7 +113,7 @@ fn paused_tells(alloc: Global, songs: [&str; 3]) -> Result<String, AllocError> {
     format!(in alloc; "{PAUSED_OPTIONS}{last}{song}{first}")
 }
 
-// Songs that are gone take no others along: those have their own priorities and places.
+// Songs that are gone take no others along: those have their own priorities and positions.
 #[test]
 fn a_paused_player_comes_back(rt: HostRuntime) -> Result<(), Fail> {
     let alloc = rt.alloc();

@@ -79,8 +79,8 @@ command_list_end
 /// The state of a player that was told these steps, and was asked these questions.
 fn state_after(alloc: Global, uris: &str, steps: &str, asked: &str) -> Result<String, AllocError> {
     let steps = format!(in alloc; "comes 1\n{steps}{ASKED}{asked}")?;
-    let told = session_over(alloc, uris, steps.as_str())?;
-    match partitions_of(alloc, told.as_str())? {
+    let observed = session_over(alloc, uris, steps.as_str())?;
+    match partitions_of(alloc, observed.as_str())? {
         Some(partitions) => player_text(alloc, &partitions),
         None => String::from_str(alloc, "not all\n"),
     }
@@ -97,7 +97,7 @@ fn states(alloc: Global) -> Result<String, AllocError> {
     format!(in alloc; "{state}{again}{gone}{one}")
 }
 
-fn wanted_states(alloc: Global) -> Result<String, AllocError> {
+fn expected_states(alloc: Global) -> Result<String, AllocError> {
     let others = "addid \"b.wav\" 0\n";
     let whole = format!(in alloc; "{DEFAULT}{KITCHEN}{KITCHEN_SONG}{others}")?;
     format!(in alloc; "{whole}{whole}{DEFAULT}{KITCHEN}{others}not all\n")
@@ -106,5 +106,5 @@ fn wanted_states(alloc: Global) -> Result<String, AllocError> {
 #[test]
 fn partitions_come_back(rt: HostRuntime) -> Result<(), Fail> {
     let alloc = rt.alloc();
-    wants_made(states(alloc), wanted_states(alloc))
+    wants_made(states(alloc), expected_states(alloc))
 }

@@ -15,7 +15,7 @@ use song_db::SharedDb;
 use std::alloc::{AllocError, Global};
 use test_players::{library, list_answer, player, requests};
 use test_songs::song;
-use test_texts::Told;
+use test_texts::Recorder;
 use transitions::{Next, Stand};
 
 /// A song of one second for each line, without tags.
@@ -91,52 +91,52 @@ fn bare_report(report: Report) -> &'static str {
 
 /// Adds what is told to a scanner, a decoder or an output. Of a job these are its number, id, first frame and
 /// count: none of these sessions fades.
-fn add_report(told: &mut Told, report: Report) {
+fn add_report(recorder: &mut Recorder, report: Report) {
     match report {
         Report::ToDecode(Some(job)) => {
             let (number, id, from, count) = (job.number, job.id, job.from, job.count);
-            told.add(format_args!("job {number} {id} {from} {count}\n"));
+            recorder.add(format_args!("job {number} {id} {from} {count}\n"));
         }
         Report::ToFeed(Some(feed)) => {
             let (cut, volume) = (feed.cut, feed.volume);
-            told.add(format_args!("feed {cut} {volume}\n"));
+            recorder.add(format_args!("feed {cut} {volume}\n"));
         }
         Report::ToPlay(heard) => {
             let (cut, enabled, paused) = (heard.live.cut, heard.live.enabled, heard.live.paused);
-            told.add(format_args!("live {cut} {enabled} {paused}\n"));
+            recorder.add(format_args!("live {cut} {enabled} {paused}\n"));
         }
-        Report::ToScan(Some(number)) => told.add(format_args!("scan {number}\n")),
-        _ => told.add(bare_report(report)),
+        Report::ToScan(Some(number)) => recorder.add(format_args!("scan {number}\n")),
+        _ => recorder.add(bare_report(report)),
     }
 }
 
-fn notice_told(alloc: Global, notice: &Notice) -> Result<String, AllocError> {
+fn notice_observed(alloc: Global, notice: &Notice) -> Result<String, AllocError> {
     let mut lines = Answer::new(alloc);
     notice.names.push_lines(&mut lines)?;
     format!(in alloc; "{}: {}", notice.client, lines.as_str())
 }
 
 /// Adds what others hear, each notice after its client.
-fn add_notices(told: &mut Told, alloc: Global, notices: &[Notice]) {
+fn add_notices(recorder: &mut Recorder, alloc: Global, notices: &[Notice]) {
     for notice in notices {
-        told.add_made(notice_told(alloc, notice));
+        recorder.add_made(notice_observed(alloc, notice));
     }
 }
 
 /// Adds what clients hear of an event: the answer, `waits` or `closed` where the client does or is, and each
 /// notice after its client; and what a scanner is told.
-fn add_heard(told: &mut Told, alloc: Global, outcome: &Outcome) {
-    told.add(outcome.reply().text());
-    told.add(after(outcome.reply().next()));
-    add_notices(told, alloc, outcome.notices());
-    add_report(told, outcome.report());
+fn add_heard(recorder: &mut Recorder, alloc: Global, outcome: &Outcome) {
+    recorder.add(outcome.reply().text());
+    recorder.add(after(outcome.reply().next()));
+    add_notices(recorder, alloc, outcome.notices());
+    add_report(recorder, outcome.report());
 }
 
 /// Applies an event, and adds what clients hear of it, or that it was not applied.
-fn happens(lent: &mut Lent, alloc: Global, seat: u8, event: Event, told: &mut Told) {
+fn happens(lent: &mut Lent, alloc: Global, seat: u8, event: Event, recorder: &mut Recorder) {
     match lent.player.apply(seat % 16, &mut lent.shelf, event) {
-        Ok(outcome) => add_heard(told, alloc, &outcome),
-        Err(_) => told.add("not applied\n"),
+        Ok(outcome) => add_heard(recorder, alloc, &outcome),
+        Err(_) => recorder.add("not applied\n"),
     }
 }
 
@@ -151,7 +151,7 @@ fn events(player: &Partition) -> u64 {
 
 /// Adds what the player shows of itself: the events of seats 15 and 3, all events, the entries of the first
 /// partition, the clients, and that partition's volume.
-fn add_counts(told: &mut Told, player: &Partition) {
+fn add_counts(recorder: &mut Recorder, player: &Partition) {
     let (last, own) = (player.own(15), player.own(3));
     let all = events(player);
     let clients = player.clients().len();
@@ -159,17 +159,17 @@ fn add_counts(told: &mut Told, player: &Partition) {
         Some(part) => (part.queue.len(), part.volume.percent()),
         None => (0, 0),
     };
-    told.add(format_args!(
+    recorder.add(format_args!(
         "seat 15: {last}, seat 3: {own}, all: {all}, entries: {entries}, clients: {clients}, volume: {volume}\n"
     ));
 }
 
 /// Adds how many events the window has, the bytes that were answered at them, and how many events there were.
-fn add_window(told: &mut Told, player: &Partition) {
+fn add_window(recorder: &mut Recorder, player: &Partition) {
     let kept = player.history().len();
     let bytes = player.window_bytes();
     let all = events(player);
-    told.add(format_args!("events: {kept}, bytes: {bytes}, all: {all}\n"));
+    recorder.add(format_args!("events: {kept}, bytes: {bytes}, all: {all}\n"));
 }
 
 /// What is pending for each client, after its number.
@@ -183,13 +183,13 @@ fn pending(player: &Partition, alloc: Global) -> Result<String, AllocError> {
 }
 
 /// Adds the id and the priority of each entry of the first partition.
-fn add_entries(told: &mut Told, player: &Partition) {
+fn add_entries(recorder: &mut Recorder, player: &Partition) {
     let Some(part) = player.part(0) else {
         return;
     };
-    for place in 0..part.queue.len() {
-        let (id, priority) = entry(&part.queue, place);
-        told.add(format_args!("id {id}, priority {priority}\n"));
+    for position in 0..part.queue.len() {
+        let (id, priority) = entry(&part.queue, position);
+        recorder.add(format_args!("id {id}, priority {priority}\n"));
     }
 }
 
@@ -197,12 +197,12 @@ fn add_entries(told: &mut Told, player: &Partition) {
 const BOOKS: [usize; 4] = [0, 6, 7, 8];
 
 /// Adds the frames of these outputs: those that each was given, wrote and discarded.
-fn add_books(told: &mut Told, player: &Partition) {
+fn add_books(recorder: &mut Recorder, player: &Partition) {
     let books = player.books();
     for output in BOOKS.iter() {
         let (decoded, written) = (books.decoded(*output), books.written(*output));
         let discarded = books.discarded(*output);
-        told.add(format_args!("decoded {decoded}, written {written}, discarded {discarded}\n"));
+        recorder.add(format_args!("decoded {decoded}, written {written}, discarded {discarded}\n"));
     }
 }
 
@@ -215,14 +215,14 @@ fn has_client(player: &Partition, client: u32) -> &'static str {
 }
 
 /// Adds what the player shows where a step asks for it.
-fn show(player: &Partition, alloc: Global, what: &str, told: &mut Told) {
+fn show(player: &Partition, alloc: Global, what: &str, recorder: &mut Recorder) {
     match what {
-        "counts" => add_counts(told, player),
-        "pending" => told.add_made(pending(player, alloc)),
-        "entries" => add_entries(told, player),
-        "window" => add_window(told, player),
-        "books" => add_books(told, player),
-        _ => told.add(has_client(player, number_of(what))),
+        "counts" => add_counts(recorder, player),
+        "pending" => recorder.add_made(pending(player, alloc)),
+        "entries" => add_entries(recorder, player),
+        "window" => add_window(recorder, player),
+        "books" => add_books(recorder, player),
+        _ => recorder.add(has_client(player, number_of(what))),
     }
 }
 
@@ -233,11 +233,17 @@ fn says(
     client: u32,
     stand: Stand,
     request: Result<Request, AllocError>,
-    told: &mut Told,
+    recorder: &mut Recorder,
 ) {
     match request {
-        Ok(request) => happens(lent, alloc, 3, Event::line(client, stand, request), told),
-        Err(_) => told.fail(),
+        Ok(request) => happens(
+            lent,
+            alloc,
+            3,
+            Event::line(client, stand, request),
+            recorder,
+        ),
+        Err(_) => recorder.fail(),
     }
 }
 
@@ -257,32 +263,38 @@ fn request_with_leave(alloc: Global, line: &str) -> Result<Request, AllocError> 
 }
 
 /// What is heard of client 1 in a list, where the line comes after its place there.
-fn says_in_list(lent: &mut Lent, alloc: Global, form: ListForm, rest: &str, told: &mut Told) {
+fn says_in_list(
+    lent: &mut Lent,
+    alloc: Global,
+    form: ListForm,
+    rest: &str,
+    recorder: &mut Recorder,
+) {
     let (place, line) = first_word(rest);
     let stand = Stand::InList(form, number_of(place) as usize);
-    says(lent, alloc, 1, stand, request(alloc, line), told)
+    says(lent, alloc, 1, stand, request(alloc, line), recorder)
 }
 
 /// Adds what clients hear of a list: its whole answer, `closed` where the client is, and each notice after
 /// its client.
-fn add_list(told: &mut Told, alloc: Global, outcome: &ListOutcome) {
-    told.add_made(list_answer(alloc, outcome));
+fn add_list(recorder: &mut Recorder, alloc: Global, outcome: &ListOutcome) {
+    recorder.add_made(list_answer(alloc, outcome));
     if outcome.next().closes() {
-        told.add("closed\n");
+        recorder.add("closed\n");
     }
     for one in outcome.outcomes() {
-        add_notices(told, alloc, one.notices());
+        add_notices(recorder, alloc, one.notices());
     }
 }
 
 /// Runs a list of client 1 at seat 3, and adds what clients hear of it.
-fn runs_list(lent: &mut Lent, alloc: Global, form: ListForm, lines: &str, told: &mut Told) {
+fn runs_list(lent: &mut Lent, alloc: Global, form: ListForm, lines: &str, recorder: &mut Recorder) {
     let Ok(requests) = requests(alloc, lines) else {
-        return told.fail();
+        return recorder.fail();
     };
     match lent.player.run_list(3, &mut lent.shelf, 1, form, requests) {
-        Ok(outcome) => add_list(told, alloc, &outcome),
-        Err(_) => told.add("not run\n"),
+        Ok(outcome) => add_list(recorder, alloc, &outcome),
+        Err(_) => recorder.add("not run\n"),
     }
 }
 
@@ -296,100 +308,113 @@ fn found(alloc: Global, word: &str) -> Result<Option<SharedDb>, AllocError> {
 }
 
 /// What a scanner asks or brings, at seat 5.
-fn scans(lent: &mut Lent, alloc: Global, word: &str, told: &mut Told) {
+fn scans(lent: &mut Lent, alloc: Global, word: &str, recorder: &mut Recorder) {
     if word == "asks" {
-        return happens(lent, alloc, 5, Event::ScanQuestion, told);
+        return happens(lent, alloc, 5, Event::ScanQuestion, recorder);
     }
     match found(alloc, word) {
-        Ok(library) => happens(lent, alloc, 5, Event::ScanResult(library, 0), told),
-        Err(_) => told.fail(),
+        Ok(library) => happens(lent, alloc, 5, Event::ScanResult(library, 0), recorder),
+        Err(_) => recorder.fail(),
     }
 }
 
 /// What the decoder asks or brings, at seat 6.
-fn decodes(lent: &mut Lent, alloc: Global, rest: &str, told: &mut Told) {
+fn decodes(lent: &mut Lent, alloc: Global, rest: &str, recorder: &mut Recorder) {
     if rest == "wants" {
-        return happens(lent, alloc, 6, Event::Want(0, [false; 8]), told);
+        return happens(lent, alloc, 6, Event::Want(0, [false; 8]), recorder);
     }
     if let Some(rest) = rest.strip_prefix("fails ") {
         let (number, whose) = first_word(rest);
         let event = Event::Failed(0, u64::from(number_of(number)), whose == "partner");
-        return happens(lent, alloc, 6, event, told);
+        return happens(lent, alloc, 6, event, recorder);
     }
     let (number, frames) = two_numbers(rest);
     let event = Event::Have(0, u64::from(number), u64::from(frames));
-    happens(lent, alloc, 6, event, told)
+    happens(lent, alloc, 6, event, recorder)
 }
 
 /// An output has its turn, at seat 7: its number, the frames that it wrote, and those that it discarded; one
 /// that discarded 4,294,967,295 has failed.
-fn turns(lent: &mut Lent, alloc: Global, rest: &str, told: &mut Told) {
+fn turns(lent: &mut Lent, alloc: Global, rest: &str, recorder: &mut Recorder) {
     let (output, rest) = first_word(rest);
     let (written, discarded) = two_numbers(rest);
     let failed = discarded == u32::MAX;
     let (written, discarded) = (u64::from(written), u64::from(discarded));
     let output = number_of(output) as usize;
     let event = Event::OutputTurn(output, written, discarded, failed);
-    happens(lent, alloc, 7, event, told)
+    happens(lent, alloc, 7, event, recorder)
 }
 
 /// Folds the history, and adds nothing but that it was not folded.
-fn folds(player: &mut Partition, told: &mut Told) {
+fn folds(player: &mut Partition, recorder: &mut Recorder) {
     if player.fold().is_err() {
-        told.add("not folded\n");
+        recorder.add("not folded\n");
     }
 }
 
 /// Adds what client 1 hears in a list, of a whole list, or where `kill` is allowed.
-fn says_otherwise(lent: &mut Lent, alloc: Global, word: &str, rest: &str, told: &mut Told) {
+fn says_otherwise(lent: &mut Lent, alloc: Global, word: &str, rest: &str, recorder: &mut Recorder) {
     match word {
-        "plain_list" => says_in_list(lent, alloc, ListForm::Plain, rest, told),
-        "ok_list" => says_in_list(lent, alloc, ListForm::ListOk, rest, told),
-        "runs_plain" => runs_list(lent, alloc, ListForm::Plain, rest, told),
-        "runs_ok" => runs_list(lent, alloc, ListForm::ListOk, rest, told),
+        "plain_list" => says_in_list(lent, alloc, ListForm::Plain, rest, recorder),
+        "ok_list" => says_in_list(lent, alloc, ListForm::ListOk, rest, recorder),
+        "runs_plain" => runs_list(lent, alloc, ListForm::Plain, rest, recorder),
+        "runs_ok" => runs_list(lent, alloc, ListForm::ListOk, rest, recorder),
         _ => {
             let request = request_with_leave(alloc, rest);
-            says(lent, alloc, 1, Stand::Alone, request, told);
+            says(lent, alloc, 1, Stand::Alone, request, recorder);
         }
     }
 }
 
 /// Adds what is told where a client comes or goes, at the last seat, and of a scanner, the decoder or an
 /// output.
-fn tells(lent: &mut Lent, alloc: Global, word: &str, rest: &str, told: &mut Told) {
+fn tells(lent: &mut Lent, alloc: Global, word: &str, rest: &str, recorder: &mut Recorder) {
     match word {
-        "comes" => happens(lent, alloc, 15, Event::Connect(number_of(rest)), told),
-        "goes" => happens(lent, alloc, 15, Event::Disconnect(number_of(rest)), told),
-        "scan" => scans(lent, alloc, rest, told),
-        "decoder" => decodes(lent, alloc, rest, told),
-        _ => turns(lent, alloc, rest, told),
+        "comes" => happens(lent, alloc, 15, Event::Connect(number_of(rest)), recorder),
+        "goes" => happens(
+            lent,
+            alloc,
+            15,
+            Event::Disconnect(number_of(rest)),
+            recorder,
+        ),
+        "scan" => scans(lent, alloc, rest, recorder),
+        "decoder" => decodes(lent, alloc, rest, recorder),
+        _ => turns(lent, alloc, rest, recorder),
     }
 }
 
 /// Adds what is told at a step, by its first word: a client comes or goes; client 1 says a line in a list, or
 /// where `kill` is allowed; a scanner asks or brings something; so does the decoder; an output has its turn;
 /// the daemon ends; the history is folded; something is shown; or a client says a line alone.
-fn step(lent: &mut Lent, alloc: Global, line: &str, told: &mut Told) {
+fn step(lent: &mut Lent, alloc: Global, line: &str, recorder: &mut Recorder) {
     let (word, rest) = first_word(line);
     match word {
         "plain_list" | "ok_list" | "runs_plain" | "runs_ok" | "with_leave" => {
-            says_otherwise(lent, alloc, word, rest, told);
+            says_otherwise(lent, alloc, word, rest, recorder);
         }
-        "comes" | "goes" | "scan" | "decoder" | "turn" => tells(lent, alloc, word, rest, told),
-        "ends" => happens(lent, alloc, 0, Event::End, told),
-        "folds" => folds(&mut lent.player, told),
-        "show" => show(&lent.player, alloc, rest, told),
+        "comes" | "goes" | "scan" | "decoder" | "turn" => tells(lent, alloc, word, rest, recorder),
+        "ends" => happens(lent, alloc, 0, Event::End, recorder),
+        "folds" => folds(&mut lent.player, recorder),
+        "show" => show(&lent.player, alloc, rest, recorder),
         _ => {
             let request = request(alloc, rest);
-            says(lent, alloc, number_of(word), Stand::Alone, request, told);
+            says(
+                lent,
+                alloc,
+                number_of(word),
+                Stand::Alone,
+                request,
+                recorder,
+            );
         }
     }
 }
 
 /// Adds that the window has more events than it may have, where it has.
-fn look_at_window(lent: &Lent, told: &mut Told) {
+fn look_at_window(lent: &Lent, recorder: &mut Recorder) {
     if lent.player.history().len() > lent.most {
-        told.add("more events than the window may have\n");
+        recorder.add("more events than the window may have\n");
     }
 }
 
@@ -402,12 +427,12 @@ pub fn session_within(
     steps: &str,
 ) -> Result<String, AllocError> {
     let mut lent = opened(alloc, history, uris)?;
-    let mut told = Told::new(alloc);
+    let mut recorder = Recorder::new(alloc);
     for line in steps.lines() {
-        step(&mut lent, alloc, line, &mut told);
-        look_at_window(&lent, &mut told);
+        step(&mut lent, alloc, line, &mut recorder);
+        look_at_window(&lent, &mut recorder);
     }
-    told.into_text()
+    recorder.into_text()
 }
 
 /// The same in the greatest window.

@@ -12,7 +12,7 @@ use partition_laws::{
 };
 use std::alloc::{AllocError, Global};
 use std::test::Fail;
-use test_texts::{Told, wants, wants_made};
+use test_texts::{Recorder, wants, wants_made};
 
 const WAITING: &str = "comes 2
 comes 1
@@ -214,32 +214,32 @@ fn each_name_is_read_back(rt: HostRuntime) -> Result<(), Fail> {
 }
 
 /// Adds a line for each number from this one to 64, between two texts.
-pub(crate) fn add_numbered(told: &mut Told, before: &str, first: u32, after: &str) {
+pub(crate) fn add_numbered(recorder: &mut Recorder, before: &str, first: u32, after: &str) {
     for number in first..65 {
-        told.add(format_args!("{before}{number}{after}\n"));
+        recorder.add(format_args!("{before}{number}{after}\n"));
     }
 }
 
 /// What is told where 64 clients come, then another, then one goes and that other one comes.
 fn crowd(alloc: Global) -> Result<String, AllocError> {
-    let mut steps = Told::new(alloc);
+    let mut steps = Recorder::new(alloc);
     add_numbered(&mut steps, "comes ", 1, "");
     steps.add("comes 65\nshow 65\nshow counts\ngoes 7\ncomes 65\n");
     session(alloc, steps.into_text()?.as_str())
 }
 
 fn crowd_tells(alloc: Global) -> Result<String, AllocError> {
-    let mut told = Told::new(alloc);
-    told.add_made("OK MPD 0.23.0\n".repeat(alloc, 64));
-    told.add(
+    let mut recorder = Recorder::new(alloc);
+    recorder.add_made("OK MPD 0.23.0\n".repeat(alloc, 64));
+    recorder.add(
         "closed\nnot there\nseat 15: 65, seat 3: 0, all: 65, entries: 0, clients: 64, volume: 100\nclosed\nOK MPD 0.23.0\n",
     );
-    told.into_text()
+    recorder.into_text()
 }
 
 /// What is told where 63 clients wait for a change of the queue, and another makes one.
 fn waiting_crowd(alloc: Global) -> Result<String, AllocError> {
-    let mut steps = Told::new(alloc);
+    let mut steps = Recorder::new(alloc);
     add_numbered(&mut steps, "comes ", 1, "");
     add_numbered(&mut steps, "", 2, " idle playlist");
     steps.add("1 add a.wav\n");
@@ -247,12 +247,12 @@ fn waiting_crowd(alloc: Global) -> Result<String, AllocError> {
 }
 
 fn waiting_crowd_tells(alloc: Global) -> Result<String, AllocError> {
-    let mut told = Told::new(alloc);
-    told.add_made("OK MPD 0.23.0\n".repeat(alloc, 64));
-    told.add_made("waits\n".repeat(alloc, 63));
-    told.add("OK\n");
-    add_numbered(&mut told, "", 2, ": changed: playlist");
-    told.into_text()
+    let mut recorder = Recorder::new(alloc);
+    recorder.add_made("OK MPD 0.23.0\n".repeat(alloc, 64));
+    recorder.add_made("waits\n".repeat(alloc, 63));
+    recorder.add("OK\n");
+    add_numbered(&mut recorder, "", 2, ": changed: playlist");
+    recorder.into_text()
 }
 
 /// A sixty-fifth client is closed, and all are told at once.

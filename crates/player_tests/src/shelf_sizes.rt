@@ -2,11 +2,11 @@
 use crate::session::session;
 use std::alloc::{AllocError, Global};
 use std::test::Fail;
-use test_texts::{Told, wants_made};
+use test_texts::{Recorder, wants_made};
 
 /// Adds steps after which the queue has 16,384 entries: it is saved and loaded 14 times, and so doubles each
 /// time.
-pub(crate) fn add_doubling(steps: &mut Told) {
+pub(crate) fn add_doubling(steps: &mut Recorder) {
     steps.add("comes 1\n1 add a.wav\n");
     for number in 0..14u32 {
         steps.add(format_args!("1 save p{number}\n1 load p{number}\n"));
@@ -14,14 +14,14 @@ pub(crate) fn add_doubling(steps: &mut Told) {
 }
 
 /// Adds what they tell.
-pub(crate) fn add_doubled(told: &mut Told, alloc: Global) {
-    told.add("OK MPD 0.23.0\n");
-    told.add_made("OK\n".repeat(alloc, 29));
+pub(crate) fn add_doubled(recorder: &mut Recorder, alloc: Global) {
+    recorder.add("OK MPD 0.23.0\n");
+    recorder.add_made("OK\n".repeat(alloc, 29));
 }
 
 /// What these steps tell after those.
 fn doubled(alloc: Global, after: &str) -> Result<String, AllocError> {
-    let mut steps = Told::new(alloc);
+    let mut steps = Recorder::new(alloc);
     add_doubling(&mut steps);
     steps.add(after);
     session(alloc, steps.into_text()?.as_str())
@@ -58,10 +58,10 @@ ACK [2@0] {load} bad song index
 ";
 
 fn longest_tells(alloc: Global) -> Result<String, AllocError> {
-    let mut told = Told::new(alloc);
-    add_doubled(&mut told, alloc);
-    told.add(LONGEST_TELLS);
-    told.into_text()
+    let mut recorder = Recorder::new(alloc);
+    add_doubled(&mut recorder, alloc);
+    recorder.add(LONGEST_TELLS);
+    recorder.into_text()
 }
 
 const FULL_LIST: &str = "1 save full
@@ -87,12 +87,12 @@ ACK [2@0] {playlistmove} bad song index
 ";
 
 fn full_list_tells(alloc: Global) -> Result<String, AllocError> {
-    let mut told = Told::new(alloc);
-    add_doubled(&mut told, alloc);
-    told.add(FULL_LIST_TELLS);
-    told.add_made("file: a.wav\n".repeat(alloc, 16_384));
-    told.add("OK\n");
-    told.into_text()
+    let mut recorder = Recorder::new(alloc);
+    add_doubled(&mut recorder, alloc);
+    recorder.add(FULL_LIST_TELLS);
+    recorder.add_made("file: a.wav\n".repeat(alloc, 16_384));
+    recorder.add("OK\n");
+    recorder.into_text()
 }
 
 /// The longest queue is saved and loaded, and the longest list takes no more.

@@ -6,7 +6,7 @@ ghost use Rattle.queue_commands.specs.Playback.{clear_error as clear_error_lem, 
 ghost use Rattle.player_state.specs.Fits.{Fits};
 ghost use Rattle.transitions.specs.Transitions.{IsDecidedBy};
 
-use crate::queue_edits::current_place;
+use crate::queue_edits::current_position;
 use crate::queue_songs::push_entry;
 use command_arguments::Seeking;
 use known_tags::TagSet;
@@ -28,10 +28,10 @@ pub fn run(alloc: Global, asked: Asked, part: &Part, library: &Library, command:
     match command {
         PlaybackCommand::Next => next(alloc, asked, part),
         PlaybackCommand::Pause(on) => pause(alloc, asked, *on),
-        PlaybackCommand::Play(place) => play(alloc, asked, part, *place),
+        PlaybackCommand::Play(position) => play(alloc, asked, part, *position),
         PlaybackCommand::PlayId(id) => play_id(alloc, asked, part, *id),
         PlaybackCommand::Previous => previous(alloc, asked, part),
-        PlaybackCommand::Seek(place, time) => seek(alloc, asked, part, library, *place, *time),
+        PlaybackCommand::Seek(position, time) => seek(alloc, asked, part, library, *position, *time),
         PlaybackCommand::SeekCur(seeking) => seek_cur(alloc, asked, part, library, *seeking),
         PlaybackCommand::SeekId(id, time) => seek_id(alloc, asked, part, library, *id, *time),
         PlaybackCommand::Stop => stop(alloc, asked),
@@ -42,18 +42,18 @@ fn play(
     alloc: Global,
     asked: Asked,
     part: &Part,
-    place: Option<u32>,
+    position: Option<u32>,
 ) -> Result<Transition, AllocError>
-    ensures { IsDecidedBy result (play_lem asked part.now place) }
+    ensures { IsDecidedBy result (play_lem asked part.now position) }
 {
-    let Some(place) = place else {
+    let Some(position) = position else {
         return Transition::does(alloc, asked, CommandEffect::Plays);
     };
-    let place = place as usize;
-    if place >= part.queue.len() {
+    let position = position as usize;
+    if position >= part.queue.len() {
         return Transition::bad_index(alloc, asked);
     }
-    Transition::does(alloc, asked, CommandEffect::PlaysPlace(place))
+    Transition::does(alloc, asked, CommandEffect::PlaysPosition(position))
 }
 
 fn play_id(
@@ -68,7 +68,7 @@ fn play_id(
         return Transition::does(alloc, asked, CommandEffect::Plays);
     };
     match part.queue.position_of(id) {
-        Some(place) => Transition::does(alloc, asked, CommandEffect::PlaysPlace(place)),
+        Some(position) => Transition::does(alloc, asked, CommandEffect::PlaysPosition(position)),
         None => Transition::no_such_song(alloc, asked),
     }
 }
@@ -115,23 +115,23 @@ pub fn is_stopped(part: &Part) -> bool
     }
 }
 
-/// To a time in the song at a place.
+/// To a time in the song at a position.
 fn seek(
     alloc: Global,
     asked: Asked,
     part: &Part,
     library: &Library,
-    place: u32,
+    position: u32,
     time: Millis,
 ) -> Result<Transition, AllocError>
-    ensures { IsDecidedBy result (seek_lem asked part.now library.now place time.0) }
+    ensures { IsDecidedBy result (seek_lem asked part.now library.now position time.0) }
 {
-    let place = place as usize;
-    if place >= part.queue.len() {
+    let position = position as usize;
+    if position >= part.queue.len() {
         return Transition::bad_index(alloc, asked);
     }
     let frame = frame_at(&library.rate, u128::from(time.0));
-    Transition::does(alloc, asked, CommandEffect::Seeks(place, frame))
+    Transition::does(alloc, asked, CommandEffect::Seeks(position, frame))
 }
 
 /// To a time in the song with an id.
@@ -145,11 +145,11 @@ fn seek_id(
 ) -> Result<Transition, AllocError>
     ensures { IsDecidedBy result (seek_id_lem asked part.now library.now id time.0) }
 {
-    let Some(place) = part.queue.position_of(id) else {
+    let Some(position) = part.queue.position_of(id) else {
         return Transition::no_such_song(alloc, asked);
     };
     let frame = frame_at(&library.rate, u128::from(time.0));
-    Transition::does(alloc, asked, CommandEffect::Seeks(place, frame))
+    Transition::does(alloc, asked, CommandEffect::Seeks(position, frame))
 }
 
 /// To a time in the current song, which may count from the time that has elapsed.
@@ -165,20 +165,20 @@ fn seek_cur(
     if is_stopped(part) {
         return Transition::not_playing(alloc, asked);
     }
-    let Some(place) = current_place(part) else {
+    let Some(position) = current_position(part) else {
         return Transition::not_playing(alloc, asked);
     };
     let time = time_of(elapsed(part, library), seeking);
     let frame = frame_at(&library.rate, time);
-    Transition::does(alloc, asked, CommandEffect::Seeks(place, frame))
+    Transition::does(alloc, asked, CommandEffect::Seeks(position, frame))
 }
 
-/// The time that a place in a song is counted from, in thousandths of a second.
+/// The time that an offset in a song is counted from, in thousandths of a second.
 fn elapsed(part: &Part, library: &Library) -> u128
     ensures time { result ≡ elapsed_lem part.now library.now }
     ensures short { result ≤ 18446744073709551615000 }
 {
-    length_of(part.player.place(), &library.rate)
+    length_of(part.player.offset(), &library.rate)
 }
 
 /// A time that may count from another, in thousandths of a second.
@@ -214,23 +214,23 @@ pub fn current_song(
 {
     let mut lines = Answer::new(alloc);
     let tags = asked.tags;
-    if let Some(place) = current_place(part) {
-        push_place_lines(&mut lines, part, library, place, tags)?;
+    if let Some(position) = current_position(part) {
+        push_position_lines(&mut lines, part, library, position, tags)?;
     }
     Transition::shows(asked, lines)
 }
 
-fn push_place_lines(
+fn push_position_lines(
     lines: &mut Answer,
     part: &Part,
     library: &Library,
-    place: usize,
+    position: usize,
     tags: TagSet,
 ) -> Result<(), AllocError>
-    ensures { OnOk result (lines.new ≡ lines.old ++ lines_at tags library.now.rate part.now.queue (Some place)) }
+    ensures { OnOk result (lines.new ≡ lines.old ++ lines_at tags library.now.rate part.now.queue (Some position)) }
 {
-    match part.queue.get(place) {
-        Some(entry) => push_entry(lines, library, place, entry, tags),
+    match part.queue.get(position) {
+        Some(entry) => push_entry(lines, library, position, entry, tags),
         None => Ok(()),
     }
 }

@@ -9,7 +9,7 @@ use crate::queue_edits::{
     swap_id,
 };
 use crate::queue_songs::{
-    changed_places, changes, playlist, playlist_find, playlist_id, playlist_info,
+    changed_positions, changes, playlist, playlist_find, playlist_id, playlist_info,
 };
 use filters::Case;
 use mpd_command::QueueCommand;
@@ -25,20 +25,20 @@ pub fn run(alloc: Global, asked: Asked, part: &Part, library: &Library, command:
     ensures fits { IfOk result (λ transition. Fits part.now transition.effect) }
 {
     match command {
-        QueueCommand::Add(uri, place) => add(alloc, asked, part, library, uri, *place),
-        QueueCommand::AddId(uri, place) => add_id(alloc, asked, part, library, uri, *place),
+        QueueCommand::Add(uri, position) => add(alloc, asked, part, library, uri, *position),
+        QueueCommand::AddId(uri, position) => add_id(alloc, asked, part, library, uri, *position),
         QueueCommand::Clear => clear(alloc, asked, part),
         QueueCommand::Delete(range) => delete(alloc, asked, part, *range),
         QueueCommand::DeleteId(id) => delete_id(alloc, asked, part, *id),
         QueueCommand::Move(range, to) => move_range(alloc, asked, part, *range, *to),
         QueueCommand::MoveId(id, to) => move_id(alloc, asked, part, *id, *to),
         QueueCommand::Playlist => playlist(alloc, asked, part, library),
-        QueueCommand::PlaylistFind(wanted) => playlist_find(alloc, asked, part, library, Case::Heeded, wanted),
+        QueueCommand::PlaylistFind(criteria) => playlist_find(alloc, asked, part, library, Case::Heeded, criteria),
         QueueCommand::PlaylistId(id) => playlist_id(alloc, asked, part, library, *id),
         QueueCommand::PlaylistInfo(range) => playlist_info(alloc, asked, part, library, *range),
-        QueueCommand::PlaylistSearch(wanted) => playlist_find(alloc, asked, part, library, Case::Ignored, wanted),
+        QueueCommand::PlaylistSearch(criteria) => playlist_find(alloc, asked, part, library, Case::Ignored, criteria),
         QueueCommand::PlChanges(version, range) => changes(alloc, asked, part, library, *version, *range),
-        QueueCommand::PlChangesPosId(version, range) => changed_places(alloc, asked, part, library, *version, *range),
+        QueueCommand::PlChangesPosId(version, range) => changed_positions(alloc, asked, part, library, *version, *range),
         QueueCommand::Prio(priority, ranges) => prio(alloc, asked, part, *priority, ranges.items()),
         QueueCommand::PrioId(priority, ids) => prio_id(alloc, asked, part, *priority, ids.items()),
         QueueCommand::Shuffle(range) => shuffle(alloc, asked, part, *range),

@@ -5,12 +5,12 @@ ghost use Rattle.std.specs.Prelude.{◌≡◌, ◌≤◌, ◌<◌, [], ◌∷◌
 ghost use Rattle.std.specs.Option.{option_copied};
 ghost use Rattle.song_queue.specs.State.{queue_of};
 ghost use Rattle.player_state.specs.declared.effect.CommandEffect.{CommandEffect};
-ghost use Rattle.queue_commands.specs.Queue.{AllLieIn, CanAdd, LieIn, add as add_lem, add_folder as add_folder_lem, add_songs as add_songs_lem, lack as lack_lem, add_id as add_id_lem, insert as insert_lem, insert_song as insert_song_lem, refused_place as refused_place_lem, place_after as place_after_lem, place_before as place_before_lem, place_in as place_in_lem, within_queue as within_queue_lem, current_place as current_place_lem, no_current_song as no_current_song_lem, shuffle as shuffle_lem, clear as clear_lem, delete as delete_lem, delete_id as delete_id_lem, move as move_lem, move_id as move_id_lem, swap as swap_lem, swap_id as swap_id_lem, prio as prio_lem, prio_id as prio_id_lem, all_within, all_with_ids, place_with};
+ghost use Rattle.queue_commands.specs.Queue.{AllLieIn, CanAdd, LieIn, add as add_lem, add_folder as add_folder_lem, add_songs as add_songs_lem, lack as lack_lem, add_id as add_id_lem, insert as insert_lem, insert_song as insert_song_lem, refused_position as refused_position_lem, position_after as position_after_lem, position_before as position_before_lem, position_in as position_in_lem, within_queue as within_queue_lem, current_position as current_position_lem, no_current_song as no_current_song_lem, shuffle as shuffle_lem, clear as clear_lem, delete as delete_lem, delete_id as delete_id_lem, move as move_lem, move_id as move_id_lem, swap as swap_lem, swap_id as swap_id_lem, prio as prio_lem, prio_id as prio_id_lem, all_within, all_with_ids, position_with};
 ghost use Rattle.transitions.specs.Transitions.{IsDecidedBy};
 ghost use Rattle.player_state.specs.Fits.{Fits};
 
-use crate::queue_songs::places_of;
-use command_arguments::{Place, Uri};
+use crate::queue_songs::positions_of;
+use command_arguments::{Position, Uri};
 use mpd_text::{Answer, ErrorNumber, Range, Sequence};
 use player_state::{CommandEffect, Library, Part};
 use song_db::SharedSong;
@@ -20,21 +20,21 @@ use std::alloc::{AllocError, Global};
 use std::ops;
 use transitions::{Asked, Transition};
 
-/// Adds a song, or all songs under a folder, at a place or at the end.
+/// Adds a song, or all songs under a folder, at a position or at the end.
 pub(crate) fn add(
     alloc: Global,
     asked: Asked,
     part: &Part,
     library: &Library,
     uri: &Uri,
-    place: Option<Place>,
+    position: Option<Position>,
 ) -> Result<Transition, AllocError>
-    ensures transition { IsDecidedBy result (add_lem asked part.now library.now uri.now.0 place) }
+    ensures transition { IsDecidedBy result (add_lem asked part.now library.now uri.now.0 position) }
     ensures fits { IfOk result (λ transition. Fits part.now transition.effect) }
 {
     match library.songs.db().share(uri.0.as_str())? {
-        Some(song) => add_songs(alloc, asked, part, one_song(alloc, song)?, place),
-        None => add_folder(alloc, asked, part, library, uri.0.as_str(), place),
+        Some(song) => add_songs(alloc, asked, part, one_song(alloc, song)?, position),
+        None => add_folder(alloc, asked, part, library, uri.0.as_str(), position),
     }
 }
 
@@ -45,16 +45,16 @@ fn add_folder(
     part: &Part,
     library: &Library,
     folder: &str,
-    place: Option<Place>,
+    position: Option<Position>,
 ) -> Result<Transition, AllocError>
-    ensures transition { IsDecidedBy result (add_folder_lem asked part.now library.now folder.now place) }
+    ensures transition { IsDecidedBy result (add_folder_lem asked part.now library.now folder.now position) }
     ensures fits { IfOk result (λ transition. Fits part.now transition.effect) }
 {
     if !is_folder(library.songs.db(), folder) {
         return Transition::no_such_song(alloc, asked);
     }
     let songs = shares(alloc, under(library.songs.db(), folder))?;
-    add_songs(alloc, asked, part, songs, place)
+    add_songs(alloc, asked, part, songs, position)
 }
 
 /// A song alone.
@@ -91,92 +91,96 @@ pub fn shares_of_found(
     Ok(shared)
 }
 
-/// Adds songs at a place or at the end: all of them, or none.
+/// Adds songs at a position or at the end: all of them, or none.
 pub fn add_songs(
     alloc: Global,
     asked: Asked,
     part: &Part,
     songs: Sequence<SharedSong>,
-    place: Option<Place>,
+    position: Option<Position>,
 ) -> Result<Transition, AllocError>
-    ensures transition { IsDecidedBy result (add_songs_lem asked part.now songs place) }
+    ensures transition { IsDecidedBy result (add_songs_lem asked part.now songs position) }
     ensures fits { IfOk result (λ transition. Fits part.now transition.effect) }
 {
-    match place_in(part, place) {
-        Ok(place) => insert(alloc, asked, part, songs, place, Answer::new(alloc)),
-        Err(fault) => refused_place(alloc, asked, fault),
+    match position_in(part, position) {
+        Ok(position) => insert(alloc, asked, part, songs, position, Answer::new(alloc)),
+        Err(fault) => refused_position(alloc, asked, fault),
     }
 }
 
-/// Why there is no such place in the queue.
+/// Why there is no such position in the queue.
 #[derive(Clone, Copy)]
-enum Misplaced {
+enum PositionFault {
     /// It counts from the current song, and there is none.
     NoCurrentSong,
     /// It lies outside of the queue.
     OutOfRange,
 }
 
-/// The place in the queue that is meant: without one its end.
-fn place_in(part: &Part, place: Option<Place>) -> Result<usize, Misplaced>
-    ensures place { result ≡ place_in_lem part.now place }
-    ensures inside { IfOk result (λ place. place ≤ length (queue_of part.now.queue)) }
+/// The position in the queue that is meant: without one its end.
+fn position_in(part: &Part, position: Option<Position>) -> Result<usize, PositionFault>
+    ensures position { result ≡ position_in_lem part.now position }
+    ensures inside { IfOk result (λ position. position ≤ length (queue_of part.now.queue)) }
 {
-    match place {
+    match position {
         None => Ok(part.queue.len()),
-        Some(Place::At(place)) => within_queue(part, place as usize),
-        Some(Place::After(steps)) => place_after(part, steps as usize),
-        Some(Place::Before(steps)) => place_before(part, steps as usize),
+        Some(Position::At(position)) => within_queue(part, position as usize),
+        Some(Position::After(steps)) => position_after(part, steps as usize),
+        Some(Position::Before(steps)) => position_before(part, steps as usize),
     }
 }
 
-/// A place, where it is not behind the end of the queue.
-fn within_queue(part: &Part, place: usize) -> Result<usize, Misplaced>
-    ensures place { result ≡ within_queue_lem part.now place }
-    ensures inside { IfOk result (λ place. place ≤ length (queue_of part.now.queue)) }
+/// A position, where it is not behind the end of the queue.
+fn within_queue(part: &Part, position: usize) -> Result<usize, PositionFault>
+    ensures position { result ≡ within_queue_lem part.now position }
+    ensures inside { IfOk result (λ position. position ≤ length (queue_of part.now.queue)) }
 {
-    if place > part.queue.len() {
-        return Err(Misplaced::OutOfRange);
+    if position > part.queue.len() {
+        return Err(PositionFault::OutOfRange);
     }
-    Ok(place)
+    Ok(position)
 }
 
-/// The place so many steps after the one that follows the current song.
-fn place_after(part: &Part, steps: usize) -> Result<usize, Misplaced>
-    ensures place { result ≡ place_after_lem part.now (current_place_lem part.now) steps }
-    ensures inside { IfOk result (λ place. place ≤ length (queue_of part.now.queue)) }
+/// The position so many steps after the one that follows the current song.
+fn position_after(part: &Part, steps: usize) -> Result<usize, PositionFault>
+    ensures position { result ≡ position_after_lem part.now (current_position_lem part.now) steps }
+    ensures inside { IfOk result (λ position. position ≤ length (queue_of part.now.queue)) }
 {
-    let Some(place) = current_place(part) else {
-        return Err(Misplaced::NoCurrentSong);
+    let Some(position) = current_position(part) else {
+        return Err(PositionFault::NoCurrentSong);
     };
-    if steps >= part.queue.len() - place {
-        return Err(Misplaced::OutOfRange);
+    if steps >= part.queue.len() - position {
+        return Err(PositionFault::OutOfRange);
     }
-    Ok(place + 1 + steps)
+    Ok(position + 1 + steps)
 }
 
-/// The place so many steps before the current song.
-fn place_before(part: &Part, steps: usize) -> Result<usize, Misplaced>
-    ensures place { result ≡ place_before_lem (current_place_lem part.now) steps }
-    ensures inside { IfOk result (λ place. place ≤ length (queue_of part.now.queue)) }
+/// The position so many steps before the current song.
+fn position_before(part: &Part, steps: usize) -> Result<usize, PositionFault>
+    ensures position { result ≡ position_before_lem (current_position_lem part.now) steps }
+    ensures inside { IfOk result (λ position. position ≤ length (queue_of part.now.queue)) }
 {
-    let Some(place) = current_place(part) else {
-        return Err(Misplaced::NoCurrentSong);
+    let Some(position) = current_position(part) else {
+        return Err(PositionFault::NoCurrentSong);
     };
-    if place < steps {
-        return Err(Misplaced::OutOfRange);
+    if position < steps {
+        return Err(PositionFault::OutOfRange);
     }
-    Ok(place - steps)
+    Ok(position - steps)
 }
 
-/// There is no such place.
-fn refused_place(alloc: Global, asked: Asked, fault: Misplaced) -> Result<Transition, AllocError>
-    ensures transition { IsDecidedBy result (refused_place_lem asked fault) }
+/// There is no such position.
+fn refused_position(
+    alloc: Global,
+    asked: Asked,
+    fault: PositionFault,
+) -> Result<Transition, AllocError>
+    ensures transition { IsDecidedBy result (refused_position_lem asked fault) }
     ensures rests { IfOk result (λ transition. transition.effect ≡ ByCommand Rests) }
 {
     match fault {
-        Misplaced::NoCurrentSong => no_current_song(alloc, asked),
-        Misplaced::OutOfRange => Transition::bad_index(alloc, asked),
+        PositionFault::NoCurrentSong => no_current_song(alloc, asked),
+        PositionFault::OutOfRange => Transition::bad_index(alloc, asked),
     }
 }
 
@@ -200,17 +204,17 @@ fn insert(
     asked: Asked,
     part: &Part,
     songs: Sequence<SharedSong>,
-    place: usize,
+    position: usize,
     lines: Answer,
 ) -> Result<Transition, AllocError>
-    requires { place ≤ length (queue_of part.now.queue) }
-    ensures transition { IsDecidedBy result (insert_lem asked part.now songs place lines) }
+    requires { position ≤ length (queue_of part.now.queue) }
+    ensures transition { IsDecidedBy result (insert_lem asked part.now songs position lines) }
     ensures fits { IfOk result (λ transition. Fits part.now transition.effect) }
 {
     if let Some(text) = lack(part, songs.items().len()) {
         return Transition::refuses(alloc, asked, ErrorNumber::PlaylistMax, text);
     }
-    Transition::edits(asked, Edit::Insert(place, songs), lines)
+    Transition::edits(asked, Edit::Insert(position, songs), lines)
 }
 
 pub(crate) fn add_id(
@@ -219,42 +223,42 @@ pub(crate) fn add_id(
     part: &Part,
     library: &Library,
     uri: &Uri,
-    place: Option<Place>,
+    position: Option<Position>,
 ) -> Result<Transition, AllocError>
-    ensures transition { IsDecidedBy result (add_id_lem asked part.now library.now uri.now.0 place) }
+    ensures transition { IsDecidedBy result (add_id_lem asked part.now library.now uri.now.0 position) }
     ensures fits { IfOk result (λ transition. Fits part.now transition.effect) }
 {
     match library.songs.db().share(uri.0.as_str())? {
-        Some(song) => insert_song(alloc, asked, part, song, place),
+        Some(song) => insert_song(alloc, asked, part, song, position),
         None => Transition::no_such_song(alloc, asked),
     }
 }
 
-/// Puts a song in at a place, and tells its id.
+/// Puts a song in at a position, and tells its id.
 fn insert_song(
     alloc: Global,
     asked: Asked,
     part: &Part,
     song: SharedSong,
-    place: Option<Place>,
+    position: Option<Position>,
 ) -> Result<Transition, AllocError>
-    ensures transition { IsDecidedBy result (insert_song_lem asked part.now song place) }
+    ensures transition { IsDecidedBy result (insert_song_lem asked part.now song position) }
     ensures fits { IfOk result (λ transition. Fits part.now transition.effect) }
 {
-    match place_in(part, place) {
-        Ok(place) => {
+    match position_in(part, position) {
+        Ok(position) => {
             let mut lines = Answer::new(alloc);
             lines.pair("Id", u64::from(part.queue.greatest_id()) + 1)?;
-            insert(alloc, asked, part, one_song(alloc, song)?, place, lines)
+            insert(alloc, asked, part, one_song(alloc, song)?, position, lines)
         }
-        Err(fault) => refused_place(alloc, asked, fault),
+        Err(fault) => refused_position(alloc, asked, fault),
     }
 }
 
-/// The place of the current song, if there is one.
-pub(crate) fn current_place(part: &Part) -> Option<usize>
-    ensures place { result ≡ current_place_lem part.now }
-    ensures within { IfSome result (λ place. place < length (queue_of part.now.queue)) }
+/// The position of the current song, if there is one.
+pub(crate) fn current_position(part: &Part) -> Option<usize>
+    ensures position { result ≡ current_position_lem part.now }
+    ensures within { IfSome result (λ position. position < length (queue_of part.now.queue)) }
 {
     part.queue.position_of(part.player.current()?)
 }
@@ -283,10 +287,10 @@ pub(crate) fn delete(
     ensures transition { IsDecidedBy result (delete_lem asked part.now range) }
     ensures fits { IfOk result (λ transition. Fits part.now transition.effect) }
 {
-    let Some(places) = range.within(part.queue.len()) else {
+    let Some(positions) = range.within(part.queue.len()) else {
         return Transition::bad_index(alloc, asked);
     };
-    let edit = Edit::Remove(places.start, places.end);
+    let edit = Edit::Remove(positions.start, positions.end);
     Transition::edits(asked, edit, Answer::new(alloc))
 }
 
@@ -299,10 +303,10 @@ pub(crate) fn delete_id(
     ensures transition { IsDecidedBy result (delete_id_lem asked part.now id) }
     ensures fits { IfOk result (λ transition. Fits part.now transition.effect) }
 {
-    let Some(place) = part.queue.position_of(id) else {
+    let Some(position) = part.queue.position_of(id) else {
         return Transition::no_such_song(alloc, asked);
     };
-    let edit = Edit::Remove(place, place + 1);
+    let edit = Edit::Remove(position, position + 1);
     Transition::edits(asked, edit, Answer::new(alloc))
 }
 
@@ -318,10 +322,10 @@ pub(crate) fn move_range(
 {
     let len = part.queue.len();
     let to = to as usize;
-    let Some(places) = range.within(len) else {
+    let Some(positions) = range.within(len) else {
         return Transition::bad_index(alloc, asked);
     };
-    let ops::Range { start, end } = places;
+    let ops::Range { start, end } = positions;
     if start < end && to > len - (end - start) {
         return Transition::bad_index(alloc, asked);
     }
@@ -342,10 +346,10 @@ pub(crate) fn move_id(
     if to >= part.queue.len() {
         return Transition::bad_index(alloc, asked);
     }
-    let Some(place) = part.queue.position_of(id) else {
+    let Some(position) = part.queue.position_of(id) else {
         return Transition::no_such_song(alloc, asked);
     };
-    let edit = Edit::Move(place, place + 1, to);
+    let edit = Edit::Move(position, position + 1, to);
     Transition::edits(asked, edit, Answer::new(alloc))
 }
 
@@ -360,13 +364,13 @@ pub(crate) fn shuffle(
     ensures fits { IfOk result (λ transition. Fits part.now transition.effect) }
 {
     let len = part.queue.len();
-    let Some(places) = places_of(range, len) else {
+    let Some(positions) = positions_of(range, len) else {
         return Transition::bad_index(alloc, asked);
     };
     Transition::does(
         alloc,
         asked,
-        CommandEffect::Shuffles(places.start, places.end),
+        CommandEffect::Shuffles(positions.start, positions.end),
     )
 }
 
@@ -419,30 +423,30 @@ pub(crate) fn prio(
     ensures transition { IsDecidedBy result (prio_lem asked part.now priority ranges.now) }
     ensures fits { IfOk result (λ transition. Fits part.now transition.effect) }
 {
-    let Some(places) = places_of_ranges(alloc, ranges, part.queue.len())? else {
+    let Some(positions) = positions_of_ranges(alloc, ranges, part.queue.len())? else {
         return Transition::bad_index(alloc, asked);
     };
-    let edit = Edit::Prioritize(places, priority);
+    let edit = Edit::Prioritize(positions, priority);
     Transition::edits(asked, edit, Answer::new(alloc))
 }
 
-/// The places of ranges, if all of them are in a list of so many items.
-fn places_of_ranges(
+/// The positions of ranges, if all of them are in a list of so many items.
+fn positions_of_ranges(
     alloc: Global,
     ranges: &[Range],
     len: usize,
 ) -> Result<Option<Sequence<ops::Range<usize>>>, AllocError>
-    ensures places { IfOk result (λ places. places ≡ all_within len ranges.now) }
-    ensures inside { IfOk result (λ places. IfSome places (AllLieIn len)) }
+    ensures positions { IfOk result (λ positions. positions ≡ all_within len ranges.now) }
+    ensures inside { IfOk result (λ positions. IfSome positions (AllLieIn len)) }
 {
-    let mut places = Sequence::new(alloc);
+    let mut positions = Sequence::new(alloc);
     for range in ranges {
         let Some(within) = range.within(len) else {
             return Ok(None);
         };
-        places.push(within).map_err(AllocError::from)?;
+        positions.push(within).map_err(AllocError::from)?;
     }
-    Ok(Some(places))
+    Ok(Some(positions))
 }
 
 pub(crate) fn prio_id(
@@ -455,38 +459,38 @@ pub(crate) fn prio_id(
     ensures transition { IsDecidedBy result (prio_id_lem asked part.now priority ids.now) }
     ensures fits { IfOk result (λ transition. Fits part.now transition.effect) }
 {
-    let Some(places) = places_of_ids(alloc, &part.queue, ids)? else {
+    let Some(positions) = positions_of_ids(alloc, &part.queue, ids)? else {
         return Transition::no_such_song(alloc, asked);
     };
-    let edit = Edit::Prioritize(places, priority);
+    let edit = Edit::Prioritize(positions, priority);
     Transition::edits(asked, edit, Answer::new(alloc))
 }
 
-/// The places of the songs with these ids, if all of them are in the queue.
-fn places_of_ids(
+/// The positions of the songs with these ids, if all of them are in the queue.
+fn positions_of_ids(
     alloc: Global,
     queue: &Queue,
     ids: &[u32],
 ) -> Result<Option<Sequence<ops::Range<usize>>>, AllocError>
-    ensures places { IfOk result (λ places. places ≡ all_with_ids queue.now ids.now) }
-    ensures inside { IfOk result (λ places. IfSome places (AllLieIn (length (queue_of queue.now)))) }
+    ensures positions { IfOk result (λ positions. positions ≡ all_with_ids queue.now ids.now) }
+    ensures inside { IfOk result (λ positions. IfSome positions (AllLieIn (length (queue_of queue.now)))) }
 {
-    let mut places = Sequence::new(alloc);
+    let mut positions = Sequence::new(alloc);
     for id in ids {
-        let Some(place) = place_of_id(queue, *id) else {
+        let Some(position) = position_of_id(queue, *id) else {
             return Ok(None);
         };
-        places.push(place).map_err(AllocError::from)?;
+        positions.push(position).map_err(AllocError::from)?;
     }
-    Ok(Some(places))
+    Ok(Some(positions))
 }
 
-/// The place of the song with an id, as a range.
-#[tactic(auto, unfolding(crate::specs::Queue::place_with))]
-fn place_of_id(queue: &Queue, id: u32) -> Option<ops::Range<usize>>
-    ensures place { result ≡ place_with queue.now id }
+/// The position of the song with an id, as a range.
+#[tactic(auto, unfolding(crate::specs::Queue::position_with))]
+fn position_of_id(queue: &Queue, id: u32) -> Option<ops::Range<usize>>
+    ensures position { result ≡ position_with queue.now id }
     ensures inside { IfSome result (LieIn (length (queue_of queue.now))) }
 {
-    let place = queue.position_of(id)?;
-    Some(place..place + 1)
+    let position = queue.position_of(id)?;
+    Some(position..position + 1)
 }

@@ -2,11 +2,11 @@
 ghost use Rattle.std.specs.Prelude.{◌≡◌, ◌<◌, ◌+◌, ◌++◌, Some, IfOk, IfSome, OnOk, length};
 ghost use Rattle.std.specs.Option.{option_copied};
 ghost use Rattle.song_queue.specs.State.{entries_of, queue_of};
-ghost use Rattle.queue_commands.specs.Queue.{LieIn, changed_between, changed_places as changed_places_lem, changes as changes_lem, entry_lines, meeting, meets_at as meets_at_lem, playlist as playlist_lem, playlist_find as playlist_find_lem, playlist_id as playlist_id_lem, playlist_info as playlist_info_lem, place_lines, priority_line, range_or_all, rows_in, uri_line};
-ghost use Rattle.queue_commands.specs.Shown.{changes_as, row_as, rows_as, rows_of_places, rows_of_run, places_as};
+ghost use Rattle.queue_commands.specs.Queue.{LieIn, changed_between, changed_positions as changed_positions_lem, changes as changes_lem, entry_lines, meeting, meets_at as meets_at_lem, playlist as playlist_lem, playlist_find as playlist_find_lem, playlist_id as playlist_id_lem, playlist_info as playlist_info_lem, position_lines, priority_line, range_or_all, rows_in, uri_line};
+ghost use Rattle.queue_commands.specs.Shown.{changes_as, row_as, rows_as, rows_of_positions, rows_of_run, positions_as};
 ghost use Rattle.transitions.specs.Transitions.{IsDecidedBy};
 
-use command_arguments::Wanted;
+use command_arguments::Criteria;
 use filters::{Case, Filter};
 use known_tags::{TagSet, push_shared_with};
 use mpd_text::{Answer, ErrorNumber, Range};
@@ -20,11 +20,11 @@ use transitions::{Asked, Transition};
 /// What is shown of an entry.
 #[derive(Clone, Copy)]
 enum Shown {
-    /// Its song, place, id and priority.
+    /// Its song, position, id and priority.
     Song,
-    /// Its place and id.
-    Place,
-    /// Its place and URI.
+    /// Its position and id.
+    Position,
+    /// Its position and URI.
     Uri,
 }
 
@@ -36,8 +36,8 @@ pub(crate) fn playlist(
 ) -> Result<Transition, AllocError>
     ensures { IsDecidedBy result (playlist_lem asked part.now) }
 {
-    let places = 0..part.queue.len();
-    show_places(alloc, asked, part, library, Shown::Uri, places)
+    let positions = 0..part.queue.len();
+    show_positions(alloc, asked, part, library, Shown::Uri, positions)
 }
 
 pub(crate) fn playlist_info(
@@ -49,8 +49,8 @@ pub(crate) fn playlist_info(
 ) -> Result<Transition, AllocError>
     ensures { IsDecidedBy result (playlist_info_lem asked part.now library.now range) }
 {
-    match places_of(range, part.queue.len()) {
-        Some(places) => show_places(alloc, asked, part, library, Shown::Song, places),
+    match positions_of(range, part.queue.len()) {
+        Some(positions) => show_positions(alloc, asked, part, library, Shown::Song, positions),
         None => Transition::bad_index(alloc, asked),
     }
 }
@@ -68,7 +68,16 @@ pub(crate) fn playlist_id(
         return playlist_info(alloc, asked, part, library, None);
     };
     match part.queue.position_of(id) {
-        Some(place) => { show_places(alloc, asked, part, library, Shown::Song, place..place + 1) }
+        Some(position) => {
+            show_positions(
+                alloc,
+                asked,
+                part,
+                library,
+                Shown::Song,
+                position..position + 1,
+            )
+        }
         None => Transition::no_such_song(alloc, asked),
     }
 }
@@ -80,54 +89,54 @@ pub(crate) fn playlist_find(
     part: &Part,
     library: &Library,
     case: Case,
-    wanted: &Wanted,
+    criteria: &Criteria,
 ) -> Result<Transition, AllocError>
-    ensures { IsDecidedBy result (playlist_find_lem asked part.now library.now case wanted.now) }
+    ensures { IsDecidedBy result (playlist_find_lem asked part.now library.now case criteria.now) }
 {
-    match wanted {
-        Wanted::Meeting(filter) => {
-            let places = places_meeting(alloc, &part.queue, filter, case)?;
+    match criteria {
+        Criteria::Meeting(filter) => {
+            let positions = positions_meeting(alloc, &part.queue, filter, case)?;
             let shown = Shown::Song;
-            let lines = rows(alloc, &part.queue, library, &places, shown, asked.tags)?;
+            let lines = rows(alloc, &part.queue, library, &positions, shown, asked.tags)?;
             Transition::shows(asked, lines)
         }
-        Wanted::Refused(text) => {
+        Criteria::Refused(text) => {
             Transition::refuses(alloc, asked, ErrorNumber::Argument, text.as_str())
         }
     }
 }
 
-/// The places whose songs meet a filter, rising.
-fn places_meeting(
+/// The positions whose songs meet a filter, rising.
+fn positions_meeting(
     alloc: Global,
     queue: &Queue,
     filter: &Filter,
     case: Case,
 ) -> Result<Vec<usize>, AllocError>
-    ensures { IfOk result (λ places. rows_in queue.now places.items ≡ meeting queue.now case filter.now) }
+    ensures { IfOk result (λ positions. rows_in queue.now positions.items ≡ meeting queue.now case filter.now) }
 {
-    let mut places = Vec::new(alloc);
-    for place in 0..queue.len() {
-        if meets_at(queue, place, filter, case)? {
-            places.push(place)?;
+    let mut positions = Vec::new(alloc);
+    for position in 0..queue.len() {
+        if meets_at(queue, position, filter, case)? {
+            positions.push(position)?;
         }
     }
-    Ok(places)
+    Ok(positions)
 }
 
-/// Whether there is a song at a place that meets a filter.
-fn meets_at(queue: &Queue, place: usize, filter: &Filter, case: Case) -> Result<bool, AllocError>
-    ensures { IfOk result (λ met. met ≡ meets_at_lem queue.now case filter.now place) }
+/// Whether there is a song at a position that meets a filter.
+fn meets_at(queue: &Queue, position: usize, filter: &Filter, case: Case) -> Result<bool, AllocError>
+    ensures { IfOk result (λ met. met ≡ meets_at_lem queue.now case filter.now position) }
 {
-    match queue.get(place) {
+    match queue.get(position) {
         Some(entry) => does_meet(entry.song.song(), filter, case),
         None => Ok(false),
     }
 }
 
-/// The places of a range, or all, if they are in a list of so many items.
-pub(crate) fn places_of(range: Option<Range>, len: usize) -> Option<ops::Range<usize>>
-    ensures places { result ≡ range_or_all range len }
+/// The positions of a range, or all, if they are in a list of so many items.
+pub(crate) fn positions_of(range: Option<Range>, len: usize) -> Option<ops::Range<usize>>
+    ensures positions { result ≡ range_or_all range len }
     ensures inside { IfSome result (LieIn len) }
 {
     match range {
@@ -136,18 +145,18 @@ pub(crate) fn places_of(range: Option<Range>, len: usize) -> Option<ops::Range<u
     }
 }
 
-fn show_places(
+fn show_positions(
     alloc: Global,
     asked: Asked,
     part: &Part,
     library: &Library,
     shown: Shown,
-    places: ops::Range<usize>,
+    positions: ops::Range<usize>,
 ) -> Result<Transition, AllocError>
-    requires { LieIn (length (queue_of part.now.queue)) places }
-    ensures { IsDecidedBy result (places_as asked part.now library.now shown places) }
+    requires { LieIn (length (queue_of part.now.queue)) positions }
+    ensures { IsDecidedBy result (positions_as asked part.now library.now shown positions) }
 {
-    let lines = rows_between(alloc, &part.queue, library, &places, shown, asked.tags)?;
+    let lines = rows_between(alloc, &part.queue, library, &positions, shown, asked.tags)?;
     Transition::shows(asked, lines)
 }
 
@@ -164,7 +173,7 @@ pub(crate) fn changes(
     show_changed(alloc, asked, part, library, version, range, Shown::Song)
 }
 
-pub(crate) fn changed_places(
+pub(crate) fn changed_positions(
     alloc: Global,
     asked: Asked,
     part: &Part,
@@ -172,12 +181,12 @@ pub(crate) fn changed_places(
     version: u32,
     range: Option<Range>,
 ) -> Result<Transition, AllocError>
-    ensures { IsDecidedBy result (changed_places_lem asked part.now version range) }
+    ensures { IsDecidedBy result (changed_positions_lem asked part.now version range) }
 {
-    show_changed(alloc, asked, part, library, version, range, Shown::Place)
+    show_changed(alloc, asked, part, library, version, range, Shown::Position)
 }
 
-/// Shows the entries of a range whose places changed since a version.
+/// Shows the entries of a range whose positions changed since a version.
 fn show_changed(
     alloc: Global,
     asked: Asked,
@@ -189,56 +198,56 @@ fn show_changed(
 ) -> Result<Transition, AllocError>
     ensures { IsDecidedBy result (changes_as asked part.now library.now shown version range) }
 {
-    let Some(places) = places_of(range, part.queue.len()) else {
+    let Some(positions) = positions_of(range, part.queue.len()) else {
         return Transition::bad_index(alloc, asked);
     };
-    let changed = changed_within(alloc, &part.queue, version, &places)?;
+    let changed = changed_within(alloc, &part.queue, version, &positions)?;
     let lines = rows(alloc, &part.queue, library, &changed, shown, asked.tags)?;
     Transition::shows(asked, lines)
 }
 
-/// The changed places that lie in a range, rising.
+/// The changed positions that lie in a range, rising.
 fn changed_within(
     alloc: Global,
     queue: &Queue,
     version: u32,
     within: &ops::Range<usize>,
 ) -> Result<Vec<usize>, AllocError>
-    ensures { IfOk result (λ places. rows_in queue.now places.items ≡ changed_between queue.now version within.now) }
+    ensures { IfOk result (λ positions. rows_in queue.now positions.items ≡ changed_between queue.now version within.now) }
 {
     let changed = queue.changed_since(version)?;
-    let mut places = Vec::new(alloc);
-    for place in &changed {
-        if within.start <= *place && *place < within.end {
-            places.push(*place)?;
+    let mut positions = Vec::new(alloc);
+    for position in &changed {
+        if within.start <= *position && *position < within.end {
+            positions.push(*position)?;
         }
     }
-    Ok(places)
+    Ok(positions)
 }
 
-/// The lines of the entries from a place up to another.
+/// The lines of the entries from a position up to another.
 fn rows_between(
     alloc: Global,
     queue: &Queue,
     library: &Library,
-    places: &ops::Range<usize>,
+    positions: &ops::Range<usize>,
     shown: Shown,
     tags: TagSet,
 ) -> Result<Answer, AllocError>
-    requires { LieIn (length (queue_of queue.now)) places.now }
-    ensures { IfOk result (λ lines. lines ≡ rows_of_places shown tags library.now queue.now places.now) }
+    requires { LieIn (length (queue_of queue.now)) positions.now }
+    ensures { IfOk result (λ lines. lines ≡ rows_of_positions shown tags library.now queue.now positions.now) }
 {
     let mut lines = Answer::new(alloc);
-    let mut at = places.start;
-    while at < places.end {
-        let run = queue.run(at, places.end);
+    let mut at = positions.start;
+    while at < positions.end {
+        let run = queue.run(at, positions.end);
         push_run(alloc, &mut lines, library, at, run, shown, tags)?;
         at += run.len();
     }
     Ok(lines)
 }
 
-/// Appends the lines of entries that stand one after the other, the first of them at a place.
+/// Appends the lines of entries that stand one after the other, the first of them at a position.
 fn push_run(
     alloc: Global,
     lines: &mut Answer,
@@ -251,29 +260,37 @@ fn push_run(
     requires { first + length run.now < 18446744073709551616 }
     ensures { OnOk result (lines.new ≡ lines.old ++ rows_of_run shown tags library.now first (entries_of run.now)) }
 {
-    let mut place = first;
+    let mut position = first;
     for slot in run {
-        push_row(alloc, lines, library, place, Some(&slot.entry), shown, tags)?;
-        place += 1;
+        push_row(
+            alloc,
+            lines,
+            library,
+            position,
+            Some(&slot.entry),
+            shown,
+            tags,
+        )?;
+        position += 1;
     }
     Ok(())
 }
 
-/// The lines of the entries at these places.
+/// The lines of the entries at these positions.
 fn rows(
     alloc: Global,
     queue: &Queue,
     library: &Library,
-    places: &[usize],
+    positions: &[usize],
     shown: Shown,
     tags: TagSet,
 ) -> Result<Answer, AllocError>
-    ensures { IfOk result (λ lines. lines ≡ rows_as shown tags library.now (rows_in queue.now places.now)) }
+    ensures { IfOk result (λ lines. lines ≡ rows_as shown tags library.now (rows_in queue.now positions.now)) }
 {
     let mut lines = Answer::new(alloc);
-    for place in places {
-        let entry = queue.get(*place);
-        push_row(alloc, &mut lines, library, *place, entry, shown, tags)?;
+    for position in positions {
+        let entry = queue.get(*position);
+        push_row(alloc, &mut lines, library, *position, entry, shown, tags)?;
     }
     Ok(lines)
 }
@@ -282,34 +299,34 @@ fn push_row(
     alloc: Global,
     lines: &mut Answer,
     library: &Library,
-    place: usize,
+    position: usize,
     entry: Option<&Entry>,
     shown: Shown,
     tags: TagSet,
 ) -> Result<(), AllocError>
-    ensures { OnOk result (lines.new ≡ lines.old ++ row_as shown tags library.now place (option_copied entry.entry)) }
+    ensures { OnOk result (lines.new ≡ lines.old ++ row_as shown tags library.now position (option_copied entry.entry)) }
 {
     let Some(entry) = entry else {
         return Ok(());
     };
     match shown {
-        Shown::Song => push_entry(lines, library, place, entry, tags),
-        Shown::Place => push_place(lines, place, entry),
-        Shown::Uri => push_uri(alloc, lines, place, entry),
+        Shown::Song => push_entry(lines, library, position, entry, tags),
+        Shown::Position => push_position(lines, position, entry),
+        Shown::Uri => push_uri(alloc, lines, position, entry),
     }
 }
 
 pub(crate) fn push_entry(
     lines: &mut Answer,
     library: &Library,
-    place: usize,
+    position: usize,
     entry: &Entry,
     tags: TagSet,
 ) -> Result<(), AllocError>
-    ensures { OnOk result (lines.new ≡ lines.old ++ entry_lines tags library.now.rate (place, entry.now)) }
+    ensures { OnOk result (lines.new ≡ lines.old ++ entry_lines tags library.now.rate (position, entry.now)) }
 {
     push_shared_with(lines, &entry.song, &library.rate, tags)?;
-    lines.pair_number("Pos", place as u64)?;
+    lines.pair_number("Pos", position as u64)?;
     lines.pair_number("Id", u64::from(entry.id))?;
     push_priority(lines, entry.priority)
 }
@@ -323,21 +340,21 @@ fn push_priority(lines: &mut Answer, priority: u8) -> Result<(), AllocError>
     lines.pair("Prio", priority)
 }
 
-fn push_place(lines: &mut Answer, place: usize, entry: &Entry) -> Result<(), AllocError>
-    ensures { OnOk result (lines.new ≡ lines.old ++ place_lines (place, entry.now)) }
+fn push_position(lines: &mut Answer, position: usize, entry: &Entry) -> Result<(), AllocError>
+    ensures { OnOk result (lines.new ≡ lines.old ++ position_lines (position, entry.now)) }
 {
-    lines.pair_number("cpos", place as u64)?;
+    lines.pair_number("cpos", position as u64)?;
     lines.pair_number("Id", u64::from(entry.id))
 }
 
 fn push_uri(
     alloc: Global,
     lines: &mut Answer,
-    place: usize,
+    position: usize,
     entry: &Entry,
 ) -> Result<(), AllocError>
-    ensures { OnOk result (lines.new ≡ lines.old ++ uri_line (place, entry.now)) }
+    ensures { OnOk result (lines.new ≡ lines.old ++ uri_line (position, entry.now)) }
 {
-    let key = format!(in alloc; "{place}:file")?;
+    let key = format!(in alloc; "{position}:file")?;
     lines.pair(key.as_str(), entry.song.song().uri())
 }

@@ -2,20 +2,20 @@
 use Rattle.std.proofs.Common.{◌≡◌, ◌⊎◌, inl, inr, ℕ, ◌+◌, ◌-◌, ◌<◌, ◌≤◌, Bool, true, false, ◌&&◌, ◌||◌, nat_le, nat_lt, cond, List, [], ◌∷◌, ◌++◌, length, take, drop, Option, Some, None, refl, ap, sym, ◌∙◌, subst, arith, append_assoc, codes, decimal}
 use Rattle.std.specs.Prelude.{slice_get, swap}
 use Rattle.std.specs.List.{flat_map}
-use Rattle.std.specs.declared.ops.Range.{Range as Places}
+use Rattle.std.specs.declared.ops.Range.{Range as Positions}
 use Rattle.std.proofs.lemmas.Bool.{cases_lt, leb-false, ltb-false, or_parts}
 use Rattle.std.proofs.lemmas.List.{drop_all, length-take-le}
 use Rattle.std.proofs.lemmas.Option.{slice_get_within}
-use Rattle.command_arguments.specs.declared.forms.Place.{Place}
+use Rattle.command_arguments.specs.declared.forms.Position.{Position}
 use Rattle.command_arguments.specs.declared.forms.Uri.{Uri}
-use Rattle.command_arguments.specs.declared.wanted.Wanted.{Wanted}
-use Rattle.command_arguments.specs.declared.wanted.Wanted.TheVariants.{Meeting, Refused}
+use Rattle.command_arguments.specs.declared.criteria.Criteria.{Criteria}
+use Rattle.command_arguments.specs.declared.criteria.Criteria.TheVariants.{Meeting, Refused}
 use Rattle.filters.specs.declared.matching.Case.{Case}
 use Rattle.filters.specs.declared.matching.Case.TheVariants.{Heeded, Ignored}
 use Rattle.mpd_command.specs.declared.queue.QueueCommand.{QueueCommand}
 use Rattle.mpd_command.specs.declared.queue.QueueCommand.TheVariants as queue
 use Rattle.mpd_text.specs.Answers.Answer.{pair_line}
-use Rattle.mpd_text.specs.Answers.Range.{places, within}
+use Rattle.mpd_text.specs.Answers.Range.{positions, within}
 use Rattle.mpd_text.specs.Songs.Song.{SongData}
 use Rattle.mpd_text.specs.declared.answers.answer.ErrorNumber.{ErrorNumber}
 use Rattle.mpd_text.specs.declared.answers.answer.ErrorNumber.TheVariants.{Argument, NoExist, PlaylistMax}
@@ -23,12 +23,12 @@ use Rattle.mpd_text.specs.declared.answers.ranges.Range.{Range}
 use Rattle.play_order.specs.Draws.{generator_after_words, words_drawn}
 use Rattle.player_core.specs.Steps.{shuffle_words}
 use Rattle.player_state.specs.Effects.{part_after, player_edited}
-use Rattle.player_state.specs.declared.effect.CommandEffect.TheVariants.{Shuffles as ShufflesPlaces}
+use Rattle.player_state.specs.declared.effect.CommandEffect.TheVariants.{Shuffles as ShufflesPositions}
 use Rattle.player_state.specs.declared.effect.Effect.TheVariants.{ByCommand}
 use Rattle.player_state.specs.declared.state.Library.{Library}
 use Rattle.player_state.specs.declared.state.Part.{Part}
 use Rattle.queue_commands.specs.Queue as commands
-use Rattle.queue_commands.specs.Queue.{all_with_ids, all_within, changed_between, count, lack, place_in, result_of}
+use Rattle.queue_commands.specs.Queue.{all_with_ids, all_within, changed_between, count, lack, position_in, result_of}
 use Rattle.queue_slots.specs.declared.entry.Entry.{Entry}
 use Rattle.song_db.specs.Library.{song_of}
 use Rattle.song_queue.specs.Entries.{entries_for, moved_to, with_priority}
@@ -43,11 +43,11 @@ use Rattle.transitions.specs.CommandResults.{bad_index, does, edits, no_such_son
 use Rattle.transitions.specs.Transitions.{CommandResult}
 use Rattle.transitions.specs.declared.asked.Asked.{Asked}
 use Rattle.queue_laws.specs.Edits.{AddIdTellsTheId, EditsKeepTheOthers, IsAskedFor, Leaves, ShufflesTakeNumbers, are_named, count_named, names_or_all, takes_out}
-use Rattle.queue_laws.specs.Places.{names}
+use Rattle.queue_laws.specs.Positions.{names}
 use Rattle.queue_laws.specs.Queues.{Adds, DeletesId, HasAt, Moves, MovesId, Prioritizes, PrioritizesIds, Shuffles, Swaps}
 use Rattle.queue_laws.proofs.Lists.{slice_get-at}
 use Rattle.queue_laws.proofs.Named.{has-at, ids-named, ids-there, is-song, named-ids, no-song, put-where, ranges-named}
-use Rattle.queue_laws.proofs.Queues.{IsRange, named-count, adds, all-places, deletes, deletes-id, moves, moves-id, prioritizes, prioritizes-ids, queue_of-edited, range-order, shuffles, swaps, within-names}
+use Rattle.queue_laws.proofs.Queues.{IsRange, named-count, adds, all-positions, deletes, deletes-id, moves, moves-id, prioritizes, prioritizes-ids, queue_of-edited, range-order, shuffles, swaps, within-names}
 
 -- what is to be shown of a result: it leaves such a queue unless it is refused, and else all as it was; no more
 -- than the queue and the player changes, and unless entries are taken out of the player the round alone
@@ -70,13 +70,13 @@ module _ (rate : ℕ) (part : Part) (asked : Asked) (takes : Bool) where
       → (takes ≡ false → player_edited part.player part.queue edit ≡ record part.player { round = (player_edited part.player part.queue edit).round }) → Good rate part takes L (edits asked edit lines)
   edited L edit lines after calm = (λ e. after, λ (e : false ≡ true). cc, refl, calm)
 
-  shuffled-good : (L : List Entry → Type 0) (r : Places ℕ) → L (shuffled (queue_of part.queue) r.start r.end (shuffle_words part.player r.start r.end)) → Good rate part takes L (does asked (ShufflesPlaces r.start r.end))
+  shuffled-good : (L : List Entry → Type 0) (r : Positions ℕ) → L (shuffled (queue_of part.queue) r.start r.end (shuffle_words part.player r.start r.end)) → Good rate part takes L (does asked (ShufflesPositions r.start r.end))
   shuffled-good L r after =
       (λ e. subst L (sym (queue_of-edited part.queue (shuffled (queue_of part.queue) r.start r.end (shuffle_words part.player r.start r.end)))) after, λ (e : false ≡ true). cc, refl, λ e. refl)
 
--- the places of a range that may be left out
-chosen : (part : Part) (range : Option Range) (r : Places ℕ) → commands.range_or_all range (count part) ≡ Some r → IsRange (names_or_all range) (count part) r
-chosen part None r h = let whole : places 0 (count part) ≡ r = cc in subst (IsRange (λ _. true) (count part)) whole (all-places (count part))
+-- the positions of a range that may be left out
+chosen : (part : Part) (range : Option Range) (r : Positions ℕ) → commands.range_or_all range (count part) ≡ Some r → IsRange (names_or_all range) (count part) r
+chosen part None r h = let whole : positions 0 (count part) ≡ r = cc in subst (IsRange (λ _. true) (count part)) whole (all-positions (count part))
 chosen part (Some one) r h = within-names one (count part) r h
 
 module _ (asked : Asked) (part : Part) (library : Library) (is : IsQueue part.queue) where
@@ -105,28 +105,28 @@ module _ (asked : Asked) (part : Part) (library : Library) (is : IsQueue part.qu
       (λ e. refl)
   added-at P songs at lines (Some text) within make = refused library.rate part asked false P PlaylistMax text
 
-  added : (P : List Entry → Type 0) (songs : List SongData) (place : Option Place) (lines : List ℕ)
-      → ((at : ℕ) (after : List Entry) → IsAskedFor part place at → Adds part.queue.greatest_id songs at es after → P after) → G P (commands.insert_where asked part songs lines (place_in part place))
-  added P songs place lines make = put-where asked part songs lines (G P) (refused library.rate part asked false P) place
+  added : (P : List Entry → Type 0) (songs : List SongData) (position : Option Position) (lines : List ℕ)
+      → ((at : ℕ) (after : List Entry) → IsAskedFor part position at → Adds part.queue.greatest_id songs at es after → P after) → G P (commands.insert_where asked part songs lines (position_in part position))
+  added P songs position lines make = put-where asked part songs lines (G P) (refused library.rate part asked false P) position
       (λ at within asked_at. added-at P songs at lines (lack part (length songs)) within (make at (take at es ++ entries_for (part.queue.greatest_id + 1) songs ++ drop at es) asked_at))
 
-  add-folder : (uri : Uri) (place : Option Place) (b : Bool) → song_of library.songs uri.0 ≡ None
-      → G (L (queue.Add uri place)) (cond b (commands.add_songs asked part (under uri.0 library.songs) place) (no_such_song asked))
-  add-folder uri place true none =
-      added (L (queue.Add uri place)) (under uri.0 library.songs) place (codes "")
+  add-folder : (uri : Uri) (position : Option Position) (b : Bool) → song_of library.songs uri.0 ≡ None
+      → G (L (queue.Add uri position)) (cond b (commands.add_songs asked part (under uri.0 library.songs) position) (no_such_song asked))
+  add-folder uri position true none =
+      added (L (queue.Add uri position)) (under uri.0 library.songs) position (codes "")
       (λ at after asked_at puts. (under uri.0 library.songs, at, inr (no-song library uri.0 none, refl), asked_at, puts))
-  add-folder uri place false none = lost false (L (queue.Add uri place))
+  add-folder uri position false none = lost false (L (queue.Add uri position))
 
-  add-good : (uri : Uri) (place : Option Place) (o : Option SongData) → song_of library.songs uri.0 ≡ o → G (L (queue.Add uri place)) (commands.add_song_or_folder asked part library o uri.0 place)
-  add-good uri place None none = add-folder uri place (is_folder uri.0 library.songs) none
-  add-good uri place (Some song) found =
-      added (L (queue.Add uri place)) (song ∷ []) place (codes "")
+  add-good : (uri : Uri) (position : Option Position) (o : Option SongData) → song_of library.songs uri.0 ≡ o → G (L (queue.Add uri position)) (commands.add_song_or_folder asked part library o uri.0 position)
+  add-good uri position None none = add-folder uri position (is_folder uri.0 library.songs) none
+  add-good uri position (Some song) found =
+      added (L (queue.Add uri position)) (song ∷ []) position (codes "")
       (λ at after asked_at puts. (song ∷ [], at, inl (song, is-song library uri.0 song found, refl), asked_at, puts))
 
-  add-id-good : (uri : Uri) (place : Option Place) (o : Option SongData) → song_of library.songs uri.0 ≡ o → G (L (queue.AddId uri place)) (commands.add_one asked part o place)
-  add-id-good uri place None none = lost false (L (queue.AddId uri place))
-  add-id-good uri place (Some song) found =
-      added (L (queue.AddId uri place)) (song ∷ []) place (pair_line (codes "Id") (decimal (part.queue.greatest_id + 1)))
+  add-id-good : (uri : Uri) (position : Option Position) (o : Option SongData) → song_of library.songs uri.0 ≡ o → G (L (queue.AddId uri position)) (commands.add_one asked part o position)
+  add-id-good uri position None none = lost false (L (queue.AddId uri position))
+  add-id-good uri position (Some song) found =
+      added (L (queue.AddId uri position)) (song ∷ []) position (pair_line (codes "Id") (decimal (part.queue.greatest_id + 1)))
       (λ at after asked_at puts. (song, at, is-song library uri.0 song found, asked_at, puts))
 
   -- entries leave
@@ -136,7 +136,7 @@ module _ (asked : Asked) (part : Part) (library : Library) (is : IsQueue part.qu
       (queue_of-edited part.queue (take 0 es ++ drop (count part) es) ∙ drop_all (count part) es (omega arith))
       (λ (e : true ≡ false). cc)
 
-  delete-good : (range : Range) (o : Option (Places ℕ)) → within range (count part) ≡ o → Good library.rate part true (L (queue.Delete range)) (commands.remove asked part o)
+  delete-good : (range : Range) (o : Option (Positions ℕ)) → within range (count part) ≡ o → Good library.rate part true (L (queue.Delete range)) (commands.remove asked part o)
   delete-good range None h = bad true (L (queue.Delete range))
   delete-good range (Some r) h =
       edited library.rate part asked true (L (queue.Delete range)) (Remove r.start r.end) (codes "")
@@ -160,7 +160,7 @@ module _ (asked : Asked) (part : Part) (library : Library) (is : IsQueue part.qu
     | inr none ↦ inl (omega arith)
   ]
 
-  move-good : (range : Range) (to : ℕ) (o : Option (Places ℕ)) → within range (count part) ≡ o → G (L (queue.Move range to)) (commands.move_places asked part o to)
+  move-good : (range : Range) (to : ℕ) (o : Option (Positions ℕ)) → within range (count part) ≡ o → G (L (queue.Move range to)) (commands.move_positions asked part o to)
   move-good range to None h = bad false (L (queue.Move range to))
   move-good range to (Some r) h = chosen (nat_lt r.start r.end && nat_lt (count part) (to + (r.end - r.start))) refl
     where
@@ -188,7 +188,7 @@ module _ (asked : Asked) (part : Part) (library : Library) (is : IsQueue part.qu
   move-id-good id to true h = bad false (L (queue.MoveId id to))
   move-id-good id to false h = let low : to < count part = leb-false (count part) to h in move-one-good id to (position_of part.queue id) low refl
 
-  -- entries change places
+  -- entries change positions
   swapped : (a b : ℕ) (lines : List ℕ) (P : List Entry → Type 0) → (Swaps a b es (swap es a b) → P (swap es a b)) → a < count part → b < count part → G P (edits asked (Swap a b) lines)
   swapped a b lines P make la lb = edited library.rate part asked false P (Swap a b) lines (subst P (sym (queue_of-edited part.queue (swap es a b))) (make (swaps es a b la lb))) (λ e. refl)
 
@@ -209,7 +209,7 @@ module _ (asked : Asked) (part : Part) (library : Library) (is : IsQueue part.qu
       swapped a b (codes "") (L (queue.SwapId first second)) (λ s. (a, b, at_a, at_b, s)) (slice_get_within es a at_a.0 at_a.1) (slice_get_within es b at_b.0 at_b.1)
 
   -- entries are shuffled
-  shuffle-good : (range : Option Range) (o : Option (Places ℕ)) → commands.range_or_all range (count part) ≡ o → G (L (queue.Shuffle range)) (commands.shuffle_places asked o)
+  shuffle-good : (range : Option Range) (o : Option (Positions ℕ)) → commands.range_or_all range (count part) ≡ o → G (L (queue.Shuffle range)) (commands.shuffle_positions asked o)
   shuffle-good range None h = bad false (L (queue.Shuffle range))
   shuffle-good range (Some r) h =
       let counted = named-count (names_or_all range) es r (chosen part range r h) in
@@ -219,7 +219,7 @@ module _ (asked : Asked) (part : Part) (library : Library) (is : IsQueue part.qu
       (shuffles (names_or_all range) es r (shuffle_words part.player r.start r.end) (chosen part range r h)))
 
   -- entries get a priority
-  prio-good : (priority : ℕ) (ranges : List Range) (o : Option (List (Places ℕ))) → all_within (count part) ranges ≡ o
+  prio-good : (priority : ℕ) (ranges : List Range) (o : Option (List (Positions ℕ))) → all_within (count part) ranges ≡ o
       → G (L (queue.Prio priority ranges)) (commands.prioritize asked part (bad_index asked) priority o)
   prio-good priority ranges None h = bad false (L (queue.Prio priority ranges))
   prio-good priority ranges (Some all) h =
@@ -228,7 +228,7 @@ module _ (asked : Asked) (part : Part) (library : Library) (is : IsQueue part.qu
       (prioritizes es all priority (are_named ranges) (ranges-named (count part) ranges all h)))
       (λ e. refl)
 
-  prio-id-good : (priority : ℕ) (ids : List ℕ) (o : Option (List (Places ℕ))) → all_with_ids part.queue ids ≡ o
+  prio-id-good : (priority : ℕ) (ids : List ℕ) (o : Option (List (Positions ℕ))) → all_with_ids part.queue ids ≡ o
       → G (L (queue.PrioId priority ids)) (commands.prioritize asked part (no_such_song asked) priority o)
   prio-id-good priority ids None h = lost false (L (queue.PrioId priority ids))
   prio-id-good priority ids (Some all) h =
@@ -241,42 +241,42 @@ module _ (asked : Asked) (part : Part) (library : Library) (is : IsQueue part.qu
   abbrev Same : List Entry → Type 0
   Same after = after ≡ es
 
-  places-good : (lines : ℕ × Entry → List ℕ) (o : Option (Places ℕ)) → G Same (commands.show_places asked part lines o)
-  places-good lines None = bad false Same
-  places-good lines (Some r) = shown library.rate part asked false Same (flat_map lines (commands.rows_from part.queue r.start r.end)) refl
+  positions-good : (lines : ℕ × Entry → List ℕ) (o : Option (Positions ℕ)) → G Same (commands.show_positions asked part lines o)
+  positions-good lines None = bad false Same
+  positions-good lines (Some r) = shown library.rate part asked false Same (flat_map lines (commands.rows_from part.queue r.start r.end)) refl
 
   one-good : (o : Option ℕ) → G Same (commands.show_one asked part library o)
   one-good None = lost false Same
-  one-good (Some place) = places-good (commands.entry_lines asked.tags library.rate) (Some (places place (place + 1)))
+  one-good (Some position) = positions-good (commands.entry_lines asked.tags library.rate) (Some (positions position (position + 1)))
 
   by-id-good : (o : Option ℕ) → G Same (commands.playlist_id asked part library o)
-  by-id-good None = places-good (commands.entry_lines asked.tags library.rate) (commands.range_or_all None (count part))
+  by-id-good None = positions-good (commands.entry_lines asked.tags library.rate) (commands.range_or_all None (count part))
   by-id-good (Some id) = one-good (position_of part.queue id)
 
-  find-good : (case : Case) (wanted : Wanted) → G Same (commands.playlist_find asked part library case wanted)
+  find-good : (case : Case) (criteria : Criteria) → G Same (commands.playlist_find asked part library case criteria)
   find-good case (Meeting e) = shown library.rate part asked false Same (flat_map (commands.entry_lines asked.tags library.rate) (commands.meeting part.queue case e)) refl
   find-good case (Refused text) = refused library.rate part asked false Same Argument text
 
-  changed-good : (lines : ℕ × Entry → List ℕ) (version : ℕ) (o : Option (Places ℕ)) → G Same (commands.show_changed asked part lines version o)
+  changed-good : (lines : ℕ × Entry → List ℕ) (version : ℕ) (o : Option (Positions ℕ)) → G Same (commands.show_changed asked part lines version o)
   changed-good lines version None = bad false Same
   changed-good lines version (Some r) = shown library.rate part asked false Same (flat_map lines (changed_between part.queue version r)) refl
 
   pub all-good : (it : QueueCommand) → Good library.rate part (takes_out it) (Leaves part library it es) (result_of asked part library it)
   unfolding result_of
-  all-good (queue.Add uri place) = add-good uri place (song_of library.songs uri.0) refl
-  all-good (queue.AddId uri place) = add-id-good uri place (song_of library.songs uri.0) refl
+  all-good (queue.Add uri position) = add-good uri position (song_of library.songs uri.0) refl
+  all-good (queue.AddId uri position) = add-id-good uri position (song_of library.songs uri.0) refl
   all-good queue.Clear = clear-good
   all-good (queue.Delete range) = delete-good range (within range (count part)) refl
   all-good (queue.DeleteId id) = delete-id-good id (position_of part.queue id) refl
   all-good (queue.Move range to) = move-good range to (within range (count part)) refl
   all-good (queue.MoveId id to) = move-id-good id to (nat_le (count part) to) refl
-  all-good queue.Playlist = places-good commands.uri_line (Some (places 0 (count part)))
-  all-good (queue.PlaylistFind wanted) = find-good Heeded wanted
+  all-good queue.Playlist = positions-good commands.uri_line (Some (positions 0 (count part)))
+  all-good (queue.PlaylistFind criteria) = find-good Heeded criteria
   all-good (queue.PlaylistId id) = by-id-good id
-  all-good (queue.PlaylistInfo range) = places-good (commands.entry_lines asked.tags library.rate) (commands.range_or_all range (count part))
-  all-good (queue.PlaylistSearch wanted) = find-good Ignored wanted
+  all-good (queue.PlaylistInfo range) = positions-good (commands.entry_lines asked.tags library.rate) (commands.range_or_all range (count part))
+  all-good (queue.PlaylistSearch criteria) = find-good Ignored criteria
   all-good (queue.PlChanges version range) = changed-good (commands.entry_lines asked.tags library.rate) version (commands.range_or_all range (count part))
-  all-good (queue.PlChangesPosId version range) = changed-good commands.place_lines version (commands.range_or_all range (count part))
+  all-good (queue.PlChangesPosId version range) = changed-good commands.position_lines version (commands.range_or_all range (count part))
   all-good (queue.Prio priority ranges) = prio-good priority ranges (all_within (count part) ranges) refl
   all-good (queue.PrioId priority ids) = prio-id-good priority ids (all_with_ids part.queue ids) refl
   all-good (queue.Shuffle range) = shuffle-good range (commands.range_or_all range (count part)) refl
@@ -289,17 +289,17 @@ edits_keep_the_others asked part library it is =
     record { done = good.0; refused = good.1; rest = good.2; plays_on = good.3 }
 
 -- the id that is told
-module _ (asked : Asked) (part : Part) (library : Library) (place : Option Place) where
+module _ (asked : Asked) (part : Part) (library : Library) (position : Option Position) where
   abbrev Tells : CommandResult → Type 0
   Tells result =
       result.answer.refused ≡ false
-      → (at : ℕ) × (id : ℕ) × IsAskedFor part place at × HasAt (queue_of (part_after library.rate part (ByCommand result.effect)).queue) at id
+      → (at : ℕ) × (id : ℕ) × IsAskedFor part position at × HasAt (queue_of (part_after library.rate part (ByCommand result.effect)).queue) at id
       × (result.answer ≡ succeeds asked.stand (pair_line (codes "Id") (decimal id)))
 
   abbrev line : List ℕ
   line = pair_line (codes "Id") (decimal (part.queue.greatest_id + 1))
 
-  tells-at : (song : SongData) (at : ℕ) (o : Option (List ℕ)) → at ≤ count part → IsAskedFor part place at → Tells (commands.unless_lacking asked part o (edits asked (Insert at (song ∷ [])) line))
+  tells-at : (song : SongData) (at : ℕ) (o : Option (List ℕ)) → at ≤ count part → IsAskedFor part position at → Tells (commands.unless_lacking asked part o (edits asked (Insert at (song ∷ [])) line))
   tells-at song at None within asked_at e =
       let before : List Entry = queue_of part.queue in
       let new : Entry = record { id = part.queue.greatest_id + 1; song = song; priority = 0 } in
@@ -313,13 +313,13 @@ module _ (asked : Asked) (part : Part) (library : Library) (place : Option Place
       )
   tells-at song at (Some text) within asked_at e = cc
 
-  tells-song : (o : Option SongData) → Tells (commands.add_one asked part o place)
+  tells-song : (o : Option SongData) → Tells (commands.add_one asked part o position)
   tells-song None = λ (e : true ≡ false). cc
-  tells-song (Some song) = put-where asked part (song ∷ []) line Tells (λ number text (e : true ≡ false). cc) place (λ at within asked_at. tells-at song at (lack part 1) within asked_at)
+  tells-song (Some song) = put-where asked part (song ∷ []) line Tells (λ number text (e : true ≡ false). cc) position (λ at within asked_at. tells-at song at (lack part 1) within asked_at)
 
 pub add_id_tells_the_id : AddIdTellsTheId
 unfolding result_of
-add_id_tells_the_id asked part library uri place = tells-song asked part library place (song_of library.songs uri.0)
+add_id_tells_the_id asked part library uri position = tells-song asked part library position (song_of library.songs uri.0)
 
 -- the numbers that a shuffle takes
 module _ (asked : Asked) (part : Part) (library : Library) (range : Option Range) where
@@ -329,7 +329,7 @@ module _ (asked : Asked) (part : Part) (library : Library) (range : Option Range
       → (part_after library.rate part (ByCommand result.effect)).player.round
       ≡ record part.player.round { generator = generator_after_words part.player.round.generator (count_named range (queue_of part.queue) - 1) }
 
-  takes-numbers : (o : Option (Places ℕ)) → commands.range_or_all range (count part) ≡ o → Takes (commands.shuffle_places asked o)
+  takes-numbers : (o : Option (Positions ℕ)) → commands.range_or_all range (count part) ≡ o → Takes (commands.shuffle_positions asked o)
   takes-numbers None h = λ (e : true ≡ false). cc
   takes-numbers (Some r) h = λ e.
       ap (λ (n : ℕ). record part.player.round { generator = generator_after_words part.player.round.generator (n - 1) })

@@ -57,9 +57,9 @@ module _ {X : Type 0} (id : X → ℕ) where
       filter-append (λ z. not (id z == n)) a (x ∷ b) ∙ ap (λ l. without n a ++ l) (left-first (not (id x == n)) x (without n b) (without n b) passes refl)
       ∙ sym (filter-append (λ z. not (id z == n)) a b)
 
-  -- two places of one number are one place
-  pub one-place : (xs : List X) (i j : ℕ) (x y : X) → Apart xs → slice_get xs i ≡ Some x → slice_get xs j ≡ Some y → id x ≡ id y → i ≡ j
-  one-place xs i j x y apart at_i at_j same =
+  -- two positions of one number are one position
+  pub one-position : (xs : List X) (i j : ℕ) (x y : X) → Apart xs → slice_get xs i ≡ Some x → slice_get xs j ≡ Some y → id x ≡ id y → i ≡ j
+  one-position xs i j x y apart at_i at_j same =
       let li : i < length xs = slice_get_within xs i x at_i in
       let lj : j < length xs = slice_get_within xs j y at_j in
       let gi : get_or xs i x ≡ x = get_or_from_slice_get xs i x x at_i in

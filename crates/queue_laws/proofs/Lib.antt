@@ -1,6 +1,6 @@
 pub mod Lists
 pub mod Ids
-pub mod Turns
+pub mod ElementSwaps
 pub mod Picks
 pub mod Queues
 pub mod Named

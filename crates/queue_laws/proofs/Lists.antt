@@ -1,13 +1,13 @@
--- The elements of a list at some of its places, and what edits of the list leave of them.
+-- The elements of a list at some of its positions, and what edits of the list leave of them.
 use Rattle.std.proofs.Common.{◌≡◌, ◌⊎◌, inl, inr, ℕ, zero, suc, ◌+◌, ◌-◌, ◌<◌, ◌≤◌, Bool, true, false, not, cond, List, [], ◌∷◌, ◌++◌, length, map, take, drop, Some, refl, ap, sym, ◌∙◌, subst, arith}
 use Rattle.std.specs.Prelude.{Contains, slice_get}
 use Rattle.std.specs.List.{enumerate_from, filter, slice_range}
 use Rattle.std.proofs.lemmas.List.{append-nil, length-take-le, take-append-drop}
 use Rattle.std.proofs.lemmas.List.Edits.{length-between, split_between}
 use Rattle.std.proofs.lemmas.Option.{get_or_from_slice_get, slice_get_within}
-use Rattle.queue_laws.specs.Places.{at_places, is_between}
+use Rattle.queue_laws.specs.Positions.{at_positions, is_between}
 
--- the same, of places counted from n on
+-- the same, of positions counted from n on
 abbrev pub picked : {X : Type 0} → (ℕ → Bool) → ℕ → List X → List X
 picked {X} p n xs = map (λ (row : ℕ × X). row.1) (filter (λ (row : ℕ × X). p row.0) (enumerate_from n xs))
 
@@ -58,7 +58,7 @@ picked-none p n (x ∷ xs) none =
     let here : p n ≡ false = ap p e ∙ none 0 (omega arith) in
     picked-cons p n x xs ∙ (λ i. first (here i) x (picked-none p (n + 1) xs (λ k l. ap p (omega arith) ∙ none (suc k) (omega arith)) i))
 
--- whether a place is between two others
+-- whether a position is between two others
 inside : (start end k : ℕ) → start ≤ k → k < end → is_between start end k ≡ true
 inside start end k low high = grind arith
 
@@ -73,7 +73,7 @@ nowhere at k = grind arith
 
 -- of three parts of a list the one in the middle, and the two others
 module _ {X : Type 0} (a b c : List X) (start end : ℕ) (size : length a ≡ start) (sum : start + length b ≡ end) where
-  pub middle : at_places (is_between start end) (a ++ (b ++ c)) ≡ b
+  pub middle : at_positions (is_between start end) (a ++ (b ++ c)) ≡ b
   middle =
       let p : ℕ → Bool = is_between start end in
       picked-append p 0 a (b ++ c)
@@ -82,49 +82,49 @@ module _ {X : Type 0} (a b c : List X) (start end : ℕ) (size : length a ≡ st
       ++ picked-none p (0 + length a + length b) c (λ k l. behind start end (0 + length a + length b + k) (omega arith)) i)
       ∙ append-nil b
 
-  pub around : at_places (λ place. not (is_between start end place)) (a ++ (b ++ c)) ≡ a ++ c
+  pub around : at_positions (λ position. not (is_between start end position)) (a ++ (b ++ c)) ≡ a ++ c
   around =
-      let p : ℕ → Bool = λ place. not (is_between start end place) in
+      let p : ℕ → Bool = λ position. not (is_between start end position) in
       picked-append p 0 a (b ++ c)
       ∙ (λ i. picked-all p 0 a (λ k l. ap not (below start end (0 + k) (omega arith))) i ++ picked-append p (0 + length a) b c i)
       ∙ (λ i. a ++ (picked-none p (0 + length a) b (λ k l. ap not (inside start end (0 + length a + k) (omega arith) (omega arith))) i
       ++ picked-all p (0 + length a + length b) c (λ k l. ap not (behind start end (0 + length a + length b + k) (omega arith))) i))
 
 module _ {X : Type 0} (xs : List X) (start end : ℕ) (order : start ≤ end) (within : end ≤ length xs) where
-  pub between-are : at_places (is_between start end) xs ≡ slice_range xs start end
+  pub between-are : at_positions (is_between start end) xs ≡ slice_range xs start end
   between-are =
       let one : length (take start xs) ≡ start = length-take-le start xs (omega arith) in
       let two : length (slice_range xs start end) ≡ end - start = length-between xs start end within in
-      ap (at_places (is_between start end)) (split_between xs start end order)
+      ap (at_positions (is_between start end)) (split_between xs start end order)
       ∙ middle (take start xs) (slice_range xs start end) (drop end xs) start end one (omega arith)
 
-  pub others-are : at_places (λ place. not (is_between start end place)) xs ≡ take start xs ++ drop end xs
+  pub others-are : at_positions (λ position. not (is_between start end position)) xs ≡ take start xs ++ drop end xs
   others-are =
       let one : length (take start xs) ≡ start = length-take-le start xs (omega arith) in
       let two : length (slice_range xs start end) ≡ end - start = length-between xs start end within in
-      ap (at_places (λ place. not (is_between start end place))) (split_between xs start end order)
+      ap (at_positions (λ position. not (is_between start end position))) (split_between xs start end order)
       ∙ around (take start xs) (slice_range xs start end) (drop end xs) start end one (omega arith)
 
--- a part that is put into a list, so that its first element is at a place of it; no part may be put anywhere
+-- a part that is put into a list, so that its first element is at a position of it; no part may be put anywhere
 module _ {X : Type 0} (rest part : List X) (to : ℕ) (fits : (part ≡ []) ⊎ (to ≤ length rest)) where
   abbrev pub with_part : List X
   with_part = take to rest ++ (part ++ drop to rest)
 
-  pub put-there : at_places (is_between to (to + length part)) with_part ≡ part
+  pub put-there : at_positions (is_between to (to + length part)) with_part ≡ part
   put-there = elim fits [
-    | inl none ↦ subst (λ (b : List X). at_places (is_between to (to + length b)) (take to rest ++ (b ++ drop to rest)) ≡ b) (sym none)
+    | inl none ↦ subst (λ (b : List X). at_positions (is_between to (to + length b)) (take to rest ++ (b ++ drop to rest)) ≡ b) (sym none)
         (picked-none (is_between to (to + 0)) 0 (take to rest ++ drop to rest) (λ k l. nowhere to (0 + k)))
     | inr room ↦ middle (take to rest) part (drop to rest) to (to + length part) (length-take-le to rest room) refl
   ]
 
-  pub put-around : at_places (λ place. not (is_between to (to + length part) place)) with_part ≡ rest
+  pub put-around : at_positions (λ position. not (is_between to (to + length part) position)) with_part ≡ rest
   put-around = elim fits [
-    | inl none ↦ subst (λ (b : List X). at_places (λ place. not (is_between to (to + length b) place)) (take to rest ++ (b ++ drop to rest)) ≡ rest) (sym none)
-        (picked-all (λ place. not (is_between to (to + 0) place)) 0 (take to rest ++ drop to rest) (λ k l. ap not (nowhere to (0 + k))) ∙ take-append-drop to rest)
+    | inl none ↦ subst (λ (b : List X). at_positions (λ position. not (is_between to (to + length b) position)) (take to rest ++ (b ++ drop to rest)) ≡ rest) (sym none)
+        (picked-all (λ position. not (is_between to (to + 0) position)) 0 (take to rest ++ drop to rest) (λ k l. ap not (nowhere to (0 + k))) ∙ take-append-drop to rest)
     | inr room ↦ around (take to rest) part (drop to rest) to (to + length part) (length-take-le to rest room) refl ∙ take-append-drop to rest
   ]
 
--- an element at a place, and what is before it and behind it
+-- an element at a position, and what is before it and behind it
 pub split-at : {X : Type 0} (xs : List X) (at : ℕ) (x : X) → slice_get xs at ≡ Some x → xs ≡ take at xs ++ (x ∷ drop (suc at) xs)
 split-at [] at x here = cc
 split-at (y ∷ ys) zero x here = let same : y ≡ x = cc in ap (λ z. z ∷ ys) same

@@ -1,4 +1,4 @@
--- A part of a list that is shuffled: which element comes to which place.
+-- A part of a list that is shuffled: which element comes to which position.
 use Rattle.std.proofs.Common.{◌≡◌, ◌≢◌, inl, inr, ℕ, zero, suc, ◌+◌, ◌-◌, ◌%◌, ◌<◌, ◌≤◌, List, [], ◌∷◌, ◌++◌, length, take, drop, set, get_or, Some, refl, ap, sym, ◌∙◌, arith, ltb, swap_remove}
 use Rattle.std.specs.Prelude.{swap, slice_get}
 use Rattle.std.specs.List.{slice_range}
@@ -10,8 +10,8 @@ use Rattle.std.proofs.lemmas.Option.{slice_get-get_or}
 use Rattle.song_queue.specs.Shuffles.{shuffled}
 use Rattle.song_queue.proofs.Shuffles.{shuffled-keeps}
 use Rattle.play_order.proofs.Lists.{slice_range-more}
-use Rattle.queue_laws.specs.Places.{picked_in_turn}
-use Rattle.queue_laws.proofs.Turns.{swap-first, swap-other, swap-part}
+use Rattle.queue_laws.specs.Positions.{picked_in_turn}
+use Rattle.queue_laws.proofs.ElementSwaps.{swap-first, swap-other, swap-part}
 
 -- a write at the end of a front does not show in it
 take-two : {X : Type 0} (n : ℕ) (xs : List X) (k : ℕ) (v w : X) → take n (set (set xs n v) k w) ≡ take n (set xs k w)
@@ -20,7 +20,7 @@ take-two zero (x ∷ xs) k v w = refl
 take-two (suc n) (x ∷ xs) zero v w = ap (λ l. w ∷ l) (take-set-le n xs n v (omega arith))
 take-two (suc n) (x ∷ xs) (suc k) v w = ap (λ l. x ∷ l) (take-two n xs k v w)
 
--- all but the last of a list in which the last one changed places
+-- all but the last of a list in which the last one changed positions
 swapped-front : {X : Type 0} (xs : List X) (k : ℕ) (d : X) → k < length xs → take (length xs - 1) (swap xs (length xs - 1) k) ≡ swap_remove xs k d
 swapped-front [] k d l = absurd (omega arith)
 swapped-front (x ∷ xs) k d l =
@@ -56,15 +56,15 @@ first-of : {X : Type 0} (xs : List X) → 0 < length xs → X
 first-of [] some = absurd (omega arith)
 first-of (x ∷ xs) some = x
 
--- the entries of a range are shuffled: a place outside of it has what it had
-others : {X : Type 0} (xs : List X) (start end : ℕ) (words : List ℕ) (place : ℕ) → end ≤ length xs → end ≤ place → slice_get (shuffled xs start end words) place ≡ slice_get xs place
-others {X} xs start end words place within behind =
-    let kept = shuffled-keeps (λ (ys : List X). (length ys ≡ length xs) × (slice_get ys place ≡ slice_get xs place)) start end
+-- the entries of a range are shuffled: a position outside of it has what it had
+others : {X : Type 0} (xs : List X) (start end : ℕ) (words : List ℕ) (position : ℕ) → end ≤ length xs → end ≤ position → slice_get (shuffled xs start end words) position ≡ slice_get xs position
+others {X} xs start end words position within behind =
+    let kept = shuffled-keeps (λ (ys : List X). (length ys ≡ length xs) × (slice_get ys position ≡ slice_get xs position)) start end
     (λ ys i j low high below p.
     let size : length ys ≡ length xs = p.0 in
-    let not_i : place ≢ i = omega arith in
-    let not_j : place ≢ j = omega arith in
-    (length-swap ys i j ∙ size, swap-other ys i j (first-of ys (omega arith)) (omega arith) (omega arith) place not_i not_j ∙ p.1))
+    let not_i : position ≢ i = omega arith in
+    let not_j : position ≢ j = omega arith in
+    (length-swap ys i j ∙ size, swap-other ys i j (first-of ys (omega arith)) (omega arith) (omega arith) position not_i not_j ∙ p.1))
     xs end words (omega arith) (refl, refl) in
     kept.1
 
@@ -90,22 +90,22 @@ module _ {X : Type 0} (xs : List X) (start end word : ℕ) (words : List ℕ) (w
       let picked : word % (last - start + 1) < last - start + 1 = mod-lt word (omega arith) in
       let long : length part ≡ end - start = length-between xs start end within in
       let size : last - start + 1 ≡ length part = omega arith in
-      let place : ℕ = word % length part in
-      let is_place : word % (last - start + 1) ≡ place = ap (λ n. word % n) size in
+      let position : ℕ = word % length part in
+      let is_position : word % (last - start + 1) ≡ position = ap (λ n. word % n) size in
       let top : last - start ≡ length part - 1 = omega arith in
-      let at : chosen - start ≡ place = omega (arith, is_place) in
+      let at : chosen - start ≡ position = omega (arith, is_position) in
       let swapped_long : length swapped ≡ length xs = length-swap xs last chosen in
-      let there : slice_get after last ≡ Some (get_or part place d) =
+      let there : slice_get after last ≡ Some (get_or part position d) =
       others swapped start last words last (omega arith) (omega arith) ∙ swap-first xs last chosen d (omega arith) (omega arith)
-      ∙ slice_get-get_or xs chosen d (omega arith) ∙ ap Some (ap (λ n. get_or xs (start + n) d) is_place ∙ sym (get_or-between xs start end place d (omega arith))) in
-      let left : slice_range swapped start last ≡ swap_remove part place d =
+      ∙ slice_get-get_or xs chosen d (omega arith) ∙ ap Some (ap (λ n. get_or xs (start + n) d) is_position ∙ sym (get_or-between xs start end position d (omega arith))) in
+      let left : slice_range swapped start last ≡ swap_remove part position d =
       sym (take-take (last - start) (end - start) (drop start swapped) (omega arith))
       ∙ ap (take (last - start)) (swap-part xs last chosen start end (omega arith) (omega arith) (omega arith) (omega arith) within)
       ∙ (λ i. take (top i) (swap part (top i) (at i)))
-      ∙ swapped-front part place d (omega arith) in
+      ∙ swapped-front part position d (omega arith) in
       let one : last + 1 ≡ end = omega arith in
-      ap (slice_range after start) (sym one) ∙ slice_range-more after start last (get_or part place d) (omega arith) there
-      ∙ ap (λ l. l ++ get_or part place d ∷ []) (rest ∙ ap (picked_in_turn words) left)
+      ap (slice_range after start) (sym one) ∙ slice_range-more after start last (get_or part position d) (omega arith) there
+      ∙ ap (λ l. l ++ get_or part position d ∷ []) (rest ∙ ap (picked_in_turn words) left)
       ∙ sym (picked-next word words part d (omega arith))
 
 pub shuffled-picks : {X : Type 0} (xs : List X) (start end : ℕ) (words : List ℕ) → start ≤ end → end ≤ length xs

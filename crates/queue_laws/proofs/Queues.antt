@@ -2,7 +2,7 @@
 use Rattle.std.proofs.Common.{◌≡◌, ◌≢◌, ◌⊎◌, inl, inr, ℕ, zero, suc, ◌+◌, ◌-◌, ◌<◌, ◌≤◌, Bool, true, false, not, ◌&&◌, nat_le, nat_lt, ◌==◌, cond, List, [], ◌∷◌, ◌++◌, length, map, take, drop, get_or, Option, Some, None, refl, ap, sym, ◌∙◌, subst, arith, append_assoc, length-append, length-drop, min}
 use Rattle.std.specs.Prelude.{All, AllPairs, Contains, IsPermutation, swap, slice_get, option_map}
 use Rattle.std.specs.List.{filter, range_with_len, slice_range}
-use Rattle.std.specs.declared.ops.Range.{Range as Places}
+use Rattle.std.specs.declared.ops.Range.{Range as Positions}
 use Rattle.std.proofs.lemmas.Bool.{and_parts, cases_lt, cases_Bool, le-leb, leb-true, lt-leb}
 use Rattle.std.proofs.lemmas.List.{length-take-le, take-append-drop}
 use Rattle.std.proofs.lemmas.List.Edits.{length-between, length-swap, between_none}
@@ -10,7 +10,7 @@ use Rattle.std.proofs.lemmas.List.Elements.{filter-append, All-take, All-drop}
 use Rattle.std.proofs.lemmas.List.Sorted.{IsPermutation-swap, IsPermutation-trans, IsPermutation-refl, length_permutation}
 use Rattle.std.proofs.lemmas.Option.{slice_get_past, slice_get_within}
 use Rattle.mpd_text.specs.Songs.Song.{SongData}
-use Rattle.mpd_text.specs.Answers.Range.{places, within}
+use Rattle.mpd_text.specs.Answers.Range.{positions, within}
 use Rattle.mpd_text.specs.declared.answers.ranges.Range.{Range}
 use Rattle.mpd_text.specs.declared.answers.ranges.Range.TheVariants.{Lone, Between, From}
 use Rattle.queue_slots.specs.declared.entry.Entry.{Entry}
@@ -21,12 +21,12 @@ use Rattle.song_queue.proofs.Edits.{edited_cases, entries_of-restamped, get_or-e
 use Rattle.song_queue.proofs.Moves.{IsPermutation-moved_to}
 use Rattle.song_queue.proofs.Shuffles.{shuffled-keeps}
 use Rattle.song_queue.proofs.Priorities.{given, length-named, named}
-use Rattle.queue_laws.specs.Places.{at_places, is_between, names, picked_in_turn}
+use Rattle.queue_laws.specs.Positions.{at_positions, is_between, names, picked_in_turn}
 use Rattle.queue_laws.specs.Queues.{Adds, Deletes, DeletesId, HasAt, Moves, MovesId, Prioritizes, PrioritizesIds, Shuffles, Swaps, but_for_priority, is_other}
 use Rattle.queue_laws.proofs.Lists.{between-are, others-are, picked-same, put-around, put-there, one-at, slice_get-at, split-at, contains-at}
 use Rattle.queue_laws.proofs.Ids.{filter-all, filter-none, taken-out, without-one}
 use Rattle.queue_laws.proofs.Picks.{shuffled-picks}
-use Rattle.queue_laws.proofs.Turns.{swap-first, swap-second, swap-other, swap-part}
+use Rattle.queue_laws.proofs.ElementSwaps.{swap-first, swap-second, swap-other, swap-part}
 
 -- the queue of an edited state
 pub queue_of-edited : (q : QueueState) (es : List Entry) → queue_of (edited q es) ≡ es
@@ -43,31 +43,31 @@ all : (k len : ℕ) (b : Bool) → k < len → b ≡ (b && nat_lt k len)
 all k len true l = grind arith
 all k len false l = refl
 
--- the places that are named in a queue of so many entries are those of a range
-unfoldable pub IsRange : (ℕ → Bool) → ℕ → Places ℕ → Type 0
+-- the positions that are named in a queue of so many entries are those of a range
+unfoldable pub IsRange : (ℕ → Bool) → ℕ → Positions ℕ → Type 0
 IsRange which len r = (r.start ≤ r.end) × (r.end ≤ len) × ((k : ℕ) → k < len → which k ≡ is_between r.start r.end k)
 
-pub range-order : (which : ℕ → Bool) (len : ℕ) (r : Places ℕ) → IsRange which len r → r.start ≤ r.end
+pub range-order : (which : ℕ → Bool) (len : ℕ) (r : Positions ℕ) → IsRange which len r → r.start ≤ r.end
 unfolding IsRange
 range-order which len r is = is.0
 
-pub all-places : (len : ℕ) → IsRange (λ _. true) len (places 0 len)
+pub all-positions : (len : ℕ) → IsRange (λ _. true) len (positions 0 len)
 unfolding IsRange
-all-places len = (omega arith, omega arith, λ k l. let t : is_between 0 len k ≡ true = grind arith in sym t)
+all-positions len = (omega arith, omega arith, λ k l. let t : is_between 0 len k ≡ true = grind arith in sym t)
 
-pub within-names : (range : Range) (len : ℕ) (r : Places ℕ) → within range len ≡ Some r → IsRange (names range) len r
+pub within-names : (range : Range) (len : ℕ) (r : Positions ℕ) → within range len ≡ Some r → IsRange (names range) len r
 unfolding IsRange
-within-names (Lone place) len r h =
-    elim (nat_lt place len) as (λ b. nat_lt place len ≡ b → cond b (Some (places place (place + 1))) None ≡ Some r → (r.start ≤ r.end) × (r.end ≤ len) × ((k : ℕ) → k < len → (k == place) ≡ is_between r.start r.end k)) [
+within-names (Lone position) len r h =
+    elim (nat_lt position len) as (λ b. nat_lt position len ≡ b → cond b (Some (positions position (position + 1))) None ≡ Some r → (r.start ≤ r.end) × (r.end ≤ len) × ((k : ℕ) → k < len → (k == position) ≡ is_between r.start r.end k)) [
       | true ↦ λ t e.
-          let s : place ≡ r.start = cc in
-          let f : place + 1 ≡ r.end = cc in
-          let l : place < len = grind arith in
+          let s : position ≡ r.start = cc in
+          let f : position + 1 ≡ r.end = cc in
+          let l : position < len = grind arith in
           (omega arith, omega arith, λ k m. rw (sym s) (rw (sym f) (grind arith)))
       | false ↦ λ t e. cc
     ] refl h
 within-names (Between start end) len r h =
-    elim (nat_le start len && nat_le start end) as (λ b. (nat_le start len && nat_le start end) ≡ b → cond b (Some (places start (min len end))) None ≡ Some r
+    elim (nat_le start len && nat_le start end) as (λ b. (nat_le start len && nat_le start end) ≡ b → cond b (Some (positions start (min len end))) None ≡ Some r
     → (r.start ≤ r.end) × (r.end ≤ len) × ((k : ℕ) → k < len → is_between start end k ≡ is_between r.start r.end k)) [
       | true ↦ λ t e.
           let s : start ≡ r.start = cc in
@@ -79,7 +79,7 @@ within-names (Between start end) len r h =
       | false ↦ λ t e. cc
     ] refl h
 within-names (From start) len r h =
-    elim (nat_le start len) as (λ b. nat_le start len ≡ b → cond b (Some (places start len)) None ≡ Some r → (r.start ≤ r.end) × (r.end ≤ len) × ((k : ℕ) → k < len → nat_le start k ≡ is_between r.start r.end k)) [
+    elim (nat_le start len) as (λ b. nat_le start len ≡ b → cond b (Some (positions start len)) None ≡ Some r → (r.start ≤ r.end) × (r.end ≤ len) × ((k : ℕ) → k < len → nat_le start k ≡ is_between r.start r.end k)) [
       | true ↦ λ t e.
           let s : start ≡ r.start = cc in
           let f : len ≡ r.end = cc in
@@ -89,19 +89,19 @@ within-names (From start) len r h =
     ] refl h
 
 -- the entries that are named, and the others
-module _ (which : ℕ → Bool) (es : List Entry) (r : Places ℕ) (is : IsRange which (length es) r) where
-  named-are : at_places which es ≡ slice_range es r.start r.end
+module _ (which : ℕ → Bool) (es : List Entry) (r : Positions ℕ) (is : IsRange which (length es) r) where
+  named-are : at_positions which es ≡ slice_range es r.start r.end
   unfolding IsRange
   named-are = picked-same which (is_between r.start r.end) 0 es (λ k l. is.2 (0 + k) (omega arith)) ∙ between-are es r.start r.end is.0 is.1
 
-  pub named-count : length (at_places which es) ≡ r.end - r.start
+  pub named-count : length (at_positions which es) ≡ r.end - r.start
   unfolding IsRange
   named-count = ap length named-are ∙ length-between es r.start r.end is.1
 
-  unnamed-are : at_places (λ place. not (which place)) es ≡ take r.start es ++ drop r.end es
+  unnamed-are : at_positions (λ position. not (which position)) es ≡ take r.start es ++ drop r.end es
   unfolding IsRange
   unnamed-are =
-      picked-same (λ place. not (which place)) (λ place. not (is_between r.start r.end place)) 0 es (λ k l. ap not (is.2 (0 + k) (omega arith)))
+      picked-same (λ position. not (which position)) (λ position. not (is_between r.start r.end position)) 0 es (λ k l. ap not (is.2 (0 + k) (omega arith)))
       ∙ others-are es r.start r.end is.0 is.1
 
   pub deletes : Deletes which es (take r.start es ++ drop r.end es)
@@ -122,10 +122,10 @@ module _ (which : ℕ → Bool) (es : List Entry) (r : Places ℕ) (is : IsRange
       ] in
       let whole : moved_to es r.start r.end to ≡ take to rest ++ (part ++ drop to rest) = append_assoc (take to rest) part (drop to rest) in
       record {
-        moved = subst (λ (xs : List Entry). at_places (is_between to (to + length xs)) (moved_to es r.start r.end to) ≡ xs) (sym named-are)
-            (ap (at_places (is_between to (to + length part))) whole ∙ put-there rest part to put);
-        others = subst (λ (xs : List Entry). at_places (λ place. not (is_between to (to + length xs) place)) (moved_to es r.start r.end to) ≡ at_places (λ place. not (which place)) es) (sym named-are)
-            (ap (at_places (λ place. not (is_between to (to + length part) place))) whole ∙ put-around rest part to put ∙ sym unnamed-are);
+        moved = subst (λ (xs : List Entry). at_positions (is_between to (to + length xs)) (moved_to es r.start r.end to) ≡ xs) (sym named-are)
+            (ap (at_positions (is_between to (to + length part))) whole ∙ put-there rest part to put);
+        others = subst (λ (xs : List Entry). at_positions (λ position. not (is_between to (to + length xs) position)) (moved_to es r.start r.end to) ≡ at_positions (λ position. not (which position)) es) (sym named-are)
+            (ap (at_positions (λ position. not (is_between to (to + length part) position))) whole ∙ put-around rest part to put ∙ sym unnamed-are);
       }
 
 -- the entry with an id leaves
@@ -155,14 +155,14 @@ moves-id es at id to has low =
           ∙ sym (ap (filter (is_other id)) (split-at es at x has.1) ∙ without-one (λ (e : Entry). e.id) (take at es) (drop (suc at) es) x id has.2);
     }
 
--- two entries change places
+-- two entries change positions
 pub swaps : (es : List Entry) (a b : ℕ) → a < length es → b < length es → Swaps a b es (swap es a b)
 swaps [] a b la lb = absurd (omega arith)
 swaps (e ∷ es) a b la lb = record {
   there = (la, lb);
   first = swap-first (e ∷ es) a b e la lb;
   second = swap-second (e ∷ es) a b e la lb;
-  others = λ place na nb. swap-other (e ∷ es) a b e la lb place na nb;
+  others = λ position na nb. swap-other (e ∷ es) a b e la lb position na nb;
 }
 
 stays-at : {X : Type 0} (xs : List X) (i j p : ℕ) → i < length xs → j < length xs → p ≢ i → p ≢ j → slice_get (swap xs i j) p ≡ slice_get xs p
@@ -194,44 +194,44 @@ module _ {X : Type 0} (xs : List X) (start end : ℕ) (words : List ℕ) (order 
       xs end words (omega arith) (refl, IsPermutation-refl part) in
       kept.1
 
-  pub shuffled-others : (place : ℕ) → (place < start) ⊎ (end ≤ place) → slice_get (shuffled xs start end words) place ≡ slice_get xs place
-  shuffled-others place out =
-      let kept = shuffled-keeps (λ ys. Long ys × (slice_get ys place ≡ slice_get xs place)) start end
+  pub shuffled-others : (position : ℕ) → (position < start) ⊎ (end ≤ position) → slice_get (shuffled xs start end words) position ≡ slice_get xs position
+  shuffled-others position out =
+      let kept = shuffled-keeps (λ ys. Long ys × (slice_get ys position ≡ slice_get xs position)) start end
       (λ ys i j low high below p.
       let size : length ys ≡ length xs = p.0 in
-      let not_i : place ≢ i = elim out [ inl before ↦ (let n : place ≢ i = omega arith in n) | inr behind ↦ (let n : place ≢ i = omega arith in n) ] in
-      let not_j : place ≢ j = elim out [ inl before ↦ (let n : place ≢ j = omega arith in n) | inr behind ↦ (let n : place ≢ j = omega arith in n) ] in
-      (length-swap ys i j ∙ size, stays-at ys i j place (omega arith) (omega arith) not_i not_j ∙ p.1))
+      let not_i : position ≢ i = elim out [ inl before ↦ (let n : position ≢ i = omega arith in n) | inr behind ↦ (let n : position ≢ i = omega arith in n) ] in
+      let not_j : position ≢ j = elim out [ inl before ↦ (let n : position ≢ j = omega arith in n) | inr behind ↦ (let n : position ≢ j = omega arith in n) ] in
+      (length-swap ys i j ∙ size, stays-at ys i j position (omega arith) (omega arith) not_i not_j ∙ p.1))
       xs end words (omega arith) (refl, refl) in
       kept.1
 
-is-outside : (start end place : ℕ) → is_between start end place ≡ false → (place < start) ⊎ (end ≤ place)
-is-outside start end place h = elim (cases_lt place start) [
+is-outside : (start end position : ℕ) → is_between start end position ≡ false → (position < start) ⊎ (end ≤ position)
+is-outside start end position h = elim (cases_lt position start) [
   | inl before ↦ inl before
-  | inr low ↦ elim (cases_lt place end) [
-    | inl high ↦ absurd (let t : is_between start end place ≡ true = grind arith in cc)
+  | inr low ↦ elim (cases_lt position end) [
+    | inl high ↦ absurd (let t : is_between start end position ≡ true = grind arith in cc)
     | inr behind ↦ inr behind
   ]
 ]
 
-pub shuffles : (which : ℕ → Bool) (es : List Entry) (r : Places ℕ) (words : List ℕ) → IsRange which (length es) r → Shuffles words which es (shuffled es r.start r.end words)
+pub shuffles : (which : ℕ → Bool) (es : List Entry) (r : Positions ℕ) (words : List ℕ) → IsRange which (length es) r → Shuffles words which es (shuffled es r.start r.end words)
 unfolding IsRange
 shuffles which es r words is =
     let after : List Entry = shuffled es r.start r.end words in
     let long : length after ≡ length es = shuffled-length es r.start r.end words is.0 is.1 in
-    let named : at_places which after ≡ slice_range after r.start r.end = named-are which after r (is.0, omega (arith, is.1), λ k l. is.2 k (omega arith)) in
+    let named : at_positions which after ≡ slice_range after r.start r.end = named-are which after r (is.0, omega (arith, is.1), λ k l. is.2 k (omega arith)) in
     record {
-      permuted = subst (λ (xs : List Entry). IsPermutation xs (at_places which after)) (sym (named-are which es r is))
+      permuted = subst (λ (xs : List Entry). IsPermutation xs (at_positions which after)) (sym (named-are which es r is))
           (subst (IsPermutation (slice_range es r.start r.end)) (sym named) (shuffled-part es r.start r.end words is.0 is.1));
       picked = named ∙ shuffled-picks es r.start r.end words is.0 is.1 ∙ ap (picked_in_turn words) (sym (named-are which es r is));
-      others = λ place out. elim (cases_lt place (length es)) [
-        | inl l ↦ shuffled-others es r.start r.end words is.0 is.1 place (is-outside r.start r.end place (sym (is.2 place l) ∙ out))
-        | inr past ↦ slice_get_past after place (omega arith) ∙ sym (slice_get_past es place past)
+      others = λ position out. elim (cases_lt position (length es)) [
+        | inl l ↦ shuffled-others es r.start r.end words is.0 is.1 position (is-outside r.start r.end position (sym (is.2 position l) ∙ out))
+        | inr past ↦ slice_get_past after position (omega arith) ∙ sym (slice_get_past es position past)
       ];
     }
 
 -- entries get a priority
-slice_get-named : {X : Type 0} (f : X → X) (ranges : List (Places ℕ)) (n : ℕ) (xs : List X) (k : ℕ)
+slice_get-named : {X : Type 0} (f : X → X) (ranges : List (Positions ℕ)) (n : ℕ) (xs : List X) (k : ℕ)
     → slice_get (named f ranges n xs) k ≡ option_map (λ x. cond (is_named ranges (n + k)) (f x) x) (slice_get xs k)
 slice_get-named f ranges n [] k = refl
 slice_get-named f ranges n (x ∷ xs) zero = let e : n ≡ n + 0 = omega arith in ap (λ m. Some (cond (is_named ranges m) (f x) x)) e
@@ -239,7 +239,7 @@ slice_get-named f ranges n (x ∷ xs) (suc k) =
     let e : n + 1 + k ≡ n + suc k = omega arith in
     slice_get-named f ranges (n + 1) xs k ∙ ap (λ m. option_map (λ y. cond (is_named ranges m) (f y) y) (slice_get xs k)) e
 
-named-same : (priority : ℕ) (ranges : List (Places ℕ)) (n : ℕ) (es : List Entry) → map but_for_priority (named (given priority) ranges n es) ≡ map but_for_priority es
+named-same : (priority : ℕ) (ranges : List (Positions ℕ)) (n : ℕ) (es : List Entry) → map but_for_priority (named (given priority) ranges n es) ≡ map but_for_priority es
 named-same priority ranges n [] = refl
 named-same priority ranges n (e ∷ es) =
     elim (is_named ranges n) as (λ b. but_for_priority (cond b (given priority e) e) ∷ map but_for_priority (named (given priority) ranges (n + 1) es) ≡ but_for_priority e ∷ map but_for_priority es) [
@@ -247,7 +247,7 @@ named-same priority ranges n (e ∷ es) =
       | false ↦ ap (λ (l : List (ℕ × SongData)). but_for_priority e ∷ l) (named-same priority ranges (n + 1) es)
     ]
 
--- what is at a place then
+-- what is at a position then
 has-given : (priority : ℕ) (o : Option Entry) (b : Bool) (e : Entry) → b ≡ true → option_map (λ x. cond b (given priority x) x) o ≡ Some e → e.priority ≡ priority
 has-given priority None b e t h = cc
 has-given priority (Some x) true e t h = let same : given priority x ≡ e = cc in sym (ap (λ (y : Entry). y.priority) same)
@@ -258,12 +258,12 @@ has-own priority None b f = refl
 has-own priority (Some x) true f = cc
 has-own priority (Some x) false f = refl
 
-module _ (es : List Entry) (ranges : List (Places ℕ)) (priority : ℕ) where
+module _ (es : List Entry) (ranges : List (Positions ℕ)) (priority : ℕ) where
   abbrev after : List Entry
   after = with_priority es ranges priority
 
-  at-place : (place : ℕ) → slice_get after place ≡ option_map (λ x. cond (is_named ranges place) (given priority x) x) (slice_get es place)
-  at-place place = let e : 0 + place ≡ place = omega arith in slice_get-named (given priority) ranges 0 es place ∙ ap (λ m. option_map (λ y. cond (is_named ranges m) (given priority y) y) (slice_get es place)) e
+  at-position : (position : ℕ) → slice_get after position ≡ option_map (λ x. cond (is_named ranges position) (given priority x) x) (slice_get es position)
+  at-position position = let e : 0 + position ≡ position = omega arith in slice_get-named (given priority) ranges 0 es position ∙ ap (λ m. option_map (λ y. cond (is_named ranges m) (given priority y) y) (slice_get es position)) e
 
   long : length after ≡ length es
   long = length-named (given priority) ranges 0 es
@@ -271,36 +271,36 @@ module _ (es : List Entry) (ranges : List (Places ℕ)) (priority : ℕ) where
   pub prioritizes : (which : ℕ → Bool) → ((k : ℕ) → k < length es → which k ≡ is_named ranges k) → Prioritizes which priority es after
   prioritizes which is = record {
     same = named-same priority ranges 0 es;
-    given = λ place entry here at.
-        let l : place < length after = slice_get_within after place entry at in
-        has-given priority (slice_get es place) (is_named ranges place) entry (sym (is place (omega (arith, long))) ∙ here) (sym (at-place place) ∙ at);
-    others = λ place out. elim (cases_lt place (length es)) [
-      | inl l ↦ at-place place ∙ has-own priority (slice_get es place) (is_named ranges place) (sym (is place l) ∙ out)
-      | inr past ↦ slice_get_past after place (omega (arith, long)) ∙ sym (slice_get_past es place past)
+    given = λ position entry here at.
+        let l : position < length after = slice_get_within after position entry at in
+        has-given priority (slice_get es position) (is_named ranges position) entry (sym (is position (omega (arith, long))) ∙ here) (sym (at-position position) ∙ at);
+    others = λ position out. elim (cases_lt position (length es)) [
+      | inl l ↦ at-position position ∙ has-own priority (slice_get es position) (is_named ranges position) (sym (is position l) ∙ out)
+      | inr past ↦ slice_get_past after position (omega (arith, long)) ∙ sym (slice_get_past es position past)
     ];
   }
 
   -- an entry has its id then too
-  own-id : (place : ℕ) (e : Entry) → slice_get after place ≡ Some e → (x : Entry) × (slice_get es place ≡ Some x) × (x.id ≡ e.id)
-  own-id place e at = found (slice_get es place) (is_named ranges place) refl (sym (at-place place) ∙ at)
+  own-id : (position : ℕ) (e : Entry) → slice_get after position ≡ Some e → (x : Entry) × (slice_get es position ≡ Some x) × (x.id ≡ e.id)
+  own-id position e at = found (slice_get es position) (is_named ranges position) refl (sym (at-position position) ∙ at)
     where
-      found : (o : Option Entry) (b : Bool) → slice_get es place ≡ o → option_map (λ x. cond b (given priority x) x) o ≡ Some e → (x : Entry) × (slice_get es place ≡ Some x) × (x.id ≡ e.id)
+      found : (o : Option Entry) (b : Bool) → slice_get es position ≡ o → option_map (λ x. cond b (given priority x) x) o ≡ Some e → (x : Entry) × (slice_get es position ≡ Some x) × (x.id ≡ e.id)
       found None b is h = cc
       found (Some x) true is h = let same : given priority x ≡ e = cc in (x, is, ap (λ (y : Entry). y.id) same)
       found (Some x) false is h = let same : x ≡ e = cc in (x, is, ap (λ (y : Entry). y.id) same)
 
-  pub prioritizes-ids : (ids : List ℕ) → ((id : ℕ) → Contains ids id → (place : ℕ) × HasAt es place id)
-      → ((place : ℕ) (x : Entry) → slice_get es place ≡ Some x → Contains ids x.id → is_named ranges place ≡ true)
-      → ((place : ℕ) (x : Entry) → slice_get es place ≡ Some x → is_named ranges place ≡ true → Contains ids x.id) → PrioritizesIds ids priority es after
+  pub prioritizes-ids : (ids : List ℕ) → ((id : ℕ) → Contains ids id → (position : ℕ) × HasAt es position id)
+      → ((position : ℕ) (x : Entry) → slice_get es position ≡ Some x → Contains ids x.id → is_named ranges position ≡ true)
+      → ((position : ℕ) (x : Entry) → slice_get es position ≡ Some x → is_named ranges position ≡ true → Contains ids x.id) → PrioritizesIds ids priority es after
   prioritizes-ids ids there to from = record {
     there = there;
     same = named-same priority ranges 0 es;
-    given = λ place entry at contains.
-        let own = own-id place entry at in
-        has-given priority (slice_get es place) (is_named ranges place) entry (to place own.0 own.1 (subst (Contains ids) (sym own.2) contains)) (sym (at-place place) ∙ at);
-    others = λ place entry at none.
-        let out : is_named ranges place ≡ false = elim (cases_Bool (is_named ranges place)) [ inl t ↦ absurd (none (from place entry at t)) | inr f ↦ f ] in
-        at-place place ∙ has-own priority (slice_get es place) (is_named ranges place) out ∙ at;
+    given = λ position entry at contains.
+        let own = own-id position entry at in
+        has-given priority (slice_get es position) (is_named ranges position) entry (to position own.0 own.1 (subst (Contains ids) (sym own.2) contains)) (sym (at-position position) ∙ at);
+    others = λ position entry at none.
+        let out : is_named ranges position ≡ false = elim (cases_Bool (is_named ranges position)) [ inl t ↦ absurd (none (from position entry at t)) | inr f ↦ f ] in
+        at-position position ∙ has-own priority (slice_get es position) (is_named ranges position) out ∙ at;
   }
 
 -- songs come
@@ -330,11 +330,11 @@ adds es greatest at songs low within =
     let after : List Entry = take at es ++ news ++ drop at es in
     let size : length news ≡ length songs = length-entries_for (greatest + 1) songs in
     let whole : after ≡ take at es ++ (news ++ drop at es) = append_assoc (take at es) news (drop at es) in
-    let there : at_places (is_between at (at + length songs)) after ≡ news =
-    (λ i. at_places (is_between at (at + sym size i)) (whole i)) ∙ put-there es news at (inr within) in
+    let there : at_positions (is_between at (at + length songs)) after ≡ news =
+    (λ i. at_positions (is_between at (at + sym size i)) (whole i)) ∙ put-there es news at (inr within) in
     let passes : Entry → Bool = λ e. nat_le e.id greatest in
     record {
-      old = (λ i. at_places (λ place. not (is_between at (at + sym size i) place)) (whole i)) ∙ put-around es news at (inr within);
+      old = (λ i. at_positions (λ position. not (is_between at (at + sym size i) position)) (whole i)) ∙ put-around es news at (inr within);
       songs_there = ap (map (λ (e : Entry). e.song)) there ∙ songs-for (greatest + 1) songs;
       ids = ap (map (λ (e : Entry). e.id)) there ∙ ids-for (greatest + 1) songs;
       priorities = λ entry has.

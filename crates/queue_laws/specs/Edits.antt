@@ -1,8 +1,8 @@
 -- What each command of the queue leaves of it (MPD protocol reference, The Queue).
 use Rattle.std.specs.Prelude.{◌≡◌, ◌⊎◌, ℕ, ◌+◌, ◌-◌, Bool, true, false, List, [], ◌∷◌, length, Contains, Option, Some, None, codes, decimal}
 use Rattle.std.specs.List.{list_any}
-use Rattle.command_arguments.specs.declared.forms.Place.{Place}
-use Rattle.command_arguments.specs.declared.forms.Place.TheVariants.{At, After, Before}
+use Rattle.command_arguments.specs.declared.forms.Position.{Position}
+use Rattle.command_arguments.specs.declared.forms.Position.TheVariants.{At, After, Before}
 use Rattle.command_arguments.specs.declared.forms.Uri.{Uri}
 use Rattle.mpd_command.specs.declared.queue.QueueCommand.{QueueCommand}
 use Rattle.mpd_command.specs.declared.queue.QueueCommand.TheVariants as queue
@@ -20,7 +20,7 @@ use Rattle.song_queue.specs.State.{IsQueue, queue_of}
 use Rattle.song_search.specs.Folders.{under}
 use Rattle.transitions.specs.Answers.{succeeds}
 use Rattle.transitions.specs.declared.asked.Asked.{Asked}
-use Rattle.queue_laws.specs.Places.{at_places, names}
+use Rattle.queue_laws.specs.Positions.{at_positions, names}
 use Rattle.queue_laws.specs.Queues.{Adds, Deletes, DeletesId, HasAt, Moves, MovesId, Prioritizes, PrioritizesIds, Shuffles, Swaps, SwapsIds}
 
 -- a song of the library has this URI
@@ -33,38 +33,38 @@ AreNamed library uri songs =
     ((song : SongData) × IsSong library uri song × (songs ≡ song ∷ []))
     ⊎ (((song : SongData) → IsSong library uri song → ⊥) × (songs ≡ under uri library.songs))
 
--- the place of the current song
+-- the position of the current song
 abbrev pub IsCurrent : Part → ℕ → Type 0
-IsCurrent part place = (id : ℕ) × (part.player.current ≡ Some id) × HasAt (queue_of part.queue) place id
+IsCurrent part position = (id : ℕ) × (part.player.current ≡ Some id) × HasAt (queue_of part.queue) position id
 
 -- where songs are to be put: at the end where nothing is said; `+N` with so many songs between the current one
 -- and them, `-N` with so many between them and the current one
-abbrev pub IsAskedFor : Part → Option Place → ℕ → Type 0
+abbrev pub IsAskedFor : Part → Option Position → ℕ → Type 0
 IsAskedFor part None at = at ≡ length (queue_of part.queue)
-IsAskedFor part (Some (At place)) at = at ≡ place
+IsAskedFor part (Some (At position)) at = at ≡ position
 IsAskedFor part (Some (After steps)) at = (current : ℕ) × IsCurrent part current × (at ≡ current + 1 + steps)
 IsAskedFor part (Some (Before steps)) at = (current : ℕ) × IsCurrent part current × (at + steps ≡ current)
 
--- whether one of some ranges names a place, and whether one does that may be left out for the whole queue
+-- whether one of some ranges names a position, and whether one does that may be left out for the whole queue
 abbrev pub are_named : List Range → ℕ → Bool
-are_named ranges place = list_any (λ range. names range place) ranges
+are_named ranges position = list_any (λ range. names range position) ranges
 
 abbrev pub names_or_all : Option Range → ℕ → Bool
-names_or_all None place = true
-names_or_all (Some range) place = names range place
+names_or_all None position = true
+names_or_all (Some range) position = names range position
 
 -- how many entries a range names, where none names all
 abbrev pub count_named : Option Range → List Entry → ℕ
-count_named range queue = length (at_places (names_or_all range) queue)
+count_named range queue = length (at_positions (names_or_all range) queue)
 
 -- The queue before a command and after it. A shuffle is by the next numbers of the generator, one for each entry
 -- but the first of those that are named.
 abbrev pub Leaves : Part → Library → QueueCommand → List Entry → List Entry → Type 0
-Leaves part library (queue.Add uri place) before after =
-    (songs : List SongData) × (at : ℕ) × AreNamed library uri.0 songs × IsAskedFor part place at
+Leaves part library (queue.Add uri position) before after =
+    (songs : List SongData) × (at : ℕ) × AreNamed library uri.0 songs × IsAskedFor part position at
     × Adds part.queue.greatest_id songs at before after
-Leaves part library (queue.AddId uri place) before after =
-    (song : SongData) × (at : ℕ) × IsSong library uri.0 song × IsAskedFor part place at
+Leaves part library (queue.AddId uri position) before after =
+    (song : SongData) × (at : ℕ) × IsSong library uri.0 song × IsAskedFor part position at
     × Adds part.queue.greatest_id (song ∷ []) at before after
 Leaves part library queue.Clear before after = after ≡ []
 Leaves part library (queue.Delete range) before after = Deletes (names range) before after
@@ -118,14 +118,14 @@ EditsKeepTheOthers =
     (asked : Asked) (part : Part) (library : Library) (it : QueueCommand)
     → IsQueue part.queue → EditsAsSaid asked part library it
 
--- `addid` tells the id of the entry that is at the place then
+-- `addid` tells the id of the entry that is at the position then
 abbrev pub AddIdTellsTheId : Type 0
 AddIdTellsTheId =
-    (asked : Asked) (part : Part) (library : Library) (uri : Uri) (place : Option Place)
-    → is_refused asked part library (queue.AddId uri place) ≡ false
-    → (at : ℕ) × (id : ℕ) × IsAskedFor part place at
-    × HasAt (queue_of (part_left asked part library (queue.AddId uri place)).queue) at id
-    × ((result_of asked part library (queue.AddId uri place)).answer
+    (asked : Asked) (part : Part) (library : Library) (uri : Uri) (position : Option Position)
+    → is_refused asked part library (queue.AddId uri position) ≡ false
+    → (at : ℕ) × (id : ℕ) × IsAskedFor part position at
+    × HasAt (queue_of (part_left asked part library (queue.AddId uri position)).queue) at id
+    × ((result_of asked part library (queue.AddId uri position)).answer
     ≡ succeeds asked.stand (pair_line (codes "Id") (decimal id)))
 
 -- a shuffle takes so many numbers, and the generator goes on behind them; nothing else of the round changes

@@ -1,4 +1,4 @@
-pub mod Places
+pub mod Positions
 pub mod Queues
 pub mod Edits
 pub mod Options

@@ -1,4 +1,4 @@
--- The places of slots that are shown to a client.
+-- The positions of slots that are shown to a client.
 use Rattle.std.proofs.Common.{◌≡◌, ℕ, suc, ◌+◌, ◌≤◌, Bool, true, false, ◌||◌, cond, ltb, List, [], ◌∷◌, ◌++◌, length, map, refl, ap, sym, ◌∙◌, arith}
 use Rattle.std.specs.Prelude.{filter}
 use Rattle.std.specs.List.{enumerate_from, range_with_len}
@@ -11,28 +11,28 @@ use Rattle.queue_slots.specs.Slots.{written}
 use Rattle.queue_slots.specs.Blocks.{IsWithin}
 use Rattle.queue_slots.proofs.Shown.{none_left, none_right}
 
-abbrev pub places : ℕ → ℕ → ℕ → List Slot → List ℕ
-places v p n ss = map (λ (r : ℕ × Slot). r.0) (filter (λ (r : ℕ × Slot). r.1.marked || ltb v r.1.stamp || ltb p v) (enumerate_from n ss))
+abbrev pub positions : ℕ → ℕ → ℕ → List Slot → List ℕ
+positions v p n ss = map (λ (r : ℕ × Slot). r.0) (filter (λ (r : ℕ × Slot). r.1.marked || ltb v r.1.stamp || ltb p v) (enumerate_from n ss))
 
-pub places-append : (v p n : ℕ) (xs ys : List Slot) → places v p n (xs ++ ys) ≡ places v p n xs ++ places v p (n + length xs) ys
-places-append v p n [] ys = let e : n ≡ n + 0 = omega arith in ap (λ (k : ℕ). places v p k ys) e
-places-append v p n (x ∷ xs) ys =
+pub positions-append : (v p n : ℕ) (xs ys : List Slot) → positions v p n (xs ++ ys) ≡ positions v p n xs ++ positions v p (n + length xs) ys
+positions-append v p n [] ys = let e : n ≡ n + 0 = omega arith in ap (λ (k : ℕ). positions v p k ys) e
+positions-append v p n (x ∷ xs) ys =
     let e : n + 1 + length xs ≡ n + suc (length xs) = omega arith in
-    let rest : places v p (n + 1) (xs ++ ys) ≡ places v p (n + 1) xs ++ places v p (n + suc (length xs)) ys = places-append v p (n + 1) xs ys ∙ ap (λ (k : ℕ). places v p (n + 1) xs ++ places v p k ys) e in
+    let rest : positions v p (n + 1) (xs ++ ys) ≡ positions v p (n + 1) xs ++ positions v p (n + suc (length xs)) ys = positions-append v p (n + 1) xs ys ∙ ap (λ (k : ℕ). positions v p (n + 1) xs ++ positions v p k ys) e in
     elim (x.marked || ltb v x.stamp || ltb p v) as (λ b. map (λ (r : ℕ × Slot). r.0) (cond b ((n, x) ∷ filter (λ (r : ℕ × Slot). r.1.marked || ltb v r.1.stamp || ltb p v) (enumerate_from (n + 1) (xs ++ ys))) (filter (λ (r : ℕ × Slot). r.1.marked || ltb v r.1.stamp || ltb p v) (enumerate_from (n + 1) (xs ++ ys))))
-    ≡ map (λ (r : ℕ × Slot). r.0) (cond b ((n, x) ∷ filter (λ (r : ℕ × Slot). r.1.marked || ltb v r.1.stamp || ltb p v) (enumerate_from (n + 1) xs)) (filter (λ (r : ℕ × Slot). r.1.marked || ltb v r.1.stamp || ltb p v) (enumerate_from (n + 1) xs))) ++ places v p (n + suc (length xs)) ys) [
+    ≡ map (λ (r : ℕ × Slot). r.0) (cond b ((n, x) ∷ filter (λ (r : ℕ × Slot). r.1.marked || ltb v r.1.stamp || ltb p v) (enumerate_from (n + 1) xs)) (filter (λ (r : ℕ × Slot). r.1.marked || ltb v r.1.stamp || ltb p v) (enumerate_from (n + 1) xs))) ++ positions v p (n + suc (length xs)) ys) [
       | true ↦ ap (λ x. n ∷ x) rest
       | false ↦ rest
     ]
 
--- one place
-pub places-one : (v p n : ℕ) (s : Slot) → places v p n (s ∷ []) ≡ cond (s.marked || ltb v s.stamp || ltb p v) (n ∷ []) []
-places-one v p n s = elim (s.marked || ltb v s.stamp || ltb p v) as (λ b. map (λ (r : ℕ × Slot). r.0) (cond b ((n, s) ∷ []) []) ≡ cond b (n ∷ []) []) [ true ↦ refl | false ↦ refl ]
+-- one position
+pub positions-one : (v p n : ℕ) (s : Slot) → positions v p n (s ∷ []) ≡ cond (s.marked || ltb v s.stamp || ltb p v) (n ∷ []) []
+positions-one v p n s = elim (s.marked || ltb v s.stamp || ltb p v) as (λ b. map (λ (r : ℕ × Slot). r.0) (cond b ((n, s) ∷ []) []) ≡ cond b (n ∷ []) []) [ true ↦ refl | false ↦ refl ]
 
 -- none, where the summary shows none
-pub places-none : (v p n t : ℕ) (m : Bool) (ss : List Slot) → m || ltb v t || ltb p v ≡ false → IsWithin t m ss → places v p n ss ≡ []
-places-none v p n t m [] e h = refl
-places-none v p n t m (s ∷ ss) e h =
+pub positions-none : (v p n t : ℕ) (m : Bool) (ss : List Slot) → m || ltb v t || ltb p v ≡ false → IsWithin t m ss → positions v p n ss ≡ []
+positions-none v p n t m [] e h = refl
+positions-none v p n t m (s ∷ ss) e h =
     let first = none_left (m || ltb v t) (ltb p v) e in
     let low : t ≤ v = ltb-false v t (none_right m (ltb v t) first) in
     let here = h.0 in
@@ -40,12 +40,12 @@ places-none v p n t m (s ∷ ss) e h =
     let b : ltb v s.stamp ≡ false = le-ltb v s.stamp (omega arith) in
     let d : ltb p v ≡ false = none_right (m || ltb v t) (ltb p v) e in
     let test : s.marked || ltb v s.stamp || ltb p v ≡ false = λ i. a i || b i || d i in
-    ap (λ x. map (λ (r : ℕ × Slot). r.0) x) (cond-false _ _ _ test) ∙ places-none v p (n + 1) t m ss e h.2
+    ap (λ x. map (λ (r : ℕ × Slot). r.0) x) (cond-false _ _ _ test) ∙ positions-none v p (n + 1) t m ss e h.2
 
 -- all, where each shows what the summary shows
-pub places-all : (v p n t : ℕ) (m : Bool) (es : List Entry) → m || ltb v t || ltb p v ≡ true → places v p n (map (written t m) es) ≡ range_with_len n (length es)
-places-all v p n t m [] e = refl
-places-all v p n t m (x ∷ es) e = ap (λ x. map (λ (r : ℕ × Slot). r.0) x) (cond-true _ _ _ e) ∙ ap (λ x. n ∷ x) (places-all v p (n + 1) t m es e)
+pub positions-all : (v p n t : ℕ) (m : Bool) (es : List Entry) → m || ltb v t || ltb p v ≡ true → positions v p n (map (written t m) es) ≡ range_with_len n (length es)
+positions-all v p n t m [] e = refl
+positions-all v p n t m (x ∷ es) e = ap (λ x. map (λ (r : ℕ × Slot). r.0) x) (cond-true _ _ _ e) ∙ ap (λ x. n ∷ x) (positions-all v p (n + 1) t m es e)
 
 pub range_with_len-push : (n k : ℕ) → range_with_len n (k + 1) ≡ range_with_len n k ++ ((n + k) ∷ [])
 range_with_len-push n k = sym (map-id (range_with_len n (k + 1))) ∙ map-range_with_len_more (λ (x : ℕ). x) n k (n + k) refl ∙ ap (λ x. x ++ ((n + k) ∷ [])) (map-id (range_with_len n k))

@@ -1,4 +1,4 @@
--- Two entries in blocks that change places.
+-- Two entries in blocks that change positions.
 use Rattle.std.proofs.Common.{◌≡◌, ℕ, zero, suc, ◌+◌, ◌-◌, ◌<◌, ◌≤◌, Bool, List, [], ◌∷◌, ◌++◌, length, take, drop, get_or, set, refl, ap, sym, ◌∙◌, inl, inr, arith, append_assoc, length-append}
 use Rattle.std.specs.Prelude.{swap}
 use Rattle.std.specs.List.{slice_range, insert, remove}
@@ -9,7 +9,7 @@ use Rattle.queue_slots.specs.declared.entry.Slot.{Slot}
 use Rattle.queue_slots.specs.Slots.{written, write_at}
 use Rattle.queue_slots.specs.Blocks.{joined, IsSpot, with_exchanged, with_slot_changed, with_slot_pulled, with_slot_put}
 use Rattle.queue_slots.proofs.Joined.{joined-append, slice_of_take}
-use Rattle.queue_slots.proofs.Places.{get_or-joined}
+use Rattle.queue_slots.proofs.Positions.{get_or-joined}
 
 -- one put in where one was taken out
 insert-removed : {X : Type 0} (xs : List X) (h : ℕ) (x : X) → h < length xs → insert (remove xs h) h x ≡ set xs h x
@@ -93,20 +93,20 @@ take-changed (b ∷ bs) zero j c le = refl
 take-changed (b ∷ bs) (suc i) zero c le = absurd (omega arith)
 take-changed (b ∷ bs) (suc i) (suc j) c le = λ t. b ∷ take-changed bs i j c (omega arith) t
 
--- a place that has a slot is in a block
-pub spot-inside : (bs : List (List Slot)) (from place at o : ℕ) → from ≤ length bs → IsSpot bs from place at o → place < length (joined (drop from bs)) → (at < length bs) × (o < length (get_or bs at []))
-spot-inside bs from place at o le h less = elim h.inside [
+-- a position that has a slot is in a block
+pub spot-inside : (bs : List (List Slot)) (from position at o : ℕ) → from ≤ length bs → IsSpot bs from position at o → position < length (joined (drop from bs)) → (at < length bs) × (o < length (get_or bs at []))
+spot-inside bs from position at o le h less = elim h.inside [
   | inl p ↦
       let all : length (joined (slice_range bs from at)) ≡ length (joined (drop from bs)) = ap (λ (n : ℕ). length (joined (slice_range bs from n))) p.0 ∙ ap (λ x. length (joined x)) (take_rest bs from) in
       absurd (omega (arith, h.sum, p.1))
   | inr p ↦ p
 ]
 
-pub spot-sum : (bs : List (List Slot)) (place at o : ℕ) → IsSpot bs 0 place at o → length (joined (take at bs)) + o ≡ place
-spot-sum bs place at o h = let off : at - 0 ≡ at = omega arith in ap (λ (n : ℕ). length (joined (take n bs)) + o) (sym off) ∙ h.sum
+pub spot-sum : (bs : List (List Slot)) (position at o : ℕ) → IsSpot bs 0 position at o → length (joined (take at bs)) + o ≡ position
+spot-sum bs position at o h = let off : at - 0 ≡ at = omega arith in ap (λ (n : ℕ). length (joined (take n bs)) + o) (sym off) ∙ h.sum
 
-pub spot-total : (bs : List (List Slot)) (from place at o : ℕ) → IsSpot bs from place at o → length (joined (take at bs)) + o ≡ length (joined (take from bs)) + place
-spot-total bs from place at o h =
+pub spot-total : (bs : List (List Slot)) (from position at o : ℕ) → IsSpot bs from position at o → length (joined (take at bs)) + o ≡ length (joined (take from bs)) + position
+spot-total bs from position at o h =
     let parts : take at bs ≡ take from bs ++ slice_range bs from at = sym (take-append-drop from (take at bs)) ∙ (λ t. take-take from at bs h.low t ++ sym (slice_of_take bs from at h.low) t) in
     let sizes : length (joined (take at bs)) ≡ length (joined (take from bs)) + length (joined (slice_range bs from at)) =
     ap (λ x. length (joined x)) parts ∙ ap (λ x. length x) (joined-append (take from bs) (slice_range bs from at)) ∙ length-append (joined (take from bs)) (joined (slice_range bs from at)) in
@@ -133,7 +133,7 @@ module _ (bs : List (List Slot)) (low high i a : ℕ) (order : low < high) (with
   pub first_inside : (i < length bs) × (a < length (get_or bs i []))
   first_inside = spot-inside bs 0 low i a (omega arith) one (omega arith)
 
-  -- the second place, counted from the block of the first
+  -- the second position, counted from the block of the first
   pub rest_fits : a + (high - low) < length (joined (drop i bs))
   rest_fits = let e = split in let f = spot-sum bs low i a one in omega arith
 

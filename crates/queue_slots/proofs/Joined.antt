@@ -36,11 +36,11 @@ slice_back xs i j k le1 le2 =
 pub slice_split : {X : Type 0} (xs : List X) (i j k : ℕ) → i ≤ j → j ≤ k → slice_range xs i k ≡ slice_range xs i j ++ slice_range xs j k
 slice_split xs i j k le1 le2 = sym (take-append-drop (j - i) (slice_range xs i k)) ∙ (λ t. slice_front xs i j k le1 le2 t ++ slice_back xs i j k le1 le2 t)
 
--- two neighbouring parts that change places
+-- two neighbouring parts that change positions
 pub rotated : {X : Type 0} (xs : List X) (i j k : ℕ) → i ≤ j → j ≤ k → drop (j - i) (slice_range xs i k) ++ take (j - i) (slice_range xs i k) ≡ slice_range xs j k ++ slice_range xs i j
 rotated xs i j k le1 le2 = λ t. slice_back xs i j k le1 le2 t ++ slice_front xs i j k le1 le2 t
 
--- the last part of a list moved to a place
+-- the last part of a list moved to a position
 pub moved_last : {X : Type 0} (xs ys : List X) (at count : ℕ) → at ≤ length xs → count ≡ length ys
     → take at (xs ++ ys) ++ (drop (length (xs ++ ys) - count) (xs ++ ys) ++ take (length (xs ++ ys) - count - at) (drop at (xs ++ ys))) ≡ take at xs ++ (ys ++ drop at xs)
 moved_last xs ys at count le same =
@@ -72,24 +72,24 @@ joined-written v w [] = refl
 joined-written v w (b ∷ bs) =
     ap (λ x. map (written v w) (entries_of b) ++ x) (joined-written v w bs) ∙ sym (map-append (written v w) (entries_of b) (entries_of (joined bs))) ∙ ap (map (written v w)) (sym (entries_of-append b (joined bs)))
 
--- where a place begins a block already
-pub cut-none : (bs : List (List Slot)) (from place at offset : ℕ) → offset ≡ 0 → IsSpot bs from place at offset → IsCut bs bs from place at
-cut-none bs from place at offset none h =
+-- where a position begins a block already
+pub cut-none : (bs : List (List Slot)) (from position at offset : ℕ) → offset ≡ 0 → IsSpot bs from position at offset → IsCut bs bs from position at
+cut-none bs from position at offset none h =
     let sum = h.sum in
-    let n : length (joined (slice_range bs from at)) ≡ place = omega arith in
+    let n : length (joined (slice_range bs from at)) ≡ position = omega arith in
     let split = joined_split bs from at h.low in
     record {
       front = refl;
       low = h.low;
       within = h.high;
-      middle = sym (ap (take place) split ∙ take_at (joined (slice_range bs from at)) (joined (drop at bs)) place n);
-      back = sym (ap (drop place) split ∙ drop_at (joined (slice_range bs from at)) (joined (drop at bs)) place n);
+      middle = sym (ap (take position) split ∙ take_at (joined (slice_range bs from at)) (joined (drop at bs)) position n);
+      back = sym (ap (drop position) split ∙ drop_at (joined (slice_range bs from at)) (joined (drop at bs)) position n);
     }
 
 -- where it is in a block
-pub cut-inside : (bs : List (List Slot)) (from place at offset : ℕ) → from ≤ at → at < length bs → offset ≤ length (get_or bs at []) → length (joined (slice_range bs from at)) + offset ≡ place
-    → IsCut bs (insert (set bs at (take offset (get_or bs at []))) (at + 1) (drop offset (get_or bs at []))) from place (at + 1)
-cut-inside bs from place at o low l inside sum =
+pub cut-inside : (bs : List (List Slot)) (from position at offset : ℕ) → from ≤ at → at < length bs → offset ≤ length (get_or bs at []) → length (joined (slice_range bs from at)) + offset ≡ position
+    → IsCut bs (insert (set bs at (take offset (get_or bs at []))) (at + 1) (drop offset (get_or bs at []))) from position (at + 1)
+cut-inside bs from position at o low l inside sum =
     let b : List Slot = get_or bs at [] in
     let f : List Slot = take o b in
     let g : List Slot = drop o b in
@@ -108,7 +108,7 @@ cut-inside bs from place at o low l inside sum =
     drop-append-le from (P ++ f ∷ []) (g ∷ Q) (omega arith) ∙ ap (λ x. x ++ g ∷ Q) (drop-append-le from P (f ∷ []) (omega arith) ∙ ap (λ x. x ++ f ∷ []) J_is) in
     let lf : length f ≡ o = length-take-le o b inside in
     let lJf : length (joined J ++ f) ≡ length (joined J) + length f = length-append (joined J) f in
-    let n : length (joined J ++ f) ≡ place = omega arith in
+    let n : length (joined J ++ f) ≡ position = omega arith in
     let all : joined (drop from bs) ≡ (joined J ++ f) ++ (g ++ joined Q) =
     joined_split bs from at low ∙ ap (λ x. joined J ++ joined x) (drop_more bs at [] l) ∙ ap (λ x. joined J ++ (x ++ joined Q)) (sym (take-append-drop o b)) ∙ ap (λ x. joined J ++ x) (append_assoc f g (joined Q)) ∙ sym (append_assoc (joined J) f (g ++ joined Q)) in
     record {
@@ -116,8 +116,8 @@ cut-inside bs from place at o low l inside sum =
       low = omega arith;
       within = omega (arith, ap (λ x. length x) is);
       middle = ap (λ x. joined (take (at + 1 - from) x)) (ap (drop from) is ∙ drop_new) ∙ ap (λ x. joined x) (take_at (J ++ f ∷ []) (g ∷ Q) (at + 1 - from) (omega arith))
-          ∙ joined-append J (f ∷ []) ∙ ap (λ x. joined J ++ x) (joined-one f) ∙ sym (ap (take place) all ∙ take_at (joined J ++ f) (g ++ joined Q) place n);
-      back = ap (λ x. joined (drop (at + 1) x)) is ∙ ap (λ x. joined x) (drop_at (P ++ f ∷ []) (g ∷ Q) (at + 1) (omega arith)) ∙ sym (ap (drop place) all ∙ drop_at (joined J ++ f) (g ++ joined Q) place n);
+          ∙ joined-append J (f ∷ []) ∙ ap (λ x. joined J ++ x) (joined-one f) ∙ sym (ap (take position) all ∙ take_at (joined J ++ f) (g ++ joined Q) position n);
+      back = ap (λ x. joined (drop (at + 1) x)) is ∙ ap (λ x. joined x) (drop_at (P ++ f ∷ []) (g ∷ Q) (at + 1) (omega arith)) ∙ sym (ap (drop position) all ∙ drop_at (joined J ++ f) (g ++ joined Q) position n);
     }
 
 -- a part of a list, by its front

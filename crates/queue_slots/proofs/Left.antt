@@ -7,7 +7,7 @@ use Rattle.queue_slots.specs.declared.entry.Slot.{Slot}
 use Rattle.queue_slots.specs.Slots.{kept, written, entries_of}
 use Rattle.queue_slots.specs.Blocks.{joined, IsParted}
 use Rattle.queue_slots.proofs.Joined.{joined-append, entries_of-append, joined_split, drop_split}
-use Rattle.queue_slots.proofs.Places.{parted-rest}
+use Rattle.queue_slots.proofs.Positions.{parted-rest}
 
 pub put_in-is : (v : ℕ) (w : Bool) (S : List Slot) (B added X R : List (List Slot)) (at i j k : ℕ) (es : List Entry) → IsParted S B at at at i j k → entries_of (joined added) ≡ es → X ≡ take i B ++ (added ++ drop i B)
     → joined R ≡ map (kept w) (joined (take i X)) ++ map (written v w) (entries_of (joined (drop i X)))

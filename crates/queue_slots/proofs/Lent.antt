@@ -9,12 +9,12 @@ use Rattle.queue_slots.specs.declared.entry.Slot.{Slot}
 use Rattle.queue_slots.specs.Slots.{entries_of}
 use Rattle.queue_slots.specs.Blocks.{joined}
 use Rattle.queue_slots.proofs.Joined.{entries_of-append, slice_front, slice_back, slice_split}
-use Rattle.queue_slots.proofs.Places.{joined_at}
+use Rattle.queue_slots.proofs.Positions.{joined_at}
 
--- the entries of a block from a place on are those of all blocks from there up to its end
-pub lent : (bs : List (List Slot)) (place at o : ℕ) → at < length bs → o < length (get_or bs at []) → length (joined (take at bs)) + o ≡ place
-    → drop o (entries_of (get_or bs at [])) ≡ slice_range (entries_of (joined bs)) place (place + length (drop o (entries_of (get_or bs at []))))
-lent bs place at o l inside sum =
+-- the entries of a block from a position on are those of all blocks from there up to its end
+pub lent : (bs : List (List Slot)) (position at o : ℕ) → at < length bs → o < length (get_or bs at []) → length (joined (take at bs)) + o ≡ position
+    → drop o (entries_of (get_or bs at [])) ≡ slice_range (entries_of (joined bs)) position (position + length (drop o (entries_of (get_or bs at []))))
+lent bs position at o l inside sum =
     let entry : Slot → Entry = λ s. s.entry in
     let a : List Entry = entries_of (joined (take at bs)) in
     let b : List Entry = entries_of (get_or bs at []) in
@@ -24,12 +24,12 @@ lent bs place at o l inside sum =
     ap (λ x. entries_of x) (joined_at bs at l) ∙ entries_of-append (joined (take at bs)) _ ∙ ap (λ x. a ++ x) (entries_of-append (get_or bs at []) (joined (drop (at + 1) bs))) in
     let long : length a ≡ length (joined (take at bs)) = length-map (joined (take at bs)) entry in
     let size : length b ≡ length (get_or bs at []) = length-map (get_or bs at []) entry in
-    let to : length a + o ≡ place = omega arith in
-    let from : drop place (entries_of (joined bs)) ≡ part ++ d =
-    ap (drop place) all ∙ ap (λ (n : ℕ). drop n (a ++ (b ++ d))) (sym to) ∙ sym (drop-drop o (length a) (a ++ (b ++ d)))
+    let to : length a + o ≡ position = omega arith in
+    let from : drop position (entries_of (joined bs)) ≡ part ++ d =
+    ap (drop position) all ∙ ap (λ (n : ℕ). drop n (a ++ (b ++ d))) (sym to) ∙ sym (drop-drop o (length a) (a ++ (b ++ d)))
     ∙ ap (drop o) (drop_at a (b ++ d) (length a) (omega arith)) ∙ drop-append-le o b d (omega arith) in
-    let count : place + length part - place ≡ length part = omega arith in
-    sym (ap (λ x. take (place + length part - place) x) from ∙ take_at part d _ (omega arith))
+    let count : position + length part - position ≡ length part = omega arith in
+    sym (ap (λ x. take (position + length part - position) x) from ∙ take_at part d _ (omega arith))
 
 -- what holds of the entries of slots holds of the same entries in other slots
 pub All-entries : (Q : Entry → Type 0) (xs ys : List Slot) → entries_of xs ≡ entries_of ys → All (λ (s : Slot). Q s.entry) xs → All (λ (s : Slot). Q s.entry) ys

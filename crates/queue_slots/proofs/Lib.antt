@@ -1,7 +1,7 @@
 pub mod Shown
 pub mod Changes
 pub mod Joined
-pub mod Places
+pub mod Positions
 pub mod Left
 pub mod Exchanges
 pub mod Parts

@@ -54,7 +54,7 @@ put_back-more S xs start x within =
 -- the blocks when some slots are back, and the block where the last of them went
 module _ (S : List Slot) (bs : List (List Slot)) (start at offset : ℕ) (xs : List Slot) (is : joined bs ≡ with_put_back S start xs) (within : at ≤ length bs)
     (spot : length (joined (take at bs)) + offset ≡ start + length xs) (less : start + length xs < length S) where
-  -- the next of them has a place behind it
+  -- the next of them has a position behind it
   pub next_within : offset < length (joined (drop at bs))
   next_within =
       let all = ap (λ x. length (joined x)) (take-append-drop at bs) in

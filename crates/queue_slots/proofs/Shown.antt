@@ -109,7 +109,7 @@ pub none_right : (a b : Bool) → a || b ≡ false → b ≡ false
 none_right false b e = e
 none_right true b e = cc
 
--- a test of the entry gives the same place
+-- a test of the entry gives the same position
 pub position_or_len-written : (p : Entry → Bool) (t : ℕ) (m : Bool) (ss : List Slot) → position_or_len (λ (s : Slot). p s.entry) (map (written t m) (entries_of ss)) ≡ position_or_len (λ (s : Slot). p s.entry) ss
 position_or_len-written p t m [] = refl
 position_or_len-written p t m (s ∷ ss) = elim (p s.entry) as (λ b. cond (not b) (1 + position_or_len (λ (s : Slot). p s.entry) (map (written t m) (entries_of ss))) 0 ≡ cond (not b) (1 + position_or_len (λ (s : Slot). p s.entry) ss) 0) [

@@ -25,22 +25,22 @@ block_len blocks at = length (slice_index_or blocks at [])
 abbrev pub IsPaired : List (List Slot) → Type 0
 IsPaired blocks = (k : ℕ) → k + 1 < length blocks → 256 < block_len blocks k + block_len blocks (k + 1)
 
--- where a place is, counted from block `from` on: behind the blocks up to `at`, so many slots into that one
-pub record IsSpot (blocks : List (List Slot)) (from place at offset : ℕ) : Type 0 where
+-- where a position is, counted from block `from` on: behind the blocks up to `at`, so many slots into that one
+pub record IsSpot (blocks : List (List Slot)) (from position at offset : ℕ) : Type 0 where
   pub low : from ≤ at
   pub high : at ≤ length blocks
-  pub sum : length (joined (slice_range blocks from at)) + offset ≡ place
+  pub sum : length (joined (slice_range blocks from at)) + offset ≡ position
   pub inside : ((at ≡ length blocks) × (offset ≡ 0)) ⊎ ((at < length blocks) × (offset < block_len blocks at))
 
--- blocks cut so that a place, counted from block `from` on, is where block `at` begins
-pub record IsCut (old new : List (List Slot)) (from place at : ℕ) : Type 0 where
+-- blocks cut so that a position, counted from block `from` on, is where block `at` begins
+pub record IsCut (old new : List (List Slot)) (from position at : ℕ) : Type 0 where
   pub front : take from new ≡ take from old
   pub low : from ≤ at
   pub within : at ≤ length new
-  pub middle : joined (slice_range new from at) ≡ take place (joined (drop from old))
-  pub back : joined (drop at new) ≡ drop place (joined (drop from old))
+  pub middle : joined (slice_range new from at) ≡ take position (joined (drop from old))
+  pub back : joined (drop at new) ≡ drop position (joined (drop from old))
 
--- blocks cut at three places, where blocks i, j and k begin
+-- blocks cut at three positions, where blocks i, j and k begin
 pub record IsParted (slots : List Slot) (new : List (List Slot)) (low middle high i j k : ℕ) : Type 0 where
   pub first : i ≤ j
   pub second : j ≤ k
@@ -50,22 +50,22 @@ pub record IsParted (slots : List Slot) (new : List (List Slot)) (low middle hig
   pub right : joined (slice_range new j k) ≡ slice_range slots middle high
   pub back : joined (drop k new) ≡ drop high slots
 
--- the places of the slots that are shown to a client that knows a version, where the first slot is at a place
+-- the positions of the slots that are shown to a client that knows a version, where the first slot is at a position
 abbrev pub shown_from : ℕ → ℕ → ℕ → List Slot → List ℕ
 shown_from version present at slots =
     map (λ p. p.0) (filter (λ p. is_shown version present p.1) (enumerate_from at slots))
 
--- the place of a slot, if it is shown
-abbrev pub place_if_shown : ℕ → ℕ → ℕ → Slot → List ℕ
-place_if_shown version present place slot = if is_shown version present slot then place ∷ [] else []
+-- the position of a slot, if it is shown
+abbrev pub position_if_shown : ℕ → ℕ → ℕ → Slot → List ℕ
+position_if_shown version present position slot = if is_shown version present slot then position ∷ [] else []
 
 -- blocks of which one was cut: what stays of it
 abbrev pub with_block_cut : List (List Slot) → ℕ → ℕ → List (List Slot)
 with_block_cut blocks at offset = slice_set blocks at (take offset (slice_index_or blocks at []))
 
--- the slot at a place has this id
+-- the slot at a position has this id
 abbrev pub HasIdAt : ℕ → List Slot → ℕ → Type 0
-HasIdAt id slots place = (place < length slots) × ((d : Slot) → (slice_index_or slots place d).entry.id ≡ id)
+HasIdAt id slots position = (position < length slots) × ((d : Slot) → (slice_index_or slots position d).entry.id ≡ id)
 
 -- no slot has this id
 abbrev pub NoneHas : ℕ → List Slot → Type 0
@@ -81,10 +81,10 @@ abbrev pub written_behind : ℕ → Bool → List (List Slot) → ℕ → List S
 written_behind version wraps blocks from =
     map (kept wraps) (joined (take from blocks)) ++ map (written version wraps) (entries_of (joined (drop from blocks)))
 
--- the slots of blocks, where those from block i up to j and from there up to k change places: they are
+-- the slots of blocks, where those from block i up to j and from there up to k change positions: they are
 -- written, others kept
-abbrev pub with_blocks_turned : ℕ → Bool → List (List Slot) → ℕ → ℕ → ℕ → List Slot
-with_blocks_turned version wraps blocks i j k =
+abbrev pub with_blocks_rotated : ℕ → Bool → List (List Slot) → ℕ → ℕ → ℕ → List Slot
+with_blocks_rotated version wraps blocks i j k =
     map (kept wraps) (joined (take i blocks))
     ++ map (written version wraps) (entries_of (joined (slice_range blocks j k) ++ joined (slice_range blocks i j)))
     ++ map (kept wraps) (joined (drop k blocks))
@@ -100,7 +100,7 @@ abbrev pub with_part_prioritized : ℕ → Bool → ℕ → List Slot → ℕ �
 with_part_prioritized version wraps priority slots start end =
     take start slots ++ (map (prioritized_slot version wraps priority) (slice_range slots start end) ++ drop end slots)
 
--- the entries of two slots change places: both slots are written
+-- the entries of two slots change positions: both slots are written
 abbrev pub with_exchanged : ℕ → Bool → List Slot → ℕ → ℕ → List Slot
 with_exchanged version wraps slots a b = write_at version wraps (write_at version wraps (swap slots a b) a) b
 

@@ -10,8 +10,8 @@ use crate::entry::{Entry, Slot};
 use crate::index::Index;
 use crate::shows::{push_all, push_shown, shows};
 use crate::slots::{
-    change_slot, copies, entry_at, mark, move_all, move_tail, part_of, place_in, prioritize,
-    pull_slot, push_slot, put_slot, settle, slots_from,
+    change_slot, copies, entry_at, mark, move_all, move_tail, part_of, position_in, prioritize,
+    pull_slot, push_down, push_slot, put_slot, slots_from,
 };
 use std::alloc::{AllocError, Global};
 use std::marker::Model;
@@ -87,7 +87,7 @@ impl Block {
         self.key
     }
 
-    /// The slots from a place on go into a block of their own.
+    /// The slots from a position on go into a block of their own.
     pub fn cut(&mut self, at: usize, spare: Spare, index: &mut Index) -> Block
         requires { at ≤ length self.old }
         ensures front { self.new ≡ take at self.old }
@@ -118,8 +118,8 @@ impl Block {
             alike,
             key,
         } = other;
-        settle(&mut self.slots, self.alike, self.top, self.marked);
-        settle(&mut others, alike, top, marked);
+        push_down(&mut self.slots, self.alike, self.top, self.marked);
+        push_down(&mut others, alike, top, marked);
         self.key = index.unite(self.key, &self.slots, key, &others);
         self.alike = false;
         self.top = self.top.max(top);
@@ -161,11 +161,11 @@ impl Block {
         }
     }
 
-    /// The entry at a place.
-    pub fn entry(&self, place: usize) -> Option<&Entry>
-        ensures { option_copied result ≡ slice_get (entries_of self.now) place }
+    /// The entry at a position.
+    pub fn entry(&self, position: usize) -> Option<&Entry>
+        ensures { option_copied result ≡ slice_get (entries_of self.now) position }
     {
-        entry_at(&self.slots, place)
+        entry_at(&self.slots, position)
     }
 
     /// Puts a slot behind the others.
@@ -173,103 +173,103 @@ impl Block {
         requires { length self.old < 256 }
         ensures { self.new ≡ self.old ++ slot ∷ [] }
     {
-        settle(&mut self.slots, self.alike, self.top, self.marked);
+        push_down(&mut self.slots, self.alike, self.top, self.marked);
         self.alike = false;
         self.top = self.top.max(slot.stamp);
         self.marked = self.marked | slot.marked;
         push_slot(&mut self.slots, slot);
     }
 
-    /// Takes the slot at a place out.
+    /// Takes the slot at a position out.
     pub fn pull(&mut self, at: usize) -> Slot
         requires { at < length self.old }
         ensures slots { self.new ≡ remove self.old at }
         ensures room { length self.new < 256 }
         ensures slot { (d : Slot) → result ≡ slice_index_or self.old at d }
     {
-        settle(&mut self.slots, self.alike, self.top, self.marked);
+        push_down(&mut self.slots, self.alike, self.top, self.marked);
         self.alike = false;
         pull_slot(&mut self.slots, at)
     }
 
-    /// Puts a slot in at a place.
+    /// Puts a slot in at a position.
     pub fn put(&mut self, at: usize, slot: Slot)
         requires within { at ≤ length self.old }
         requires room { length self.old < 256 }
         ensures { self.new ≡ insert self.old at slot }
     {
-        settle(&mut self.slots, self.alike, self.top, self.marked);
+        push_down(&mut self.slots, self.alike, self.top, self.marked);
         self.alike = false;
         self.top = self.top.max(slot.stamp);
         self.marked = self.marked | slot.marked;
         put_slot(&mut self.slots, at, slot);
     }
 
-    /// Puts a slot in the place of another.
+    /// Puts a slot in the position of another.
     pub fn change(&mut self, at: usize, slot: Slot) -> Slot
         requires { at < length self.old }
         ensures slots { self.new ≡ slice_set self.old at slot }
         ensures slot { (d : Slot) → result ≡ slice_index_or self.old at d }
     {
-        settle(&mut self.slots, self.alike, self.top, self.marked);
+        push_down(&mut self.slots, self.alike, self.top, self.marked);
         self.alike = false;
         self.top = self.top.max(slot.stamp);
         self.marked = self.marked | slot.marked;
         change_slot(&mut self.slots, at, slot)
     }
 
-    /// The slots from a place on. Of their stamps and marks nothing is said.
-    pub fn rest(&self, place: usize) -> &[Slot]
-        requires { place ≤ length self.now }
-        ensures { entries_of result.now ≡ drop place (entries_of self.now) }
+    /// The slots from a position on. Of their stamps and marks nothing is said.
+    pub fn rest(&self, position: usize) -> &[Slot]
+        requires { position ≤ length self.now }
+        ensures { entries_of result.now ≡ drop position (entries_of self.now) }
     {
-        slots_from(&self.slots, place)
+        slots_from(&self.slots, position)
     }
 
-    /// The slots from a place on, at most so many, in a list, over the same songs.
+    /// The slots from a position on, at most so many, in a list, over the same songs.
     pub fn copies(&self, alloc: Global, from: usize, most: usize) -> Result<Vec<Slot>, AllocError>
         ensures { IfOk result (λ copies. copies.items ≡ take most (drop from self.now)) }
     {
         let mut copies = copies(alloc, part_of(&self.slots, from, most))?;
-        settle(&mut copies, self.alike, self.top, self.marked);
+        push_down(&mut copies, self.alike, self.top, self.marked);
         Ok(copies)
     }
 
-    /// The place of the first slot with an id.
+    /// The position of the first slot with an id.
     pub fn position_of(&self, id: u32) -> Option<usize>
         ensures { result ≡ position (λ s. s.entry.id == id) self.now }
     {
-        place_in(&self.slots, id)
+        position_in(&self.slots, id)
     }
 
     /// Gives each entry a priority.
     pub fn prioritize(&mut self, priority: u8, version: u32, wraps: bool)
         ensures { self.new ≡ map (prioritized_slot version wraps priority) self.old }
     {
-        settle(&mut self.slots, self.alike, self.top, self.marked);
+        push_down(&mut self.slots, self.alike, self.top, self.marked);
         self.alike = false;
         prioritize(&mut self.slots, priority, version, wraps);
         self.top = self.top.max(version);
         self.marked = self.marked | wraps;
     }
 
-    /// Adds the places of the slots that are shown to a client that knows a version.
+    /// Adds the positions of the slots that are shown to a client that knows a version.
     pub fn push_changed(
         &self,
-        places: &mut Vec<usize>,
+        positions: &mut Vec<usize>,
         at: usize,
         version: u32,
         present: u32,
     ) -> Result<(), AllocError>
         requires { at + length self.now < 2 ^ 64 }
-        ensures { OnOk result (places.new.items ≡ places.old.items ++ shown_from version present at self.now) }
+        ensures { OnOk result (positions.new.items ≡ positions.old.items ++ shown_from version present at self.now) }
     {
         if !shows(self.top, self.marked, version, present) {
             return Ok(());
         }
         if self.alike {
-            return push_all(places, at, self.slots.len());
+            return push_all(positions, at, self.slots.len());
         }
-        push_shown(places, at, &self.slots, version, present)
+        push_shown(positions, at, &self.slots, version, present)
     }
 }

@@ -1,10 +1,10 @@
 //! A sequence of slots in blocks.
 //!
 //! An edit in front of a long queue moves every entry behind it, and each gets the version of the edit as
-//! its stamp, since its place is another. In one list that is a write of each. Here a block says in one
+//! its stamp, since its position is another. In one list that is a write of each. Here a block says in one
 //! flag that all its slots are alike: they show the block's stamp and mark, whatever is written in them. So
 //! an edit cuts two blocks, changes the list of blocks, and flags those behind: a cost by blocks and not by
-//! entries. A flag is written down (settled) only where a block is joined to another or an entry of it gets
+//! entries. A flag is written down (pushed down) only where a block is joined to another or an entry of it gets
 //! a stamp of its own.
 //!
 //! The stamp of a block that is not alike is a bound: none of its slots has a greater one. To ask what
@@ -19,7 +19,7 @@ ghost use Rattle.std.specs.Prelude.{◌≡◌, ◌≢◌, ◌≤◌, ◌+◌, �
 ghost use Rattle.std.specs.List.{slice_range};
 ghost use Rattle.std.specs.Option.{option_copied};
 ghost use Rattle.queue_slots.specs.Blocks.{shown_from, with_exchanged, with_part_prioritized};
-ghost use Rattle.queue_slots.specs.Slots.{places_shown, with_parts_turned, with_put_back, with_put_in, with_taken_out};
+ghost use Rattle.queue_slots.specs.Slots.{positions_shown, with_parts_rotated, with_put_back, with_put_in, with_taken_out};
 ghost use Rattle.queue_slots.specs.Slots.{kept, entries_of};
 
 use crate::block::{Block, Spare};
@@ -28,7 +28,7 @@ use crate::index::Index;
 use crate::made::{build, make_room, splice, trim};
 use crate::many::{
     copies_of, drop_blocks, exchange, keep_blocks, mend, part, prioritize_blocks, push_all_changed,
-    put_back, restamp, seek, seek_id, turn_blocks,
+    put_back, restamp, rotate_blocks, seek, seek_id,
 };
 use crate::slots::all_have_priority;
 use std::alloc::{AllocError, Global};
@@ -36,7 +36,7 @@ use std::marker::Model;
 
 /// Slots in blocks. Contracts see all of them in a list.
 ///
-/// An edit cuts the blocks so that each of its places is where a block begins, changes the list of blocks,
+/// An edit cuts the blocks so that each of its positions is where a block begins, changes the list of blocks,
 /// and joins neighbours that are small. So many buffers are in reserve that a cut never wants memory.
 #[derive(Drop)]
 pub struct Blocks {
@@ -111,55 +111,55 @@ impl Blocks {
         self.len
     }
 
-    /// The entry at a place.
-    pub fn get(&self, place: usize) -> Option<&Entry>
-        ensures { option_copied result ≡ slice_get (entries_of self.now) place }
+    /// The entry at a position.
+    pub fn get(&self, position: usize) -> Option<&Entry>
+        ensures { option_copied result ≡ slice_get (entries_of self.now) position }
     {
-        if place >= self.len {
+        if position >= self.len {
             return None;
         }
-        let (at, offset) = seek(&self.blocks, 0, place);
+        let (at, offset) = seek(&self.blocks, 0, position);
         self.blocks[at].entry(offset)
     }
 
-    /// The slots from a place to the end of its block. Of their stamps and marks nothing is said.
-    pub fn run(&self, place: usize) -> &[Slot]
-        requires { place < length self.now }
+    /// The slots from a position to the end of its block. Of their stamps and marks nothing is said.
+    pub fn run(&self, position: usize) -> &[Slot]
+        requires { position < length self.now }
         ensures some { 0 < length result.now }
-        ensures part { entries_of result.now ≡ slice_range (entries_of self.now) place (place + length result.now) }
+        ensures part { entries_of result.now ≡ slice_range (entries_of self.now) position (position + length result.now) }
     {
-        let (at, offset) = seek(&self.blocks, 0, place);
+        let (at, offset) = seek(&self.blocks, 0, position);
         self.blocks[at].rest(offset)
     }
 
-    /// The place of the entry with an id.
+    /// The first position of the entry with an id.
     pub fn position_of(&self, id: u32) -> Option<usize>
         requires { AllPairs (λ e f. e.id ≢ f.id) (entries_of self.now) }
-        ensures place { result ≡ position (λ s. s.entry.id == id) self.now }
-        ensures within { IfSome result (λ place. (place < length self.now) × (place + 1 < 2 ^ 64)) }
+        ensures first_position { result ≡ position (λ s. s.entry.id == id) self.now }
+        ensures within { IfSome result (λ first_position. (first_position < length self.now) × (first_position + 1 < 2 ^ 64)) }
     {
         let hint = self.index.key_of(id);
         if hint.is_some() {
-            if let Some(place) = seek_id(&self.blocks, self.len, id, hint) {
-                return Some(place);
+            if let Some(first_position) = seek_id(&self.blocks, self.len, id, hint) {
+                return Some(first_position);
             }
         }
         match seek_id(&self.blocks, self.len, id, None) {
-            Some(place) => Some(place),
+            Some(first_position) => Some(first_position),
             None => None,
         }
     }
 
-    /// The places of the slots that are shown to a client that knows a version.
-    pub fn changed_places(&self, version: u32, present: u32) -> Result<Vec<usize>, AllocError>
-        ensures { IfOk result (λ places. places.items ≡ places_shown version present self.now) }
+    /// The positions of the slots that are shown to a client that knows a version.
+    pub fn changed_positions(&self, version: u32, present: u32) -> Result<Vec<usize>, AllocError>
+        ensures { IfOk result (λ positions. positions.items ≡ positions_shown version present self.now) }
     {
-        let mut places = Vec::new(self.allocator());
-        push_all_changed(&mut places, &self.blocks, self.len, version, present)?;
-        Ok(places)
+        let mut positions = Vec::new(self.allocator());
+        push_all_changed(&mut positions, &self.blocks, self.len, version, present)?;
+        Ok(positions)
     }
 
-    /// Puts slots in at a place. They and all after them are written, and those before them kept.
+    /// Puts slots in at a position. They and all after them are written, and those before them kept.
     pub fn put_in(
         &mut self,
         at: usize,
@@ -216,14 +216,14 @@ impl Blocks {
         self.len -= end - start;
     }
 
-    /// Lets the entries from `low` up to `middle` and those from there up to `high` change places. All of
+    /// Lets the entries from `low` up to `middle` and those from there up to `high` change positions. All of
     /// these slots are written, and the others kept.
-    pub fn turn(&mut self, low: usize, middle: usize, high: usize, version: u32, wraps: bool)
+    pub fn rotate(&mut self, low: usize, middle: usize, high: usize, version: u32, wraps: bool)
         requires front { low ≤ middle }
         requires back { middle ≤ high }
         requires some { low < high }
         requires within { high ≤ length self.old }
-        ensures { self.new ≡ with_parts_turned version wraps self.old low middle high }
+        ensures { self.new ≡ with_parts_rotated version wraps self.old low middle high }
     {
         let (i, j, k) = part(
             &mut self.blocks,
@@ -233,7 +233,7 @@ impl Blocks {
             middle,
             high,
         );
-        turn_blocks(&mut self.blocks, i, j, k, version, wraps);
+        rotate_blocks(&mut self.blocks, i, j, k, version, wraps);
         mend(&mut self.blocks, &mut self.spare, &mut self.index);
     }
 
@@ -291,7 +291,7 @@ impl Blocks {
         mend(&mut self.blocks, &mut self.spare, &mut self.index);
     }
 
-    /// Lets the entries of two slots change places. Both slots are written, and the others kept.
+    /// Lets the entries of two slots change positions. Both slots are written, and the others kept.
     pub fn exchange(&mut self, low: usize, high: usize, version: u32, wraps: bool)
         requires order { low < high }
         requires within { high < length self.old }
@@ -302,7 +302,7 @@ impl Blocks {
         mend(&mut self.blocks, &mut self.spare, &mut self.index);
     }
 
-    /// Puts slots back from a place on, each in the place of another. The others are kept.
+    /// Puts slots back from a position on, each in the position of another. The others are kept.
     pub fn put_back(&mut self, start: usize, part: Vec<Slot>, wraps: bool)
         requires { start + vec_len part ≤ length self.old }
         ensures { self.new ≡ with_put_back (map (kept wraps) self.old) start part.items }

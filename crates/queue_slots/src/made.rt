@@ -46,23 +46,23 @@ pub fn make_room(
     blocks: &mut Vec<Block>,
     spare: &mut Vec<Spare>,
     alloc: Global,
-    wanted: usize,
+    needed: usize,
 ) -> Result<(), AllocError>
     requires room { vec_len blocks.old + vec_len spare.old ≤ vec_capacity blocks.old }
     requires spare_room { vec_len blocks.old + vec_len spare.old ≤ vec_capacity spare.old }
     ensures blocks { blocks.new.items ≡ blocks.old.items }
     ensures len { vec_len blocks.new ≡ vec_len blocks.old }
     ensures more { vec_len spare.old ≤ vec_len spare.new }
-    ensures enough { OnOk result (wanted ≤ vec_len blocks.new + vec_len spare.new) }
+    ensures enough { OnOk result (needed ≤ vec_len blocks.new + vec_len spare.new) }
     ensures room { vec_len blocks.new + vec_len spare.new ≤ vec_capacity blocks.new }
     ensures spare_room { vec_len blocks.new + vec_len spare.new ≤ vec_capacity spare.new }
 {
-    if wanted <= blocks.len() || wanted - blocks.len() <= spare.len() {
+    if needed <= blocks.len() || needed - blocks.len() <= spare.len() {
         return Ok(());
     }
-    let most = wanted - blocks.len();
+    let most = needed - blocks.len();
     blocks.reserve(most)?;
-    spare.reserve(wanted)?;
+    spare.reserve(needed)?;
     while spare.len() < most {
         let room = Spare::new(alloc)?;
         let _ = spare.push(room);
@@ -71,16 +71,16 @@ pub fn make_room(
 }
 
 /// Frees buffers, but so many of them and of blocks stay.
-pub fn trim(blocks: &Vec<Block>, spare: &mut Vec<Spare>, wanted: usize)
-    ensures least { min (vec_len blocks.now + vec_len spare.old) wanted ≤ vec_len blocks.now + vec_len spare.new }
+pub fn trim(blocks: &Vec<Block>, spare: &mut Vec<Spare>, needed: usize)
+    ensures least { min (vec_len blocks.now + vec_len spare.old) needed ≤ vec_len blocks.now + vec_len spare.new }
     ensures most { vec_len spare.new ≤ vec_len spare.old }
     ensures room { vec_capacity spare.old ≤ vec_capacity spare.new }
 {
-    let least = wanted.saturating_sub(blocks.len());
+    let least = needed.saturating_sub(blocks.len());
     spare.truncate(least);
 }
 
-/// Puts blocks in at a place, where there is room for them.
+/// Puts blocks in at a position, where there is room for them.
 pub fn splice(blocks: &mut Vec<Block>, at: usize, added: &mut Vec<Block>)
     requires within { at ≤ vec_len blocks.old }
     requires room { vec_len blocks.old + vec_len added.old ≤ vec_capacity blocks.old }
@@ -93,7 +93,7 @@ pub fn splice(blocks: &mut Vec<Block>, at: usize, added: &mut Vec<Block>)
     move_last(blocks.as_mut_slice(), at, count);
 }
 
-/// Moves the last blocks to a place.
+/// Moves the last blocks to a position.
 fn move_last(blocks: &mut [Block], at: usize, count: usize)
     requires { at + count ≤ length blocks.old }
     ensures { blocks.new ≡ with_end_moved_to blocks.old at count }

@@ -4,7 +4,7 @@ ghost use Rattle.std.specs.Prelude.{◌≡◌, OnOk, IfOk, IfSome, IfNone, None,
 ghost use Rattle.std.specs.List.{insert};
 ghost use Rattle.queue_slots.specs.Slots.{kept, written, entries_of, prioritized_slot};
 ghost use Rattle.queue_slots.specs.Slots.{with_moved_to_end, with_put_back};
-ghost use Rattle.queue_slots.specs.Blocks.{joined, block_len, with_block_cut, shown_from, with_joined_next, written_behind, with_blocks_turned, with_blocks_prioritized, with_exchanged, with_slot_changed, with_slot_pulled, with_slot_put, HasIdAt, NoneHas, IsCut, IsPaired, IsParted, IsSpot};
+ghost use Rattle.queue_slots.specs.Blocks.{joined, block_len, with_block_cut, shown_from, with_joined_next, written_behind, with_blocks_rotated, with_blocks_prioritized, with_exchanged, with_slot_changed, with_slot_pulled, with_slot_put, HasIdAt, NoneHas, IsCut, IsPaired, IsParted, IsSpot};
 
 use crate::block::{Block, Spare};
 use crate::entry::Slot;
@@ -12,14 +12,14 @@ use crate::index::Index;
 use crate::slots::written_slot;
 use std::alloc::{AllocError, Global};
 
-/// Where a place is, counted from a block on: the block, and how many of its slots are before the place.
-pub fn seek(blocks: &[Block], from: usize, place: usize) -> (usize, usize)
+/// Where a position is, counted from a block on: the block, and how many of its slots are before the position.
+pub fn seek(blocks: &[Block], from: usize, position: usize) -> (usize, usize)
     requires within { from ≤ length blocks.now }
-    requires place { place ≤ length (joined (drop from blocks.now)) }
-    ensures { IsSpot blocks.now from place result.0 result.1 }
+    requires position { position ≤ length (joined (drop from blocks.now)) }
+    ensures { IsSpot blocks.now from position result.0 result.1 }
 {
     let mut at = from;
-    let mut left = place;
+    let mut left = position;
     while at < blocks.len() {
         let len = blocks[at].len();
         if left < len {
@@ -31,25 +31,25 @@ pub fn seek(blocks: &[Block], from: usize, place: usize) -> (usize, usize)
     (at, left)
 }
 
-/// Cuts a block so that a place, counted from a block on, is where a block begins: that block.
+/// Cuts a block so that a position, counted from a block on, is where a block begins: that block.
 pub fn cut_from(
     blocks: &mut Vec<Block>,
     spare: &mut Vec<Spare>,
     index: &mut Index,
     from: usize,
-    place: usize,
+    position: usize,
 ) -> usize
     requires within { from ≤ vec_len blocks.old }
-    requires place { place ≤ length (joined (drop from blocks.old.items)) }
+    requires position { position ≤ length (joined (drop from blocks.old.items)) }
     requires some { 0 < vec_len spare.old }
     requires room { vec_len blocks.old + vec_len spare.old ≤ vec_capacity blocks.old }
-    ensures cut { IsCut blocks.old.items blocks.new.items from place result }
+    ensures cut { IsCut blocks.old.items blocks.new.items from position result }
     ensures total { vec_len blocks.new + vec_len spare.new ≡ vec_len blocks.old + vec_len spare.old }
     ensures least { vec_len spare.old ≤ vec_len spare.new + 1 }
     ensures blocks_room { vec_capacity blocks.old ≤ vec_capacity blocks.new }
     ensures spare_room { vec_capacity spare.old ≤ vec_capacity spare.new }
 {
-    let (at, offset) = seek(blocks, from, place);
+    let (at, offset) = seek(blocks, from, position);
     if offset == 0 {
         return at;
     }
@@ -80,7 +80,7 @@ fn cut_block(
     block.cut(offset, room, index)
 }
 
-/// Puts a block in at a place, where there is room.
+/// Puts a block in at a position, where there is room.
 fn put_block(blocks: &mut Vec<Block>, at: usize, block: Block)
     requires within { at ≤ vec_len blocks.old }
     requires room { vec_len blocks.old < vec_capacity blocks.old }
@@ -91,7 +91,7 @@ fn put_block(blocks: &mut Vec<Block>, at: usize, block: Block)
     let _ = blocks.insert(at, block);
 }
 
-/// Cuts blocks so that each of three places is where a block begins: these blocks.
+/// Cuts blocks so that each of three positions is where a block begins: these blocks.
 pub fn part(
     blocks: &mut Vec<Block>,
     spare: &mut Vec<Spare>,
@@ -237,25 +237,32 @@ fn move_first(blocks: &mut [Block], start: usize, count: usize)
     blocks[start..].rotate_left(count);
 }
 
-/// Lets the blocks from `i` up to `j` and those from there up to `k` change places. All of these are
+/// Lets the blocks from `i` up to `j` and those from there up to `k` change positions. All of these are
 /// written, and the others kept.
-pub fn turn_blocks(blocks: &mut Vec<Block>, i: usize, j: usize, k: usize, version: u32, wraps: bool)
+pub fn rotate_blocks(
+    blocks: &mut Vec<Block>,
+    i: usize,
+    j: usize,
+    k: usize,
+    version: u32,
+    wraps: bool,
+)
     requires front { i ≤ j }
     requires back { j ≤ k }
     requires within { k ≤ vec_len blocks.old }
-    ensures turned { joined blocks.new.items ≡ with_blocks_turned version wraps blocks.old.items i j k }
+    ensures rotation { joined blocks.new.items ≡ with_blocks_rotated version wraps blocks.old.items i j k }
     ensures len { vec_len blocks.new ≡ vec_len blocks.old }
     ensures room { vec_capacity blocks.new ≡ vec_capacity blocks.old }
 {
-    turn_slice(blocks.as_mut_slice(), i, j, k, version, wraps);
+    rotate_slice(blocks.as_mut_slice(), i, j, k, version, wraps);
 }
 
 /// The same of a slice.
-fn turn_slice(blocks: &mut [Block], i: usize, j: usize, k: usize, version: u32, wraps: bool)
+fn rotate_slice(blocks: &mut [Block], i: usize, j: usize, k: usize, version: u32, wraps: bool)
     requires front { i ≤ j }
     requires back { j ≤ k }
     requires within { k ≤ length blocks.old }
-    ensures turned { joined blocks.new ≡ with_blocks_turned version wraps blocks.old i j k }
+    ensures rotation { joined blocks.new ≡ with_blocks_rotated version wraps blocks.old i j k }
     ensures len { length blocks.new ≡ length blocks.old }
 {
     let (front, rest) = blocks.split_at_mut(i);
@@ -266,26 +273,26 @@ fn turn_slice(blocks: &mut [Block], i: usize, j: usize, k: usize, version: u32, 
     keep_all(back, wraps);
 }
 
-/// Adds the places of the slots that are shown to a client that knows a version.
+/// Adds the positions of the slots that are shown to a client that knows a version.
 pub fn push_all_changed(
-    places: &mut Vec<usize>,
+    positions: &mut Vec<usize>,
     blocks: &[Block],
     len: usize,
     version: u32,
     present: u32,
 ) -> Result<(), AllocError>
     requires { length (joined blocks.now) ≡ len }
-    ensures { OnOk result (places.new.items ≡ places.old.items ++ shown_from version present 0 (joined blocks.now)) }
+    ensures { OnOk result (positions.new.items ≡ positions.old.items ++ shown_from version present 0 (joined blocks.now)) }
 {
     let mut at = 0usize;
     for block in blocks {
-        block.push_changed(places, at, version, present)?;
+        block.push_changed(positions, at, version, present)?;
         at += block.len();
     }
     Ok(())
 }
 
-/// The place of a slot with an id, in the blocks with a key where one is given.
+/// The position of a slot with an id, in the blocks with a key where one is given.
 pub fn seek_id(blocks: &[Block], len: usize, id: u32, key: Option<u32>) -> Option<usize>
     requires { length (joined blocks.now) ≡ len }
     ensures found { IfSome result (HasIdAt id (joined blocks.now)) }
@@ -293,43 +300,43 @@ pub fn seek_id(blocks: &[Block], len: usize, id: u32, key: Option<u32>) -> Optio
 {
     let mut at = 0usize;
     for block in blocks {
-        if let Some(place) = place_for(block, id, key) {
-            return Some(at + place);
+        if let Some(position) = position_for(block, id, key) {
+            return Some(at + position);
         }
         at += block.len();
     }
     None
 }
 
-/// The place of a slot with an id in a block, or none where the block has another key than is wanted.
-fn place_for(block: &Block, id: u32, wanted: Option<u32>) -> Option<usize>
+/// The position of a slot with an id in a block, or none where the block has another key than is required.
+fn position_for(block: &Block, id: u32, required_key: Option<u32>) -> Option<usize>
     ensures found { IfSome result (HasIdAt id block.now) }
-    ensures none { wanted ≡ None → IfNone result (NoneHas id block.now) }
+    ensures none { required_key ≡ None → IfNone result (NoneHas id block.now) }
 {
-    match wanted {
-        Some(key) => place_under(block, id, key),
-        None => place_of(block, id),
+    match required_key {
+        Some(key) => position_under(block, id, key),
+        None => position_in_block(block, id),
     }
 }
 
-/// The place of a slot with an id in a block, if that has a key.
-fn place_under(block: &Block, id: u32, key: u32) -> Option<usize>
+/// The position of a slot with an id in a block, if that has a key.
+fn position_under(block: &Block, id: u32, key: u32) -> Option<usize>
     ensures { IfSome result (HasIdAt id block.now) }
 {
     if block.key() == key {
-        place_of(block, id)
+        position_in_block(block, id)
     } else {
         None
     }
 }
 
-/// The place of a slot with an id in a block.
-fn place_of(block: &Block, id: u32) -> Option<usize>
+/// The first position of a slot with an id in a block.
+fn position_in_block(block: &Block, id: u32) -> Option<usize>
     ensures found { IfSome result (HasIdAt id block.now) }
     ensures none { IfNone result (NoneHas id block.now) }
 {
     match block.position_of(id) {
-        Some(place) => Some(place),
+        Some(first_position) => Some(first_position),
         None => None,
     }
 }
@@ -381,7 +388,7 @@ fn prioritize_each(blocks: &mut [Block], priority: u8, version: u32, wraps: bool
     }
 }
 
-/// Lets the entries at two places change places. Both slots are written, and the others stay.
+/// Lets the entries at two positions change positions. Both slots are written, and the others stay.
 pub fn exchange(blocks: &mut Vec<Block>, low: usize, high: usize, version: u32, wraps: bool)
     requires order { low < high }
     requires within { high < length (joined blocks.old.items) }
@@ -410,7 +417,7 @@ fn pull(blocks: &mut Vec<Block>, at: usize, offset: usize) -> Slot
     block.pull(offset)
 }
 
-/// Puts a slot in the place of another.
+/// Puts a slot in the position of another.
 fn change(blocks: &mut Vec<Block>, at: usize, offset: usize, slot: Slot) -> Slot
     requires within { at < vec_len blocks.old }
     requires inside { offset < length (slice_index_or blocks.old.items at []) }
@@ -436,7 +443,7 @@ fn put(blocks: &mut Vec<Block>, at: usize, offset: usize, slot: Slot)
     block.put(offset, slot);
 }
 
-/// The slots of blocks from a place on, at most so many, in a list, over the same songs.
+/// The slots of blocks from a position on, at most so many, in a list, over the same songs.
 pub fn copies_of(
     alloc: Global,
     blocks: &[Block],
@@ -455,7 +462,7 @@ pub fn copies_of(
     Ok(copies)
 }
 
-/// Puts slots back from a place on, each in the place of another.
+/// Puts slots back from a position on, each in the position of another.
 pub fn put_back(blocks: &mut Vec<Block>, index: &mut Index, start: usize, part: Vec<Slot>)
     requires within { start + vec_len part ≤ length (joined blocks.old.items) }
     requires fits { start + vec_len part < 2 ^ 64 }

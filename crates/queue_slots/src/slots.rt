@@ -47,7 +47,7 @@ pub fn written_slot(entry: Entry, version: u32, wraps: bool) -> Slot
 }
 
 /// Writes the stamp and the mark that slots show, where they show one for all.
-pub fn settle(slots: &mut Vec<Slot>, alike: bool, top: u32, marked: bool)
+pub fn push_down(slots: &mut Vec<Slot>, alike: bool, top: u32, marked: bool)
     ensures items { slots.new.items ≡ shown_as alike top marked slots.old.items }
     ensures len { vec_len slots.new ≡ vec_len slots.old }
     ensures room { vec_capacity slots.new ≡ vec_capacity slots.old }
@@ -136,7 +136,7 @@ pub fn push_slot(to: &mut Vec<Slot>, slot: Slot)
     let _ = to.push(slot);
 }
 
-/// Takes the slot at a place out.
+/// Takes the slot at a position out.
 pub fn pull_slot(from: &mut Vec<Slot>, at: usize) -> Slot
     requires { at < vec_len from.old }
     ensures items { from.new.items ≡ remove from.old.items at }
@@ -147,7 +147,7 @@ pub fn pull_slot(from: &mut Vec<Slot>, at: usize) -> Slot
     from.remove(at)
 }
 
-/// Puts a slot in at a place, where there is room.
+/// Puts a slot in at a position, where there is room.
 pub fn put_slot(to: &mut Vec<Slot>, at: usize, slot: Slot)
     requires within { at ≤ vec_len to.old }
     requires room { vec_len to.old < vec_capacity to.old }
@@ -158,7 +158,7 @@ pub fn put_slot(to: &mut Vec<Slot>, at: usize, slot: Slot)
     let _ = to.insert(at, slot);
 }
 
-/// Puts a slot in the place of another.
+/// Puts a slot in the position of another.
 pub fn change_slot(slots: &mut Vec<Slot>, at: usize, slot: Slot) -> Slot
     requires { at < vec_len slots.old }
     ensures items { slots.new.items ≡ slice_set slots.old.items at slot }
@@ -169,7 +169,7 @@ pub fn change_slot(slots: &mut Vec<Slot>, at: usize, slot: Slot) -> Slot
     replace(&mut slots[at], slot)
 }
 
-/// Moves the slots from a place on to an empty list with room for them.
+/// Moves the slots from a position on to an empty list with room for them.
 pub fn move_tail(from: &mut Vec<Slot>, at: usize, to: &mut Vec<Slot>)
     requires within { at ≤ vec_len from.old }
     requires empty { to.old.items ≡ [] }
@@ -187,17 +187,17 @@ pub fn move_tail(from: &mut Vec<Slot>, at: usize, to: &mut Vec<Slot>)
     to.reverse();
 }
 
-/// The entry at a place.
-pub fn entry_at(slots: &[Slot], place: usize) -> Option<&Entry>
-    ensures { option_copied result ≡ slice_get (entries_of slots.now) place }
+/// The entry at a position.
+pub fn entry_at(slots: &[Slot], position: usize) -> Option<&Entry>
+    ensures { option_copied result ≡ slice_get (entries_of slots.now) position }
 {
-    match slots.get(place) {
+    match slots.get(position) {
         Some(slot) => Some(&slot.entry),
         None => None,
     }
 }
 
-/// The slots from a place on, at most so many.
+/// The slots from a position on, at most so many.
 pub fn part_of(slots: &[Slot], from: usize, most: usize) -> &[Slot]
     ensures { result.now ≡ take most (drop from slots.now) }
 {
@@ -205,16 +205,16 @@ pub fn part_of(slots: &[Slot], from: usize, most: usize) -> &[Slot]
     &rest[..most.min(rest.len())]
 }
 
-/// The slots from a place on.
-pub fn slots_from(slots: &[Slot], place: usize) -> &[Slot]
-    requires { place ≤ length slots.now }
-    ensures { result.now ≡ drop place slots.now }
+/// The slots from a position on.
+pub fn slots_from(slots: &[Slot], position: usize) -> &[Slot]
+    requires { position ≤ length slots.now }
+    ensures { result.now ≡ drop position slots.now }
 {
-    &slots[place..]
+    &slots[position..]
 }
 
-/// The place of the first slot with an id.
-pub fn place_in(slots: &[Slot], id: u32) -> Option<usize>
+/// The position of the first slot with an id.
+pub fn position_in(slots: &[Slot], id: u32) -> Option<usize>
     ensures { result ≡ position (λ s. s.entry.id == id) slots.now }
 {
     slots.iter().position(|slot| slot.entry.id == id)

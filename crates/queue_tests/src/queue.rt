@@ -125,7 +125,7 @@ show new 3
 show place 600
 show place 256";
 
-/// What the steps over a border tell: the removal changed places 255 to 597, and the swap two.
+/// What the steps over a border tell: the removal changed positions 255 to 597, and the swap two.
 const BORDER_TELLS: &str = "ok 2 600 flips
 ok 3 598 flips
  343 places from 255 to 597
@@ -179,7 +179,7 @@ const ROWS: &[Row<'_>] = &[
 ];
 
 #[test]
-fn each_row_is_told(rt: HostRuntime) -> Result<(), Fail> {
+fn each_row_is_observed(rt: HostRuntime) -> Result<(), Fail> {
     edits_follow_past();
     ids_are_distinct();
     ids_never_return();

@@ -1,7 +1,7 @@
 //! Entries that are moved, and entries that get a priority.
 //!
 //! Songs are put into the queue at once, so its version is 2. Each other edit tells one line: what is answered,
-//! the version and the parity, each entry's id and priority, and the places of slots new since the version
+//! the version and the parity, each entry's id and priority, and the positions of slots new since the version
 //! before it.
 use crate::queues::{GREATEST, Row, check_rows};
 use song_queue::moves_keep_entries;
@@ -100,7 +100,7 @@ const ROWS: &[Row<'_>] = &[
 ];
 
 #[test]
-fn each_row_is_told(rt: HostRuntime) -> Result<(), Fail> {
+fn each_row_is_observed(rt: HostRuntime) -> Result<(), Fail> {
     moves_keep_entries();
     check_rows(rt.alloc(), ROWS)
 }

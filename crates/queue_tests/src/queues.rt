@@ -9,7 +9,7 @@ use std::alloc::{AllocError, Global};
 use std::ops::Range;
 use std::test::Fail;
 use test_songs::song;
-use test_texts::{Told, wants};
+use test_texts::{Recorder, wants};
 
 fn songs(alloc: Global, count: usize) -> Result<Vec<SharedSong>, AllocError> {
     let mut songs = Vec::new(alloc);
@@ -32,7 +32,7 @@ fn word_of(answer: Result<(), QueueFault>) -> &'static str {
 
 /// What is answered to an insertion of so many songs. That there are no songs is kept.
 fn insert(
-    all: &mut Told,
+    all: &mut Recorder,
     queue: &mut Queue,
     alloc: Global,
     at: usize,
@@ -67,7 +67,7 @@ fn ranges(alloc: Global, text: &str) -> Result<Vec<Range<usize>>, AllocError> {
 }
 
 /// What is answered to a priority for ranges. That there are no ranges is kept.
-fn prioritize(all: &mut Told, queue: &mut Queue, alloc: Global, rest: &str) -> &'static str {
+fn prioritize(all: &mut Recorder, queue: &mut Queue, alloc: Global, rest: &str) -> &'static str {
     let (priority, rest) = first_word(rest);
     let priority = (number_of(priority) % 256) as u8;
     match ranges(alloc, rest) {
@@ -91,10 +91,16 @@ fn three_numbers(text: &str) -> (usize, usize, usize) {
     )
 }
 
-/// What is answered to an edit, by its word: `insert` at a place so many, `remove` from a place to one,
-/// `swap` a place and another, `move` from a place to one to a place, and `prio` of a priority and any number
+/// What is answered to an edit, by its word: `insert` at a position so many, `remove` from a position to one,
+/// `swap` a position and another, `move` from a position to one to a position, and `prio` of a priority and any number
 /// of ranges.
-fn edit(all: &mut Told, queue: &mut Queue, alloc: Global, word: &str, rest: &str) -> &'static str {
+fn edit(
+    all: &mut Recorder,
+    queue: &mut Queue,
+    alloc: Global,
+    word: &str,
+    rest: &str,
+) -> &'static str {
     let (first, second, third) = three_numbers(rest);
     match word {
         "insert" => insert(all, queue, alloc, first, second),
@@ -105,30 +111,30 @@ fn edit(all: &mut Told, queue: &mut Queue, alloc: Global, word: &str, rest: &str
     }
 }
 
-/// Adds places, with a space before each; of many how many these are, and the first and the last.
-fn add_places(all: &mut Told, places: &[usize]) {
-    let (Some(first), Some(last)) = (places.first(), places.last()) else {
+/// Adds positions, with a space before each; of many how many these are, and the first and the last.
+fn add_positions(all: &mut Recorder, positions: &[usize]) {
+    let (Some(first), Some(last)) = (positions.first(), positions.last()) else {
         return;
     };
-    let count = places.len();
+    let count = positions.len();
     if count > 100 {
         return all.add(format_args!(" {count} places from {first} to {last}"));
     }
-    for place in places {
-        all.add(format_args!(" {place}"));
+    for position in positions {
+        all.add(format_args!(" {position}"));
     }
 }
 
-/// Adds the places that changed since a version.
-fn add_changed(all: &mut Told, queue: &Queue, since: u32) {
+/// Adds the positions that changed since a version.
+fn add_changed(all: &mut Recorder, queue: &Queue, since: u32) {
     match queue.changed_since(since) {
-        Ok(places) => add_places(all, places.as_slice()),
+        Ok(positions) => add_positions(all, positions.as_slice()),
         Err(_) => all.fail(),
     }
 }
 
 /// Adds an answer, the version, the length, and whether the parity was flipped.
-fn add_note(all: &mut Told, queue: &Queue, answer: &str, parity: bool) {
+fn add_note(all: &mut Recorder, queue: &Queue, answer: &str, parity: bool) {
     let (version, len) = (queue.version(), queue.len());
     let flipped = if queue.parity() == parity {
         "stays"
@@ -138,19 +144,19 @@ fn add_note(all: &mut Told, queue: &Queue, answer: &str, parity: bool) {
     all.add(format_args!("{answer} {version} {len} {flipped}"));
 }
 
-/// Whether a place is told of: each, or those at the ends and in the middle of a queue of 16,384.
-fn is_told(place: usize, len: usize) -> bool {
-    len <= 100 || place <= 1 || place == 8_191 || place == 8_192 || place == 16_383
+/// Whether a position is listed: each, or those at the ends and in the middle of a queue of 16,384.
+fn is_listed(position: usize, len: usize) -> bool {
+    len <= 100 || position <= 1 || position == 8_191 || position == 8_192 || position == 16_383
 }
 
-/// Adds an answer, the version and the parity, each entry's id and priority, and the places that changed since
+/// Adds an answer, the version and the parity, each entry's id and priority, and the positions that changed since
 /// a version.
-fn add_whole(all: &mut Told, queue: &Queue, answer: &str, since: u32) {
+fn add_whole(all: &mut Recorder, queue: &Queue, answer: &str, since: u32) {
     let (version, parity, len) = (queue.version(), queue.parity(), queue.len());
     all.add(format_args!("{answer} {version} {parity}:"));
-    for place in 0..len {
-        if is_told(place, len) {
-            let (id, priority) = entry(queue, place);
+    for position in 0..len {
+        if is_listed(position, len) {
+            let (id, priority) = entry(queue, position);
             all.add(format_args!(" {id}/{priority}"));
         }
     }
@@ -159,7 +165,7 @@ fn add_whole(all: &mut Told, queue: &Queue, answer: &str, since: u32) {
 }
 
 /// Adds what an edit answers and leaves.
-fn add_edit(all: &mut Told, queue: &mut Queue, alloc: Global, line: &str, is_whole: bool) {
+fn add_edit(all: &mut Recorder, queue: &mut Queue, alloc: Global, line: &str, is_whole: bool) {
     let (word, rest) = first_word(line);
     let (version, parity) = (queue.version(), queue.parity());
     let answer = edit(all, queue, alloc, word, rest);
@@ -170,41 +176,41 @@ fn add_edit(all: &mut Told, queue: &mut Queue, alloc: Global, line: &str, is_who
     }
 }
 
-/// Adds the place of an id, or that it is at none.
-fn add_place(all: &mut Told, queue: &Queue, id: u32) {
+/// Adds the position of an id, or that it is at none.
+fn add_position(all: &mut Recorder, queue: &Queue, id: u32) {
     match queue.position_of(id) {
-        Some(place) => all.add(place),
+        Some(position) => all.add(position),
         None => all.add("nowhere"),
     }
 }
 
-/// Adds the id at a place, and the place that is found for it, after a space.
-fn add_id(all: &mut Told, queue: &Queue, place: usize) {
-    let (id, _) = entry(queue, place);
+/// Adds the id at a position, and the position that is found for it, after a space.
+fn add_id(all: &mut Recorder, queue: &Queue, position: usize) {
+    let (id, _) = entry(queue, position);
     all.add(format_args!(" {id}@"));
-    add_place(all, queue, id);
+    add_position(all, queue, id);
 }
 
-/// Adds what is shown where a step asks for it: `ids`, from place to place, or, with a number, `new` or `whole`
+/// Adds what is shown where a step asks for it: `ids`, from position to position, or, with a number, `new` or `whole`
 /// since a version, `place` or `id`.
-fn show(all: &mut Told, queue: &Queue, rest: &str) {
+fn show(all: &mut Recorder, queue: &Queue, rest: &str) {
     let (what, number) = first_word(rest);
     let number = number_of(number);
     match what {
         "new" => add_changed(all, queue, number),
         "whole" => add_whole(all, queue, "shown", number),
-        "place" => add_place(all, queue, number),
+        "place" => add_position(all, queue, number),
         "id" => add_id(all, queue, number as usize),
         _ => {
-            for place in 0..queue.len() {
-                add_id(all, queue, place);
+            for position in 0..queue.len() {
+                add_id(all, queue, position);
             }
         }
     }
 }
 
 /// Adds what each step tells: an edit, alone or after `whole`, or `show` and what is asked for.
-fn add_steps(all: &mut Told, queue: &mut Queue, alloc: Global, steps: &str) {
+fn add_steps(all: &mut Recorder, queue: &mut Queue, alloc: Global, steps: &str) {
     for line in steps.lines() {
         let (word, rest) = first_word(line);
         match word {
@@ -223,9 +229,9 @@ pub type Row<'a> = ((usize, u32, u32), usize, &'a str, &'a str);
 pub const GREATEST: (usize, u32, u32) = (16_384, 2_147_483_647, 2_147_483_647);
 
 /// What the steps of a row tell, after so many songs were put into the empty queue, one by one.
-fn told(alloc: Global, row: &Row<'_>) -> Result<String, AllocError> {
+fn observed(alloc: Global, row: &Row<'_>) -> Result<String, AllocError> {
     let ((max_len, max_version, max_id), count, steps, _) = *row;
-    let mut all = Told::new(alloc);
+    let mut all = Recorder::new(alloc);
     let mut queue = Queue::new(alloc, max_len, max_version.max(1), max_id);
     for at in 0..count {
         let _ok = insert(&mut all, &mut queue, alloc, at, 1);
@@ -237,7 +243,7 @@ fn told(alloc: Global, row: &Row<'_>) -> Result<String, AllocError> {
 /// Fails where the steps of a row tell something else.
 pub fn check_rows(alloc: Global, rows: &[Row<'_>]) -> Result<(), Fail> {
     for row in rows {
-        wants(told(alloc, row), row.3)?;
+        wants(observed(alloc, row), row.3)?;
     }
     Ok(())
 }

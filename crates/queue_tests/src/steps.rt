@@ -34,9 +34,9 @@ pub fn push_line(all: &mut String, line: &str) -> Result<(), AllocError> {
     all.push_str("\n")
 }
 
-/// The id and the priority at a place; zeros where there is no entry, since no id is 0.
-pub fn entry(queue: &Queue, place: usize) -> (u32, u8) {
-    match queue.get(place) {
+/// The id and the priority at a position; zeros where there is no entry, since no id is 0.
+pub fn entry(queue: &Queue, position: usize) -> (u32, u8) {
+    match queue.get(position) {
         Some(entry) => (entry.id, entry.priority),
         None => (0, 0),
     }

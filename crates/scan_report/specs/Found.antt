@@ -5,17 +5,17 @@ use Rattle.library_scan.specs.declared.content.Refusal.{Refusal}
 use Rattle.library_scan.specs.declared.content.Refusal.TheVariants.{NotRiff, NoFormat, Unsupported, NoData, ReadFault}
 use Rattle.library_scan.specs.declared.scanned.Refused.{Refused}
 
--- the place of a refusal among the five
-abbrev pub place_of : Refusal → ℕ
-place_of NotRiff = 0
-place_of NoFormat = 1
-place_of Unsupported = 2
-place_of NoData = 3
-place_of ReadFault = 4
+-- the index of a refusal among the five
+abbrev pub index_of : Refusal → ℕ
+index_of NotRiff = 0
+index_of NoFormat = 1
+index_of Unsupported = 2
+index_of NoData = 3
+index_of ReadFault = 4
 
 -- a file is refused for this
 abbrev pub is_for : Refusal → Refused → Bool
-is_for refusal file = place_of file.refusal == place_of refusal
+is_for refusal file = index_of file.refusal == index_of refusal
 
 -- how many files are refused for it
 abbrev pub count_of : Refusal → List Refused → ℕ

@@ -39,10 +39,10 @@ pub fn commonest(refused: &[Refused]) -> Refusal
 pub fn count_of(refused: &[Refused], refusal: Refusal) -> usize
     ensures { result ≡ found.count_of refusal refused.now }
 {
-    let place = place_of(refusal);
+    let index = index_of(refusal);
     refused
         .iter()
-        .filter(|file| place_of(file.refusal) == place)
+        .filter(|file| index_of(file.refusal) == index)
         .count()
 }
 
@@ -56,8 +56,8 @@ fn commoner(refused: &[Refused], one: Refusal, other: Refusal) -> Refusal
     }
 }
 
-fn place_of(refusal: Refusal) -> u8
-    ensures { result ≡ found.place_of refusal }
+fn index_of(refusal: Refusal) -> u8
+    ensures { result ≡ found.index_of refusal }
 {
     match refusal {
         Refusal::NotRiff => 0,

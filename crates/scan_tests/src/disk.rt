@@ -8,7 +8,7 @@ use std::os::unix::fs::symlink;
 use std::rt::Files;
 use std::test::Fail;
 use std::{fs, io};
-use test_texts::{Told, wants};
+use test_texts::{Recorder, wants};
 
 /// 24 bits, one channel, a title, and a data size past the file's end: two frames at 8,000 a second.
 pub const WAVE: [u8; 75] =
@@ -116,7 +116,7 @@ where
 
 fn add_scanned<R: Files + AllocGlobal + Clone + Drop>(
     rt: &R,
-    told: &mut Told,
+    recorder: &mut Recorder,
     folder: &str,
     frames: u32,
     everyday: bool,
@@ -124,8 +124,8 @@ fn add_scanned<R: Files + AllocGlobal + Clone + Drop>(
 where
     R::File: ReadSeek,
 {
-    add_scan(told, &scanned(rt, folder, frames, everyday));
-    told.add("\n");
+    add_scan(recorder, &scanned(rt, folder, frames, everyday));
+    recorder.add("\n");
 }
 
 /// Counts what it is told of.
@@ -175,27 +175,27 @@ x.wav=1+1
 x.wav=1+2 
 3 names";
 
-fn told_of_scans<R: Files + AllocGlobal + Clone + Drop>(rt: &R) -> Result<String, AllocError>
+fn observed_of_scans<R: Files + AllocGlobal + Clone + Drop>(rt: &R) -> Result<String, AllocError>
 where
     R::File: ReadSeek,
 {
-    let mut told = Told::new(rt.alloc());
+    let mut recorder = Recorder::new(rt.alloc());
     for (folder, frames, everyday) in SCANS.iter() {
-        add_scanned(rt, &mut told, folder, *frames, *everyday);
+        add_scanned(rt, &mut recorder, folder, *frames, *everyday);
     }
     let names = names_in(rt, "made/watched");
-    told.add(format_args!("{names} names"));
-    told.into_text()
+    recorder.add(format_args!("{names} names"));
+    recorder.into_text()
 }
 
-fn told_of_made<R: Files + AllocGlobal + Clone + Drop>(rt: &R) -> io::Result<String>
+fn observed_of_made<R: Files + AllocGlobal + Clone + Drop>(rt: &R) -> io::Result<String>
 where
     R::File: ReadSeek,
 {
     fill(rt)?;
-    let told = told_of_scans(rt)?;
+    let observed = observed_of_scans(rt)?;
     fs::remove_dir_all(rt, "made")?;
-    Ok(told)
+    Ok(observed)
 }
 
 /// The name of a folder of 200 bytes.
@@ -232,15 +232,15 @@ fn fill_with_many<R: Files + AllocGlobal>(rt: &R) -> io::Result<()> {
     symlink(rt, ".", "large/loop/again")
 }
 
-fn told_of_large<R: Files + AllocGlobal + Clone + Drop>(rt: &R) -> io::Result<String>
+fn observed_of_large<R: Files + AllocGlobal + Clone + Drop>(rt: &R) -> io::Result<String>
 where
     R::File: ReadSeek,
 {
     fill_with_many(rt)?;
     fill_with_long(rt)?;
-    let told = size_of(rt.alloc(), &scanned(rt, "large", 8_000, false))?;
+    let observed = size_of(rt.alloc(), &scanned(rt, "large", 8_000, false))?;
     fs::remove_dir_all(rt, "large")?;
-    Ok(told)
+    Ok(observed)
 }
 
 /// Each kind of file; links; a file sixteen folders down, and one deeper; and how many names are seen. Then 300
@@ -248,9 +248,9 @@ where
 /// depth from 1 to 16; and the longest URI.
 #[test]
 fn made_folders(rt: HostRuntime) -> Result<(), Fail> {
-    wants(told_of_made(&rt), SCANS_TELL)?;
+    wants(observed_of_made(&rt), SCANS_TELL)?;
     wants(
-        told_of_large(&rt),
+        observed_of_large(&rt),
         "317 songs, the last of 1024 bytes, 0 refused",
     )
 }

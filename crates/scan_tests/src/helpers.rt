@@ -4,7 +4,7 @@
 use library_scan::{ScanFault, Scanned};
 use mpd_text::{Song, TagName};
 use std::alloc::{AllocError, Global};
-use test_texts::Told;
+use test_texts::Recorder;
 
 /// A song of this URI, so many frames, and one tag, its artist.
 pub fn song(alloc: Global, uri: &str, frames: u64, artist: &str) -> Result<Song, AllocError> {
@@ -13,21 +13,21 @@ pub fn song(alloc: Global, uri: &str, frames: u64, artist: &str) -> Result<Song,
 
 /// Adds the songs of a scan with their frames and how many tags they have, then the files that are none with
 /// their refusals; or why there is no scan.
-pub fn add_scan(told: &mut Told, scanned: &Result<Scanned, ScanFault>) {
+pub fn add_scan(recorder: &mut Recorder, scanned: &Result<Scanned, ScanFault>) {
     match scanned {
-        Ok(scanned) => add_found(told, scanned),
-        Err(fault) => told.add(format_args!("{fault:?} ")),
+        Ok(scanned) => add_found(recorder, scanned),
+        Err(fault) => recorder.add(format_args!("{fault:?} ")),
     }
 }
 
-fn add_found(told: &mut Told, scanned: &Scanned) {
+fn add_found(recorder: &mut Recorder, scanned: &Scanned) {
     for song in &scanned.songs {
         let (uri, frames, tags) = (song.uri(), song.frames(), song.tags().len());
-        told.add(format_args!("{uri}={frames}+{tags} "));
+        recorder.add(format_args!("{uri}={frames}+{tags} "));
     }
     for file in &scanned.refused {
         let (uri, name) = (file.uri.as_str(), file.refusal.name());
-        told.add(format_args!("{uri}:{name} "));
+        recorder.add(format_args!("{uri}:{name} "));
     }
 }
 

@@ -7,7 +7,7 @@ use mpd_text::Text;
 use song_db::Rate;
 use std::alloc::{AllocError, Global};
 use std::test::Fail;
-use test_texts::{Told, wants};
+use test_texts::{Recorder, wants};
 
 /// One folder of so many songs, each of one frame.
 #[derive(Drop)]
@@ -91,9 +91,9 @@ fn the_most_songs(rt: HostRuntime) -> Result<(), Fail> {
 }
 
 /// Adds what is kept of the worked file where a call of its device fails.
-fn add_kept(told: &mut Told, alloc: Global, point: FailurePoint) {
+fn add_kept(recorder: &mut Recorder, alloc: Global, point: FailurePoint) {
     let Ok(bytes) = Vec::from_slice(alloc, &WAVE) else {
-        return told.fail();
+        return recorder.fail();
     };
     match content_of(
         alloc,
@@ -101,20 +101,20 @@ fn add_kept(told: &mut Told, alloc: Global, point: FailurePoint) {
         &Rate::lowest(),
         false,
     ) {
-        Ok(Content::Song(_, frames)) => told.add(format_args!("{frames} frames ")),
-        Ok(Content::Refused(refusal)) => told.add(format_args!("{refusal:?} ")),
-        Ok(Content::Empty) => told.add("Empty "),
-        Err(_) => told.fail(),
+        Ok(Content::Song(_, frames)) => recorder.add(format_args!("{frames} frames ")),
+        Ok(Content::Refused(refusal)) => recorder.add(format_args!("{refusal:?} ")),
+        Ok(Content::Empty) => recorder.add("Empty "),
+        Err(_) => recorder.fail(),
     }
 }
 
 fn kept(alloc: Global) -> Result<String, AllocError> {
-    let mut told = Told::new(alloc);
+    let mut recorder = Recorder::new(alloc);
     for call in 1..6u64 {
-        add_kept(&mut told, alloc, FailurePoint::Call(call));
+        add_kept(&mut recorder, alloc, FailurePoint::Call(call));
     }
-    add_kept(&mut told, alloc, FailurePoint::Never);
-    told.into_text()
+    add_kept(&mut recorder, alloc, FailurePoint::Never);
+    recorder.into_text()
 }
 
 /// Each of the five calls fails, and then none.

@@ -11,7 +11,7 @@ use std::io::ErrorKind;
 use std::rt::Files;
 use std::test::Fail;
 use std::{fs, io};
-use test_texts::{Told, wants};
+use test_texts::{Recorder, wants};
 
 /// What a folder tells; the second has a folder below it whose listing breaks off after its first name.
 const ODD: &[u8] = b"a.wav\0\xff.wav\0shut.wav\0far.wav\0b.wav\0broken\0gone\0c.wav\0";
@@ -97,28 +97,28 @@ fn far() -> [u8; 75] {
     bytes
 }
 
-fn add_odd<R: Files + Clone + Drop>(rt: &R, alloc: Global, told: &mut Told, folder: &str)
+fn add_odd<R: Files + Clone + Drop>(rt: &R, alloc: Global, recorder: &mut Recorder, folder: &str)
 where
     R::File: ReadSeek,
 {
     let fake = (Odd { rt, alloc }, alloc);
     let mut disk = SystemDisk::new(&fake, folder);
     let scanned = scan(alloc, &mut disk, &Rate::lowest(), false, &mut Unwatched);
-    add_scan(told, &scanned);
+    add_scan(recorder, &scanned);
 }
 
-fn told_of_odd<R: Files + Clone + Drop>(rt: &R, alloc: Global) -> Result<String, AllocError>
+fn observed_of_odd<R: Files + Clone + Drop>(rt: &R, alloc: Global) -> Result<String, AllocError>
 where
     R::File: ReadSeek,
 {
-    let mut told = Told::new(alloc);
-    add_odd(rt, alloc, &mut told, "odd");
-    add_odd(rt, alloc, &mut told, "odd/broken");
-    add_odd(rt, alloc, &mut told, "odd/gone");
-    told.into_text()
+    let mut recorder = Recorder::new(alloc);
+    add_odd(rt, alloc, &mut recorder, "odd");
+    add_odd(rt, alloc, &mut recorder, "odd/broken");
+    add_odd(rt, alloc, &mut recorder, "odd/gone");
+    recorder.into_text()
 }
 
-fn told<R: Files + AllocGlobal + Clone + Drop>(rt: &R) -> io::Result<String>
+fn observed<R: Files + AllocGlobal + Clone + Drop>(rt: &R) -> io::Result<String>
 where
     R::File: ReadSeek,
 {
@@ -127,17 +127,17 @@ where
     // The rest takes no room on the disk.
     let far = OpenOptions::new().write(true).open(rt, "odd_far")?;
     far.set_len((1 << 32) + 70)?;
-    let told = told_of_odd(rt, rt.alloc())?;
+    let observed = observed_of_odd(rt, rt.alloc())?;
     fs::remove_file(rt, "odd_near")?;
     fs::remove_file(rt, "odd_far")?;
-    Ok(told)
+    Ok(observed)
 }
 
 // Of the far file there are 4,294,967,295 bytes of data, at three a frame.
 #[test]
 fn odd_folders(rt: HostRuntime) -> Result<(), Fail> {
     wants(
-        told(&rt),
+        observed(&rt),
         "a.wav=2+1 b.wav=2+1 broken/d.wav=2+1 c.wav=2+1 far.wav=1431655765+1 shut.wav:ReadFault NoFolder NoFolder ",
     )
 }

@@ -59,7 +59,7 @@ fn writes(names: u64) -> u8 {
     terminal.writes.get()
 }
 
-fn told(alloc: Global) -> Result<String, AllocError> {
+fn observed(alloc: Global) -> Result<String, AllocError> {
     let (nothing, once, thrice) = (writes(0), writes(1), writes(3));
     format!(in alloc; "{nothing} {once} {thrice}")
 }
@@ -67,5 +67,5 @@ fn told(alloc: Global) -> Result<String, AllocError> {
 /// A scan that shows nothing clears nothing, and any other clears its line.
 #[test]
 fn lines_are_cleared(rt: HostRuntime) -> Result<(), Fail> {
-    wants(told(rt.alloc()), "0 2 4")
+    wants(observed(rt.alloc()), "0 2 4")
 }

@@ -9,7 +9,7 @@ use song_search::{counted, find, is_folder, list_folder, under};
 use std::alloc::{AllocError, Global};
 use std::test::Fail;
 use test_songs::library;
-use test_texts::{Told, wants};
+use test_texts::{Recorder, wants};
 
 /// Songs in folders: their URIs, frames and artists. The folder `a` comes before `a-b`, though `a-b/y.wav`
 /// comes before `a/x.wav`.
@@ -59,62 +59,62 @@ fn uri_of<'a>(song: Option<&'a SharedSong>) -> &'a str {
 }
 
 /// Adds how many songs meet a filter, and the first and the last of them.
-fn add_found(told: &mut Told, alloc: Global, db: &Db, filter: &Filter, case: Case) {
+fn add_found(recorder: &mut Recorder, alloc: Global, db: &Db, filter: &Filter, case: Case) {
     match find(alloc, db, filter, case) {
         Ok(songs) => {
             let first = uri_of(songs.first().copied());
             let last = uri_of(songs.last().copied());
             let count = songs.len();
-            told.add(format_args!("{count} {first} {last} | "));
+            recorder.add(format_args!("{count} {first} {last} | "));
         }
-        Err(_) => told.fail(),
+        Err(_) => recorder.fail(),
     }
 }
 
 /// Adds the songs that meet a filter, the same where the case of letters does not count, and how many they are
 /// with their seconds.
-fn add_filter(told: &mut Told, alloc: Global, db: &Db, text: &str) {
+fn add_filter(recorder: &mut Recorder, alloc: Global, db: &Db, text: &str) {
     let Ok(filter) = Filter::parse(alloc, text, Vocabulary::Base) else {
-        return told.fail();
+        return recorder.fail();
     };
-    add_found(told, alloc, db, &filter, Case::Heeded);
-    add_found(told, alloc, db, &filter, Case::Ignored);
+    add_found(recorder, alloc, db, &filter, Case::Heeded);
+    add_found(recorder, alloc, db, &filter, Case::Ignored);
     let count = counted(db, &filter, &Rate::lowest());
-    told.add(format_args!("{} {}\n", count.songs, count.seconds));
+    recorder.add(format_args!("{} {}\n", count.songs, count.seconds));
 }
 
 /// Adds the folders and the songs right in a folder.
-fn add_listing(told: &mut Told, alloc: Global, db: &Db, folder: &str) {
+fn add_listing(recorder: &mut Recorder, alloc: Global, db: &Db, folder: &str) {
     let Ok(listing) = list_folder(alloc, db, folder) else {
-        return told.fail();
+        return recorder.fail();
     };
     let (folders, songs) = (listing.folders.len(), listing.songs.len());
     let first_folder = listing.folders.first().copied().unwrap_or("-");
     let last_folder = listing.folders.last().copied().unwrap_or("-");
     let first = uri_of(listing.songs.first().copied());
     let last = uri_of(listing.songs.last().copied());
-    told.add(format_args!("{folders} {first_folder} {last_folder} | {songs} {first} {last}\n"));
+    recorder.add(format_args!("{folders} {first_folder} {last_folder} | {songs} {first} {last}\n"));
 }
 
 /// Adds whether there is such a folder, the songs below it, and the folders and the songs right in it.
-fn add_folder(told: &mut Told, alloc: Global, db: &Db, folder: &str) {
+fn add_folder(recorder: &mut Recorder, alloc: Global, db: &Db, folder: &str) {
     let is_one = is_folder(db, folder);
     let songs = under(db, folder);
     let (count, first, last) = (songs.len(), uri_of(songs.first()), uri_of(songs.last()));
-    told.add(format_args!("{is_one} | {count} {first} {last} | "));
-    add_listing(told, alloc, db, folder);
+    recorder.add(format_args!("{is_one} | {count} {first} {last} | "));
+    add_listing(recorder, alloc, db, folder);
 }
 
-/// What is told of filters, one a line, and then of folders.
+/// What is observed of filters, one a line, and then of folders.
 fn answers(alloc: Global, db: &Db, filters: &str, folders: &str) -> Result<String, AllocError> {
-    let mut told = Told::new(alloc);
+    let mut recorder = Recorder::new(alloc);
     for filter in filters.split('\n') {
-        add_filter(&mut told, alloc, db, filter);
+        add_filter(&mut recorder, alloc, db, filter);
     }
     for folder in folders.split('\n') {
-        add_folder(&mut told, alloc, db, folder);
+        add_folder(&mut recorder, alloc, db, folder);
     }
-    told.into_text()
+    recorder.into_text()
 }
 
 const FILTERS: &str = "(Artist == 'Zoe')
@@ -159,7 +159,7 @@ false | 0 - - | 0 - - | 0 - -
 false | 0 - - | 0 - - | 0 - -
 ";
 
-fn told_of_small(alloc: Global) -> Result<String, AllocError> {
+fn observed_of_small(alloc: Global) -> Result<String, AllocError> {
     answers(alloc, &small(alloc)?, FILTERS, FOLDERS)
 }
 
@@ -172,7 +172,7 @@ true | 1000 099/099000.wav 099/099999.wav | 0 - - | 1000 099/099000.wav 099/0999
 false | 0 - - | 0 - - | 0 - -
 ";
 
-fn told_of_greatest(alloc: Global) -> Result<String, AllocError> {
+fn observed_of_greatest(alloc: Global) -> Result<String, AllocError> {
     answers(
         alloc,
         &greatest(alloc)?,
@@ -183,6 +183,6 @@ fn told_of_greatest(alloc: Global) -> Result<String, AllocError> {
 
 #[test]
 fn a_small_library_and_the_greatest(rt: HostRuntime) -> Result<(), Fail> {
-    wants(told_of_small(rt.alloc()), SMALL_TELLS)?;
-    wants(told_of_greatest(rt.alloc()), GREATEST_TELLS)
+    wants(observed_of_small(rt.alloc()), SMALL_TELLS)?;
+    wants(observed_of_greatest(rt.alloc()), GREATEST_TELLS)
 }

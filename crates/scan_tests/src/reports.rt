@@ -1,4 +1,4 @@
-//! What a scan prints, and what is told of it.
+//! What a scan prints, and what is reported of it.
 use crate::helpers::song;
 use library_scan::{Refusal, Refused, Scanned};
 use mpd_text::{Song, Text};
@@ -63,7 +63,7 @@ fn found(alloc: Global, uris: &str) -> Result<String, AllocError> {
 /// A report. How many songs were found: of reasons as common the first is told, else the commonest, and none where all
 /// are songs. At which rate they are, and how fast names were looked at.
 #[test]
-fn what_is_told(rt: HostRuntime) -> Result<(), Fail> {
+fn what_is_reported(rt: HostRuntime) -> Result<(), Fail> {
     wants(report(rt.alloc()), REPORT)?;
     wants(
         found(rt.alloc(), "c.wav\nd.wav"),

@@ -2,10 +2,10 @@
 use settings::{OneLine, Settings, SettingsFault, settings};
 use std::alloc::{AllocError, Global};
 use std::test::Fail;
-use test_texts::{Told, wants};
+use test_texts::{Recorder, wants};
 
 /// The settings that a text says, or the key for which it is refused.
-fn told(alloc: Global, before: &str, lines: &str) -> Result<String, AllocError> {
+fn observed(alloc: Global, before: &str, lines: &str) -> Result<String, AllocError> {
     let text = format!(in alloc; "{before}{lines}")?;
     match settings(alloc, text.as_str()) {
         Ok(settings) => line_of(alloc, &settings),
@@ -15,7 +15,7 @@ fn told(alloc: Global, before: &str, lines: &str) -> Result<String, AllocError> 
 }
 
 fn line_of(alloc: Global, settings: &Settings) -> Result<String, AllocError> {
-    let mut line = Told::new(alloc);
+    let mut line = Recorder::new(alloc);
     add_settings(&mut line, settings);
     for output in &settings.outputs {
         let (name, path, enabled) = (output.name.as_str(), output.path.as_str(), output.enabled);
@@ -24,7 +24,7 @@ fn line_of(alloc: Global, settings: &Settings) -> Result<String, AllocError> {
     line.into_text()
 }
 
-fn add_settings(line: &mut Told, settings: &Settings) {
+fn add_settings(line: &mut Recorder, settings: &Settings) {
     let (music, listen) = (settings.music.as_str(), settings.listen.as_str());
     let (shelf, state) = (path_of(&settings.shelf), path_of(&settings.state));
     let (rate, start) = (settings.rate.frames(), settings.random_start);
@@ -43,8 +43,8 @@ fn path_of(path: &Option<String>) -> &str {
 
 /// The lines of a text, and after `=>` what they come to.
 fn comes_to(alloc: Global, before: &str, lines: &str) -> Result<(), Fail> {
-    let (lines, wanted) = lines.split_once("=> ").unwrap_or((lines, "?"));
-    wants(told(alloc, before, lines), wanted)
+    let (lines, expected) = lines.split_once("=> ").unwrap_or((lines, "?"));
+    wants(observed(alloc, before, lines), expected)
 }
 
 /// The same of each, with an empty line between them.
@@ -227,12 +227,12 @@ music = \"\"
 =>   - - 44100 0 4096 8192 false";
 
 /// What comes of outputs with these names.
-fn told_of_outputs(alloc: Global, names: &str) -> Result<String, AllocError> {
-    let mut lines = Told::new(alloc);
+fn observed_of_outputs(alloc: Global, names: &str) -> Result<String, AllocError> {
+    let mut lines = Recorder::new(alloc);
     for name in names.split(' ') {
         lines.add(format_args!("[[output]]\nname = \"{name}\"\npath = \"/{name}\"\n"));
     }
-    told(alloc, NEEDED, lines.into_text()?.as_str())
+    observed(alloc, NEEDED, lines.into_text()?.as_str())
 }
 
 /// What is added to the keys that must be there, whole texts, and the most outputs.
@@ -241,15 +241,15 @@ fn texts_as_settings(rt: HostRuntime) -> Result<(), Fail> {
     each_comes_to(rt.alloc(), NEEDED, ADDED)?;
     each_comes_to(rt.alloc(), "", WHOLE)?;
     wants(
-        told_of_outputs(rt.alloc(), "a b c d e f g h"),
+        observed_of_outputs(rt.alloc(), "a b c d e f g h"),
         "/m 127.0.0.1:0 - - 44100 0 4096 8192 false a=/a:true b=/b:true c=/c:true d=/d:true e=/e:true f=/f:true g=/g:true h=/h:true",
     )?;
     wants(
-        told_of_outputs(rt.alloc(), "a b c d e f g a"),
+        observed_of_outputs(rt.alloc(), "a b c d e f g a"),
         "BadSetting(output)",
     )?;
     wants(
-        told_of_outputs(rt.alloc(), "a b c d e f g h i"),
+        observed_of_outputs(rt.alloc(), "a b c d e f g h i"),
         "BadSetting(output)",
     )
 }

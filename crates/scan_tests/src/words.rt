@@ -13,15 +13,15 @@ fn words_of(alloc: Global, line: &str) -> Result<Vec<String>, AllocError> {
 }
 
 /// The program that a line asks for, or the exit status and all that is printed in its place.
-fn told(alloc: Global, line: &str) -> Result<String, AllocError> {
+fn observed(alloc: Global, line: &str) -> Result<String, AllocError> {
     let words = words_of(alloc, line)?;
     match command_line(alloc, &words) {
-        Ok(program) => program_told(alloc, &program),
-        Err(fault) => refusal_told(alloc, &fault),
+        Ok(program) => program_observed(alloc, &program),
+        Err(fault) => refusal_observed(alloc, &fault),
     }
 }
 
-fn program_told(alloc: Global, program: &Program<'_>) -> Result<String, AllocError> {
+fn program_observed(alloc: Global, program: &Program<'_>) -> Result<String, AllocError> {
     match program {
         Program::Serve(file, only_checks) => format!(in alloc; "Serve({file}, {only_checks})"),
         Program::Scan(rate, folder, everyday) => {
@@ -32,7 +32,7 @@ fn program_told(alloc: Global, program: &Program<'_>) -> Result<String, AllocErr
     }
 }
 
-fn refusal_told(alloc: Global, fault: &LineFault) -> Result<String, AllocError> {
+fn refusal_observed(alloc: Global, fault: &LineFault) -> Result<String, AllocError> {
     let status = fault.status();
     match fault {
         LineFault::Refused(error) => format!(in alloc; "{status}: {error}"),
@@ -41,9 +41,9 @@ fn refusal_told(alloc: Global, fault: &LineFault) -> Result<String, AllocError> 
 }
 
 /// The same up to the end of its first line.
-fn first_line_told(alloc: Global, line: &str) -> Result<String, AllocError> {
-    let told = told(alloc, line)?;
-    String::from_str(alloc, told.as_str().split('\n').next().unwrap_or(""))
+fn first_line_observed(alloc: Global, line: &str) -> Result<String, AllocError> {
+    let observed = observed(alloc, line)?;
+    String::from_str(alloc, observed.as_str().split('\n').next().unwrap_or(""))
 }
 
 /// Lines, each with the first line of what it is to come to.
@@ -88,8 +88,8 @@ music_daemon help script => 0: Runs standard input as a script
 music_daemon --version => 0: music_daemon 0.9.0";
 
 fn comes_to(alloc: Global, pair: &str) -> Result<(), Fail> {
-    let (line, wanted) = pair.split_once(" => ").unwrap_or((pair, "?"));
-    wants(first_line_told(alloc, line), wanted)
+    let (line, expected) = pair.split_once(" => ").unwrap_or((pair, "?"));
+    wants(first_line_observed(alloc, line), expected)
 }
 
 const HELP: &str = "0: A Music Player Daemon for PCM libraries
@@ -145,8 +145,11 @@ fn command_lines(rt: HostRuntime) -> Result<(), Fail> {
     for pair in LINES.lines() {
         comes_to(rt.alloc(), pair)?;
     }
-    wants(told(rt.alloc(), "music_daemon --help"), HELP)?;
-    wants(told(rt.alloc(), "music_daemon serve --help"), SERVE_HELP)?;
-    wants(told(rt.alloc(), "music_daemon scan --help"), SCAN_HELP)?;
-    wants(told(rt.alloc(), "music_daemon script -h"), SCRIPT_HELP)
+    wants(observed(rt.alloc(), "music_daemon --help"), HELP)?;
+    wants(
+        observed(rt.alloc(), "music_daemon serve --help"),
+        SERVE_HELP,
+    )?;
+    wants(observed(rt.alloc(), "music_daemon scan --help"), SCAN_HELP)?;
+    wants(observed(rt.alloc(), "music_daemon script -h"), SCRIPT_HELP)
 }

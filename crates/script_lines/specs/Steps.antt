@@ -78,11 +78,11 @@ abbrev pub have_of : List (List ℕ) → Option JobStep
 have_of (job ∷ count ∷ []) = have_with (number_of job) count
 have_of _ = None
 
--- a mark is this word alone, or no word where it is not set; other words are bad
-abbrev pub mark_of : List ℕ → List (List ℕ) → Option Bool
-mark_of mark [] = Some false
-mark_of mark (word ∷ []) = if bytes_eq word mark then Some true else None
-mark_of mark _ = None
+-- a flag is this word alone, or no word where it is not set; other words are bad
+abbrev pub flag_of : List ℕ → List (List ℕ) → Option Bool
+flag_of flag [] = Some false
+flag_of flag (word ∷ []) = if bytes_eq word flag then Some true else None
+flag_of flag _ = None
 
 abbrev pub failed_to : ℕ → Option Bool → Option JobStep
 failed_to job None = None
@@ -90,7 +90,7 @@ failed_to job (Some partner) = Some (Failed job partner)
 
 abbrev pub failed_with : Option ℕ → List (List ℕ) → Option JobStep
 failed_with None words = None
-failed_with (Some job) words = failed_to job (mark_of (codes "partner") words)
+failed_with (Some job) words = failed_to job (flag_of (codes "partner") words)
 
 -- the number of a job, and `partner` where the song that is mixed in is meant
 abbrev pub failed_of : List (List ℕ) → Option JobStep
@@ -124,7 +124,7 @@ turn_as written discarded (Some failed) = Some (Turn written discarded failed)
 
 abbrev pub turn_to : ℕ → Option ℕ → List (List ℕ) → Option Step
 turn_to written None words = None
-turn_to written (Some discarded) words = turn_as written discarded (mark_of (codes "failed") words)
+turn_to written (Some discarded) words = turn_as written discarded (flag_of (codes "failed") words)
 
 abbrev pub turn_with : Option ℕ → List ℕ → List (List ℕ) → Option Step
 turn_with None discarded words = None

@@ -1,7 +1,7 @@
 //! Steps of a script.
 ghost use Rattle.std.specs.Prelude.{◌≡◌, IfOk, map, string_bytes, Some, true};
 ghost use Rattle.mpd_text.specs.Lines.Cut.{HasNoNewline};
-ghost use Rattle.script_lines.specs.Steps.{is_uri as is_uri_lem, song_with as song_with_lem, song_of, limit_of, gone_of, scanned_of, window_of, want_of, have_of, failed_of, job_step_of, named_of, turn_of, turn_told as turn_told_lem, turn_as as turn_as_lem, mark_of, player_step_of, step_of_words, step_of};
+ghost use Rattle.script_lines.specs.Steps.{is_uri as is_uri_lem, song_with as song_with_lem, song_of, limit_of, gone_of, scanned_of, window_of, want_of, have_of, failed_of, job_step_of, named_of, turn_of, turn_told as turn_told_lem, turn_as as turn_as_lem, flag_of, player_step_of, step_of_words, step_of};
 
 use crate::cut::has;
 use crate::limit::{LimitName, number_within};
@@ -232,7 +232,7 @@ fn failed(arguments: &[String]) -> Option<JobStep>
         return None;
     };
     let job = number(job.as_str())?;
-    let partner = mark(words, "partner")?;
+    let partner = flag(words, "partner")?;
     Some(JobStep::Failed(job, partner))
 }
 
@@ -256,7 +256,7 @@ fn turn_told(words: &[String]) -> Option<Step>
     };
     let written = number(written.as_str())?;
     let discarded = number(discarded.as_str())?;
-    turn_as(written, discarded, mark(words, "failed"))
+    turn_as(written, discarded, flag(words, "failed"))
 }
 
 fn turn_as(written: u32, discarded: u32, failed: Option<bool>) -> Option<Step>
@@ -265,13 +265,13 @@ fn turn_as(written: u32, discarded: u32, failed: Option<bool>) -> Option<Step>
     Some(Step::Turn(written, discarded, failed?))
 }
 
-/// Whether a mark is set, which is this one word or none; `None` where the words are others.
-fn mark(words: &[String], mark: &str) -> Option<bool>
-    ensures { result ≡ mark_of mark.now (map string_bytes words.now) }
+/// Whether a flag is set, which is this one word or none; `None` where the words are others.
+fn flag(words: &[String], flag: &str) -> Option<bool>
+    ensures { result ≡ flag_of flag.now (map string_bytes words.now) }
 {
     match words {
         [] => Some(false),
-        [word] if word.as_str() == mark => Some(true),
+        [word] if word.as_str() == flag => Some(true),
         _ => None,
     }
 }

@@ -45,9 +45,9 @@ window_text window own = codes "! window " ++ decimal window ++ codes " " ++ dec
 abbrev pub done_text : Bool → List ℕ
 done_text done = if done then codes "! ok\n" else codes "! none\n"
 
-abbrev pub wanted_text : Option Job → List ℕ
-wanted_text None = done_text false
-wanted_text (Some job) = job_text job
+abbrev pub due_job_text : Option Job → List ℕ
+due_job_text None = done_text false
+due_job_text (Some job) = job_text job
 
 -- frames that are not fed are stale
 abbrev pub had_text : Option Feed → List ℕ
@@ -59,7 +59,7 @@ abbrev pub report_text : Report → List ℕ
 report_text Nothing = done_text true
 report_text (ToScan number) = []
 report_text (ScanEnded ended) = done_text ended
-report_text (ToDecode job) = wanted_text job
+report_text (ToDecode job) = due_job_text job
 report_text (ToFeed feed) = had_text feed
 report_text (ToPlay heard) = live_text heard
 report_text Ended = codes "! ended\n"

@@ -1,6 +1,6 @@
 //! The lines that a player's reports to the decoder, an output or the scans print.
 ghost use Rattle.std.specs.Prelude.{◌≡◌, ◌++◌, string_bytes, IfOk, OnOk};
-ghost use Rattle.script_reports.specs.Reports.{done_text, fade_text as fade_text_lem, feed_text, frames_text as frames_text_lem, had_text, job_text, live_text, moves_text as moves_text_lem, part_text as part_text_lem, report_text, wanted_text, window_text};
+ghost use Rattle.script_reports.specs.Reports.{done_text, fade_text as fade_text_lem, feed_text, frames_text as frames_text_lem, had_text, job_text, live_text, moves_text as moves_text_lem, part_text as part_text_lem, report_text, due_job_text, window_text};
 
 use player_core::{FadePart, Job};
 use player_state::{Feed, Heard, Report};
@@ -15,7 +15,7 @@ pub fn push_report(alloc: Global, shown: &mut Vec<u8>, report: Report) -> Result
         Report::Nothing => push_done(shown, true),
         Report::ToScan(_) => Ok(()),
         Report::ScanEnded(ended) => push_done(shown, ended),
-        Report::ToDecode(job) => push_wanted(alloc, shown, job),
+        Report::ToDecode(job) => push_due_job(alloc, shown, job),
         Report::ToFeed(feed) => push_had(alloc, shown, feed),
         Report::ToPlay(heard) => push_live(alloc, shown, heard),
         Report::Ended => shown.extend_from_slice(b"! ended\n"),
@@ -32,8 +32,8 @@ fn push_done(shown: &mut Vec<u8>, done: bool) -> Result<(), AllocError>
     }
 }
 
-fn push_wanted(alloc: Global, shown: &mut Vec<u8>, job: Option<Job>) -> Result<(), AllocError>
-    ensures { OnOk result (shown.new.items ≡ shown.old.items ++ wanted_text job) }
+fn push_due_job(alloc: Global, shown: &mut Vec<u8>, job: Option<Job>) -> Result<(), AllocError>
+    ensures { OnOk result (shown.new.items ≡ shown.old.items ++ due_job_text job) }
 {
     match job {
         Some(job) => push_job(alloc, shown, job),

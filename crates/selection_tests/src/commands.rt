@@ -1,5 +1,5 @@
-//! What commands ask for, as texts: a filter, an order, a window, a place and groups.
-use command_arguments::{Misread, Place, Wanted};
+//! What commands ask for, as texts: a filter, an order, a window, a position and groups.
+use command_arguments::{Criteria, Misread, Position};
 use filters::{Case, Filter, Test};
 use mpd_text::TagName;
 use selections::{
@@ -9,23 +9,23 @@ use selections::{
 use std::alloc::{AllocError, Global};
 use std::test::Fail;
 use test_songs::song;
-use test_texts::{Told, wants};
+use test_texts::{Recorder, wants};
 
 /// The lines again, which have words of a command with `|` between them, ` => `, and what is wanted of it, with
 /// what is told of it.
-fn told_of(alloc: Global, lines: &str) -> Result<String, AllocError> {
-    let mut told = Told::new(alloc);
+fn observed_of(alloc: Global, lines: &str) -> Result<String, AllocError> {
+    let mut recorder = Recorder::new(alloc);
     for line in lines.lines() {
         let (given, _) = line.split_once(" => ").unwrap_or((line, ""));
-        told.add(format_args!("{given} => "));
+        recorder.add(format_args!("{given} => "));
         let (name, rest) = given.split_once('|').unwrap_or((given, ""));
         match words(alloc, rest) {
-            Ok(words) => tell(&mut told, alloc, name, &words),
-            Err(_) => told.fail(),
+            Ok(words) => tell(&mut recorder, alloc, name, &words),
+            Err(_) => recorder.fail(),
         }
-        told.add("\n");
+        recorder.add("\n");
     }
-    told.into_text()
+    recorder.into_text()
 }
 
 fn words(alloc: Global, text: &str) -> Result<Vec<String>, AllocError> {
@@ -38,144 +38,152 @@ fn words(alloc: Global, text: &str) -> Result<Vec<String>, AllocError> {
     Ok(words)
 }
 
-fn tell(told: &mut Told, alloc: Global, name: &str, words: &[String]) {
+fn tell(recorder: &mut Recorder, alloc: Global, name: &str, words: &[String]) {
     match name {
-        "find" => tell_selected(told, alloc, selection(alloc, true, words, Test::Equals)),
-        "search" => tell_selected(told, alloc, selection(alloc, true, words, Test::Contains)),
-        "base find" => tell_selected(told, alloc, selection(alloc, false, words, Test::Equals)),
+        "find" => tell_selected(recorder, alloc, selection(alloc, true, words, Test::Equals)),
+        "search" => tell_selected(
+            recorder,
+            alloc,
+            selection(alloc, true, words, Test::Contains),
+        ),
+        "base find" => tell_selected(
+            recorder,
+            alloc,
+            selection(alloc, false, words, Test::Equals),
+        ),
         "findadd" => tell_placed(
-            told,
+            recorder,
             alloc,
             placed_selection(alloc, true, words, Test::Equals),
         ),
         "searchadd" => tell_placed(
-            told,
+            recorder,
             alloc,
             placed_selection(alloc, true, words, Test::Contains),
         ),
         "base findadd" => tell_placed(
-            told,
+            recorder,
             alloc,
             placed_selection(alloc, false, words, Test::Equals),
         ),
-        "searchaddpl" => tell_named(told, alloc, words),
-        "list" => tell_listed(told, alloc, true, words),
-        "base list" => tell_listed(told, alloc, false, words),
-        _ => tell_counted(told, alloc, words),
+        "searchaddpl" => tell_named(recorder, alloc, words),
+        "list" => tell_listed(recorder, alloc, true, words),
+        "base list" => tell_listed(recorder, alloc, false, words),
+        _ => tell_counted(recorder, alloc, words),
     }
 }
 
-fn tell_selected(told: &mut Told, alloc: Global, selected: Result<Selection, Misread>) {
+fn tell_selected(recorder: &mut Recorder, alloc: Global, selected: Result<Selection, Misread>) {
     match selected {
-        Ok(selection) => tell_selection(told, alloc, &selection),
-        Err(misread) => tell_refused(told, misread),
+        Ok(selection) => tell_selection(recorder, alloc, &selection),
+        Err(misread) => tell_refused(recorder, misread),
     }
 }
 
 fn tell_placed(
-    told: &mut Told,
+    recorder: &mut Recorder,
     alloc: Global,
-    placed: Result<(Selection, Option<Place>), Misread>,
+    placed: Result<(Selection, Option<Position>), Misread>,
 ) {
     match placed {
-        Ok((selection, place)) => {
-            tell_selection(told, alloc, &selection);
-            tell_place(told, place);
+        Ok((selection, position)) => {
+            tell_selection(recorder, alloc, &selection);
+            tell_position(recorder, position);
         }
-        Err(misread) => tell_refused(told, misread),
+        Err(misread) => tell_refused(recorder, misread),
     }
 }
 
-fn tell_named(told: &mut Told, alloc: Global, words: &[String]) {
+fn tell_named(recorder: &mut Recorder, alloc: Global, words: &[String]) {
     match name_selection(alloc, words, Test::Contains) {
         Ok((name, selection)) => {
-            told.add(format_args!("{}: ", name.as_str()));
-            tell_selection(told, alloc, &selection);
+            recorder.add(format_args!("{}: ", name.as_str()));
+            tell_selection(recorder, alloc, &selection);
         }
-        Err(misread) => tell_refused(told, misread),
+        Err(misread) => tell_refused(recorder, misread),
     }
 }
 
-fn tell_listed(told: &mut Told, alloc: Global, everyday: bool, words: &[String]) {
+fn tell_listed(recorder: &mut Recorder, alloc: Global, everyday: bool, words: &[String]) {
     match grouping(alloc, everyday, words) {
         Ok(grouping) => {
             for tag in grouping.tags.items() {
-                told.add(format_args!("{} ", tag.text()));
+                recorder.add(format_args!("{} ", tag.text()));
             }
-            tell_perhaps_wanted(told, alloc, &grouping.wanted);
+            tell_perhaps_criteria(recorder, alloc, &grouping.criteria);
         }
-        Err(misread) => tell_refused(told, misread),
+        Err(misread) => tell_refused(recorder, misread),
     }
 }
 
-fn tell_counted(told: &mut Told, alloc: Global, words: &[String]) {
+fn tell_counted(recorder: &mut Recorder, alloc: Global, words: &[String]) {
     match counting(alloc, true, words) {
         Ok(counting) => {
-            tell_perhaps_wanted(told, alloc, &counting.wanted);
+            tell_perhaps_criteria(recorder, alloc, &counting.criteria);
             if let Some(tag) = counting.group {
-                told.add(format_args!(" by {}", tag.text()));
+                recorder.add(format_args!(" by {}", tag.text()));
             }
         }
-        Err(misread) => tell_refused(told, misread),
+        Err(misread) => tell_refused(recorder, misread),
     }
 }
 
-fn tell_refused(told: &mut Told, misread: Misread) {
+fn tell_refused(recorder: &mut Recorder, misread: Misread) {
     match misread {
-        Misread::WrongNumber => told.add("wrong number"),
-        Misread::Bad(word) => told.add(format_args!("bad {}", word.as_str())),
-        Misread::NoMemory => told.add("no memory"),
+        Misread::WrongNumber => recorder.add("wrong number"),
+        Misread::Bad(word) => recorder.add(format_args!("bad {}", word.as_str())),
+        Misread::NoMemory => recorder.add("no memory"),
     }
 }
 
-fn tell_selection(told: &mut Told, alloc: Global, selection: &Selection) {
-    tell_wanted(told, alloc, &selection.wanted);
+fn tell_selection(recorder: &mut Recorder, alloc: Global, selection: &Selection) {
+    tell_criteria(recorder, alloc, &selection.criteria);
     if let Some(sort) = selection.sort {
         let way = if sort.falling { "falling" } else { "rising" };
-        told.add(format_args!(" {way} {}", sort.tag.text()));
+        recorder.add(format_args!(" {way} {}", sort.tag.text()));
     }
     if let Some(window) = selection.window {
-        told.add(format_args!(" {}:{}", window.start, window.end));
+        recorder.add(format_args!(" {}:{}", window.start, window.end));
     }
 }
 
-fn tell_place(told: &mut Told, place: Option<Place>) {
-    match place {
-        Some(Place::At(n)) => told.add(format_args!(" at {n}")),
-        Some(Place::After(n)) => told.add(format_args!(" after {n}")),
-        Some(Place::Before(n)) => told.add(format_args!(" before {n}")),
+fn tell_position(recorder: &mut Recorder, position: Option<Position>) {
+    match position {
+        Some(Position::At(n)) => recorder.add(format_args!(" at {n}")),
+        Some(Position::After(n)) => recorder.add(format_args!(" after {n}")),
+        Some(Position::Before(n)) => recorder.add(format_args!(" before {n}")),
         None => {}
     }
 }
 
-fn tell_perhaps_wanted(told: &mut Told, alloc: Global, wanted: &Option<Wanted>) {
-    match wanted {
-        Some(wanted) => tell_wanted(told, alloc, wanted),
-        None => told.add("all"),
+fn tell_perhaps_criteria(recorder: &mut Recorder, alloc: Global, criteria: &Option<Criteria>) {
+    match criteria {
+        Some(criteria) => tell_criteria(recorder, alloc, criteria),
+        None => recorder.add("all"),
     }
 }
 
 /// Adds a letter for each of two songs that meets a filter, `b` and `o`.
-fn tell_wanted(told: &mut Told, alloc: Global, wanted: &Wanted) {
-    match wanted {
-        Wanted::Meeting(filter) => {
-            told.add("songs ");
-            tell_song(told, alloc, filter, "b", "Zo\u{eb}");
-            tell_song(told, alloc, filter, "o", "Olm");
+fn tell_criteria(recorder: &mut Recorder, alloc: Global, criteria: &Criteria) {
+    match criteria {
+        Criteria::Meeting(filter) => {
+            recorder.add("songs ");
+            tell_song(recorder, alloc, filter, "b", "Zo\u{eb}");
+            tell_song(recorder, alloc, filter, "o", "Olm");
         }
-        Wanted::Refused(text) => told.add(text.as_str()),
+        Criteria::Refused(text) => recorder.add(text.as_str()),
     }
 }
 
-fn tell_song(told: &mut Told, alloc: Global, filter: &Filter, uri: &str, artist: &str) {
+fn tell_song(recorder: &mut Recorder, alloc: Global, filter: &Filter, uri: &str, artist: &str) {
     let tags = &[(TagName::Artist, artist), (TagName::Album, "One")];
     let Ok(song) = song(alloc, uri, tags, 16_000) else {
-        return told.fail();
+        return recorder.fail();
     };
     match filter.matches(&song, Case::Heeded) {
-        Ok(true) => told.add(uri),
+        Ok(true) => recorder.add(uri),
         Ok(false) => {}
-        Err(_) => told.fail(),
+        Err(_) => recorder.fail(),
     }
 }
 
@@ -347,7 +355,7 @@ fn what_words_ask_for(rt: HostRuntime) -> Result<(), Fail> {
     no_tag_is_there_twice();
     let alloc = rt.alloc();
     for table in TABLES {
-        wants(told_of(alloc, table), table)?;
+        wants(observed_of(alloc, table), table)?;
     }
     Ok(())
 }

@@ -5,7 +5,7 @@ use song_groups::{count_groups, distinct, order, push_counts, push_tuples, tuple
 use std::alloc::{AllocError, Global};
 use std::test::Fail;
 use test_songs::{Tags, song};
-use test_texts::{Told, wants, wants_made};
+use test_texts::{Recorder, wants, wants_made};
 
 /// The URI of a song, its frames and its tags.
 type Given = (&'static str, u64, Tags);
@@ -43,7 +43,7 @@ fn songs_of<'a>(alloc: Global, db: &'a Db) -> Result<Vec<&'a SharedSong>, AllocE
 
 /// Adds the URIs of all songs by a tag.
 fn tell_order(
-    told: &mut Answer,
+    observed: &mut Answer,
     alloc: Global,
     db: &Db,
     order_of: &Order,
@@ -51,46 +51,55 @@ fn tell_order(
     let mut songs = songs_of(alloc, db)?;
     order(&mut songs, order_of.0, order_of.1)?;
     for song in &songs {
-        told.pair("song", song.song().uri())?;
+        observed.pair("song", song.song().uri())?;
     }
     Ok(())
 }
 
 /// Adds the lines of the distinct tuples of all songs.
-fn tell_list(told: &mut Answer, alloc: Global, db: &Db, list: &List) -> Result<(), AllocError> {
+fn tell_list(observed: &mut Answer, alloc: Global, db: &Db, list: &List) -> Result<(), AllocError> {
     let songs = songs_of(alloc, db)?;
-    push_tuples(told, list.0, &tuples(alloc, &songs, list.1)?)
+    push_tuples(observed, list.0, &tuples(alloc, &songs, list.1)?)
 }
 
 /// Adds the lines of the counts of all songs, at the lowest rate.
-fn tell_count(told: &mut Answer, alloc: Global, db: &Db, count: &Count) -> Result<(), AllocError> {
+fn tell_count(
+    observed: &mut Answer,
+    alloc: Global,
+    db: &Db,
+    count: &Count,
+) -> Result<(), AllocError> {
     let songs = songs_of(alloc, db)?;
     let found = count_groups(alloc, &songs, count.1, &Rate::lowest())?;
-    push_counts(told, count.0, &found)
+    push_counts(observed, count.0, &found)
 }
 
 /// Adds how many distinct texts that are not empty two tags have.
-fn tell_texts(told: &mut Answer, alloc: Global, db: &Db) -> Result<(), AllocError> {
-    told.pair("artists", distinct(alloc, db.songs(), TagName::Artist)?)?;
-    told.pair("albums", distinct(alloc, db.songs(), TagName::Album)?)
+fn tell_texts(observed: &mut Answer, alloc: Global, db: &Db) -> Result<(), AllocError> {
+    observed.pair("artists", distinct(alloc, db.songs(), TagName::Artist)?)?;
+    observed.pair("albums", distinct(alloc, db.songs(), TagName::Album)?)
 }
 
 /// What is told of a library: some orders, lists and counts, and how many texts there are.
-fn told_of(alloc: Global, db: Result<Db, AllocError>, asked: &Asked) -> Result<String, AllocError> {
+fn observed_of(
+    alloc: Global,
+    db: Result<Db, AllocError>,
+    asked: &Asked,
+) -> Result<String, AllocError> {
     let db = db?;
     let (orders, lists, counts) = *asked;
-    let mut told = Answer::new(alloc);
+    let mut observed = Answer::new(alloc);
     for order in orders {
-        tell_order(&mut told, alloc, &db, order)?;
+        tell_order(&mut observed, alloc, &db, order)?;
     }
     for list in lists {
-        tell_list(&mut told, alloc, &db, list)?;
+        tell_list(&mut observed, alloc, &db, list)?;
     }
     for count in counts {
-        tell_count(&mut told, alloc, &db, count)?;
+        tell_count(&mut observed, alloc, &db, count)?;
     }
-    tell_texts(&mut told, alloc, &db)?;
-    Ok(told.into_string())
+    tell_texts(&mut observed, alloc, &db)?;
+    Ok(observed.into_string())
 }
 
 /// The library of the worked rows.
@@ -428,10 +437,10 @@ const MANY_ASKED: Asked = (
 
 /// The last artist is first. At 8,000 a second 2^64-1 frames are 2305843009213693951 thousandths, cut; and all
 /// songs are 300 times those thousandths.
-fn many_wanted(alloc: Global) -> Result<String, AllocError> {
-    let mut all = Told::new(alloc);
-    for place in 0..300u32 {
-        let number = 299u32.saturating_sub(place);
+fn many_expected(alloc: Global) -> Result<String, AllocError> {
+    let mut all = Recorder::new(alloc);
+    for index in 0..300u32 {
+        let number = 299u32.saturating_sub(index);
         all.add(format_args!("song: {number:03}.wav\n"));
     }
     for number in 0..300u32 {
@@ -447,18 +456,24 @@ fn many_wanted(alloc: Global) -> Result<String, AllocError> {
 #[test]
 fn small_and_large_libraries(rt: HostRuntime) -> Result<(), Fail> {
     let alloc = rt.alloc();
-    wants(told_of(alloc, library(alloc, ROWS), &ROWS_ASKED), ROWS_TOLD)?;
     wants(
-        told_of(alloc, library(alloc, &[]), &NO_SONGS_ASKED),
+        observed_of(alloc, library(alloc, ROWS), &ROWS_ASKED),
+        ROWS_TOLD,
+    )?;
+    wants(
+        observed_of(alloc, library(alloc, &[]), &NO_SONGS_ASKED),
         "artists: 0\nalbums: 0\n",
     )?;
     wants(
-        told_of(alloc, library(alloc, ALBUMS), &ALBUMS_ASKED),
+        observed_of(alloc, library(alloc, ALBUMS), &ALBUMS_ASKED),
         ALBUMS_TOLD,
     )?;
     wants(
-        told_of(alloc, library(alloc, TRACKS), &TRACKS_ASKED),
+        observed_of(alloc, library(alloc, TRACKS), &TRACKS_ASKED),
         TRACKS_TOLD,
     )?;
-    wants_made(told_of(alloc, many(alloc), &MANY_ASKED), many_wanted(alloc))
+    wants_made(
+        observed_of(alloc, many(alloc), &MANY_ASKED),
+        many_expected(alloc),
+    )
 }

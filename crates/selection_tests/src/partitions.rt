@@ -8,7 +8,7 @@ use partition_table::{Crossing, Greatest, Openings, Parts, opened};
 use player_state::{Client, Outputs};
 use std::alloc::{AllocError, Global};
 use std::test::Fail;
-use test_texts::{Told, wants};
+use test_texts::{Recorder, wants};
 use transitions::{Asked, Move, Stand, Transition};
 
 /// The partitions of a daemon, and its two clients.
@@ -40,7 +40,7 @@ fn outputs(alloc: Global) -> Result<Outputs, AllocError> {
 fn client(number: u32) -> Client {
     Client {
         number,
-        place: 0,
+        index: 0,
         tags: TagSet::all(),
         pending: Pending::new(),
     }
@@ -62,27 +62,27 @@ fn cross(parts: &mut Parts, crossing: Crossing) {
     }
 }
 
-/// Does it, and adds what the client at this place is answered.
-fn tell_done(told: &mut Told, daemon: &mut Daemon, at: usize, transition: Transition) {
+/// Does it, and adds what the client at this index is answered.
+fn tell_done(recorder: &mut Recorder, daemon: &mut Daemon, at: usize, transition: Transition) {
     let mut transition = transition;
     let crossing = std::mem::replace(&mut transition.crossing, Crossing::Stays);
     cross(&mut daemon.parts, crossing);
     let response = transition.into_telling().response;
-    if let Move::Enter(place) = response.moves() {
-        daemon.clients[at.min(1)].place = place;
+    if let Move::Enter(index) = response.client_move() {
+        daemon.clients[at.min(1)].index = index;
     }
-    told.add(response.into_reply().text());
+    recorder.add(response.into_reply().text());
 }
 
 fn tell_run(
-    told: &mut Told,
+    recorder: &mut Recorder,
     alloc: Global,
     daemon: &mut Daemon,
     at: usize,
     name: Name,
     command: &PartitionCommand,
 ) {
-    let own = daemon.clients[at.min(1)].place;
+    let own = daemon.clients[at.min(1)].index;
     let asked = Asked {
         client: daemon.clients[at.min(1)].number,
         tags: TagSet::all(),
@@ -99,62 +99,62 @@ fn tell_run(
         command,
     );
     match done {
-        Ok(transition) => tell_done(told, daemon, at, transition),
-        Err(_) => told.fail(),
+        Ok(transition) => tell_done(recorder, daemon, at, transition),
+        Err(_) => recorder.fail(),
     }
 }
 
-/// Adds what a line of the client at this place is answered.
-fn tell_answer(told: &mut Told, alloc: Global, daemon: &mut Daemon, at: usize, line: &str) {
+/// Adds what a line of the client at this index is answered.
+fn tell_answer(recorder: &mut Recorder, alloc: Global, daemon: &mut Daemon, at: usize, line: &str) {
     let Ok(request) = Request::of_line(alloc, line, CommandSet::base()) else {
-        return told.fail();
+        return recorder.fail();
     };
     match &request {
         Request::Run(name, Command::Partitions(command)) => {
-            tell_run(told, alloc, daemon, at, *name, command);
+            tell_run(recorder, alloc, daemon, at, *name, command);
         }
-        _ => told.add("no command of partitions\n"),
+        _ => recorder.add("no command of partitions\n"),
     }
 }
 
 /// Adds where an output is, and how.
-fn tell_output(told: &mut Told, parts: &Parts, output: usize) {
+fn tell_output(recorder: &mut Recorder, parts: &Parts, output: usize) {
     for part in parts.items() {
         if part.outputs.is_output(output) {
-            return told.add(format_args!(
+            return recorder.add(format_args!(
                 "in {}, on {}, moved {}\n",
-                part.place,
+                part.index,
                 part.outputs.is_enabled(output),
                 part.outputs.moves(output)
             ));
         }
     }
-    told.add("nowhere\n");
+    recorder.add("nowhere\n");
 }
 
 /// Adds where an output is, or the number of a partition.
-fn tell_seen(told: &mut Told, parts: &Parts, word: &str) {
+fn tell_seen(recorder: &mut Recorder, parts: &Parts, word: &str) {
     match word {
-        "0" => tell_output(told, parts, 0),
-        "1" => tell_output(told, parts, 1),
-        "2" => tell_output(told, parts, 2),
-        name => told.add(format_args!("{:?}\n", parts.place_named(name))),
+        "0" => tell_output(recorder, parts, 0),
+        "1" => tell_output(recorder, parts, 1),
+        "2" => tell_output(recorder, parts, 2),
+        name => recorder.add(format_args!("{:?}\n", parts.index_named(name))),
     }
 }
 
 /// What each line of a client is answered, or what is there to be seen, one after the other.
-fn all_told(alloc: Global, lines: &str) -> Result<String, AllocError> {
+fn all_observed(alloc: Global, lines: &str) -> Result<String, AllocError> {
     let mut daemon = opening(alloc)?;
-    let mut told = Told::new(alloc);
+    let mut recorder = Recorder::new(alloc);
     for line in lines.lines() {
         match line.split_once(' ') {
-            Some(("1", rest)) => tell_answer(&mut told, alloc, &mut daemon, 0, rest),
-            Some(("2", rest)) => tell_answer(&mut told, alloc, &mut daemon, 1, rest),
-            Some(("see", word)) => tell_seen(&mut told, &daemon.parts, word),
-            _ => told.add("no line\n"),
+            Some(("1", rest)) => tell_answer(&mut recorder, alloc, &mut daemon, 0, rest),
+            Some(("2", rest)) => tell_answer(&mut recorder, alloc, &mut daemon, 1, rest),
+            Some(("see", word)) => tell_seen(&mut recorder, &daemon.parts, word),
+            _ => recorder.add("no line\n"),
         }
     }
-    told.into_text()
+    recorder.into_text()
 }
 
 /// Names are refused first.
@@ -214,8 +214,8 @@ const SESSIONS: &[(&str, &str)] = &[
 
 #[test]
 fn partitions_come_and_go(rt: HostRuntime) -> Result<(), Fail> {
-    for (lines, wanted) in SESSIONS {
-        wants(all_told(rt.alloc(), lines), wanted)?;
+    for (lines, expected) in SESSIONS {
+        wants(all_observed(rt.alloc(), lines), expected)?;
     }
     Ok(())
 }

@@ -9,7 +9,7 @@ use song_db::{Rate, SharedSong, push_song, texts_and_length_are_the_song};
 use std::alloc::{AllocError, Global};
 use std::test::Fail;
 use test_songs::{Tags, song};
-use test_texts::{Told, wants};
+use test_texts::{Recorder, wants};
 
 /// The 31 names, in letters of which every second one is large.
 const ODD_WORDS: &str =
@@ -44,45 +44,45 @@ fn shown(name: Option<TagName>) -> &'static str {
 }
 
 /// Adds what a word names.
-fn tell_named(told: &mut Told, word: &str) {
+fn tell_named(recorder: &mut Recorder, word: &str) {
     match KnownTag::of_word(word) {
-        Some(tag) => told.add(format_args!(
+        Some(tag) => recorder.add(format_args!(
             "{}:{}:{} ",
             tag.text(),
             shown(tag.read_as()),
             shown(tag.base())
         )),
-        None => told.add("none "),
+        None => recorder.add("none "),
     }
 }
 
 /// What each of some words names.
-fn named_told(alloc: Global, words: &str) -> Result<String, AllocError> {
-    let mut told = Told::new(alloc);
+fn named_observed(alloc: Global, words: &str) -> Result<String, AllocError> {
+    let mut recorder = Recorder::new(alloc);
     for word in words.split_whitespace() {
-        tell_named(&mut told, word);
+        tell_named(&mut recorder, word);
     }
-    told.into_text()
+    recorder.into_text()
 }
 
 /// What each name names, in their order.
-fn names_told(alloc: Global) -> Result<String, AllocError> {
-    let mut told = Told::new(alloc);
+fn names_observed(alloc: Global) -> Result<String, AllocError> {
+    let mut recorder = Recorder::new(alloc);
     for tag in KNOWN_TAGS.iter() {
-        tell_named(&mut told, tag.text());
+        tell_named(&mut recorder, tag.text());
     }
-    told.into_text()
+    recorder.into_text()
 }
 
 /// The text of each known tag in a song.
-fn texts_told(alloc: Global, given: Tags) -> Result<String, AllocError> {
+fn texts_observed(alloc: Global, given: Tags) -> Result<String, AllocError> {
     let song = song(alloc, "b.wav", given, 16_000)?;
-    let mut told = Told::new(alloc);
+    let mut recorder = Recorder::new(alloc);
     for tag in KNOWN_TAGS.iter() {
         let text = tag.text_in(&song);
-        told.add(format_args!("{} ", if text.is_empty() { "-" } else { text }));
+        recorder.add(format_args!("{} ", if text.is_empty() { "-" } else { text }));
     }
-    told.into_text()
+    recorder.into_text()
 }
 
 /// For each of them the text of a song that has a text for each of the four other tags.
@@ -111,38 +111,38 @@ const SIX_TAGS: Tags = &[
 fn names_and_texts(rt: HostRuntime) -> Result<(), Fail> {
     each_name_is_read_back();
     let alloc = rt.alloc();
-    wants(named_told(alloc, ODD_WORDS), READ)?;
-    wants(names_told(alloc), READ)?;
+    wants(named_observed(alloc, ODD_WORDS), READ)?;
+    wants(names_observed(alloc), READ)?;
     let others = "Nosuch Art_ist Artis Artists any file MUSICBRAINZ_ARTIS\u{212a} Zo\u{eb}";
     wants(
-        named_told(alloc, others),
+        named_observed(alloc, others),
         "none none none none none none none none ",
     )?;
-    wants(texts_told(alloc, SIX_TAGS), TEXTS)?;
-    wants(texts_told(alloc, FOUR_TAGS), FOUR_TEXTS)
+    wants(texts_observed(alloc, SIX_TAGS), TEXTS)?;
+    wants(texts_observed(alloc, FOUR_TAGS), FOUR_TEXTS)
 }
 
 /// Adds a sign for each tag, `+` where the set has it.
-fn tell_held(told: &mut Told, set: TagSet) {
+fn tell_held(recorder: &mut Recorder, set: TagSet) {
     for name in TAG_NAMES.iter() {
-        told.add(if set.holds(*name) { "+" } else { "-" });
+        recorder.add(if set.holds(*name) { "+" } else { "-" });
     }
-    told.add(" ");
+    recorder.add(" ");
 }
 
 /// For each tag, what sets hold to which this one was added, and from which it was taken away.
-fn all_told(alloc: Global) -> Result<String, AllocError> {
-    let mut told = Told::new(alloc);
+fn all_observed(alloc: Global) -> Result<String, AllocError> {
+    let mut recorder = Recorder::new(alloc);
     for name in TAG_NAMES.iter() {
         let only = TagSet::empty().with(*name);
         let others = TagSet::all().without(*name);
-        tell_held(&mut told, only);
-        tell_held(&mut told, others);
+        tell_held(&mut recorder, only);
+        tell_held(&mut recorder, others);
         let is_whole = !others.is_all() && others.with(*name).is_all();
         let is_empty = only != others && only.without(*name) == TagSet::empty();
-        told.add(format_args!("{is_whole} {is_empty}\n"));
+        recorder.add(format_args!("{is_whole} {is_empty}\n"));
     }
-    told.into_text()
+    recorder.into_text()
 }
 
 /// The known tags that these words name.
@@ -157,7 +157,7 @@ fn named(alloc: Global, words: &str) -> Result<Vec<KnownTag>, AllocError> {
 }
 
 /// The lines of `tagtypes` of a set, and those of a song with the tags of the set, by itself and shared.
-fn set_told(
+fn set_observed(
     alloc: Global,
     song: Result<Song, AllocError>,
     set: TagSet,
@@ -177,23 +177,23 @@ fn bee(alloc: Global) -> Result<Song, AllocError> {
     song(alloc, "b.wav", tags, 16_000)
 }
 
-fn bee_told(alloc: Global, set: TagSet) -> Result<String, AllocError> {
-    set_told(alloc, bee(alloc), set)
+fn bee_observed(alloc: Global, set: TagSet) -> Result<String, AllocError> {
+    set_observed(alloc, bee(alloc), set)
 }
 
 /// The same of an empty set that the named tags join, or of the set of all that they leave.
-fn changed_told(alloc: Global, words: &str, is_joined: bool) -> Result<String, AllocError> {
+fn changed_observed(alloc: Global, words: &str, is_joined: bool) -> Result<String, AllocError> {
     let named = named(alloc, words)?;
     let set = if is_joined {
         TagSet::empty().enable(&named)
     } else {
         TagSet::all().disable(&named)
     };
-    bee_told(alloc, set)
+    bee_observed(alloc, set)
 }
 
 /// The lines that show the whole song.
-fn whole_told(alloc: Global) -> Result<String, AllocError> {
+fn whole_observed(alloc: Global) -> Result<String, AllocError> {
     let mut answer = Answer::new(alloc);
     push_song(&mut answer, &bee(alloc)?, &Rate::lowest())?;
     Ok(answer.into_string())
@@ -292,7 +292,7 @@ fn sets_and_their_songs(rt: HostRuntime) -> Result<(), Fail> {
     texts_and_length_are_the_song();
     let alloc = rt.alloc();
     wants(
-        all_told(alloc),
+        all_observed(alloc),
         "+--------- -+++++++++ true true\n\
          -+-------- +-++++++++ true true\n\
          --+------- ++-+++++++ true true\n\
@@ -304,17 +304,17 @@ fn sets_and_their_songs(rt: HostRuntime) -> Result<(), Fail> {
          --------+- ++++++++-+ true true\n\
          ---------+ +++++++++- true true\n",
     )?;
-    wants(whole_told(alloc), WHOLE)?;
-    wants(bee_told(alloc, TagSet::all()), ALL)?;
-    wants(bee_told(alloc, TagSet::base()), BASE)?;
-    wants(bee_told(alloc, TagSet::empty()), NONE)?;
-    for (is_joined, words, wanted) in CHANGES {
-        wants(changed_told(alloc, words, *is_joined), wanted)?;
+    wants(whole_observed(alloc), WHOLE)?;
+    wants(bee_observed(alloc, TagSet::all()), ALL)?;
+    wants(bee_observed(alloc, TagSet::base()), BASE)?;
+    wants(bee_observed(alloc, TagSet::empty()), NONE)?;
+    for (is_joined, words, expected) in CHANGES {
+        wants(changed_observed(alloc, words, *is_joined), expected)?;
     }
     // 18,446,744,073,709,551,615 frames, 8,000 a second, are 2,305,843,009,213,693.951875 seconds.
     let longest = song(alloc, "l.wav", &[], u64::MAX);
     wants(
-        set_told(alloc, longest, TagSet::empty()),
+        set_observed(alloc, longest, TagSet::empty()),
         "file: l.wav\nTime: 2305843009213694\nduration: 2305843009213693.951\n\
          file: l.wav\nTime: 2305843009213694\nduration: 2305843009213693.951\n",
     )

@@ -9,7 +9,7 @@ use Rattle.known_tags.specs.declared.known_tag.KnownTag.{KnownTag}
 use Rattle.known_tags.specs.KnownTags.{tag_of, text_of}
 use Rattle.command_arguments.specs.declared.readers.Misread.{Misread}
 use Rattle.command_arguments.specs.declared.readers.Misread.TheVariants.{Bad}
-use Rattle.command_arguments.specs.declared.wanted.Wanted.{Wanted}
+use Rattle.command_arguments.specs.declared.criteria.Criteria.{Criteria}
 use Rattle.command_arguments.specs.Readers.{argument_of}
 use Rattle.selections.specs.declared.asked.Grouping.{Grouping}
 use Rattle.selections.specs.Groupings.{same_tag, is_among, unless_among, other_tag_of, and_then, with_groups, tags_of, listed_filter_of, groups_start, grouped, known_grouping_of}
@@ -24,10 +24,10 @@ named_alike a b e = (bytes_eq-Decides (text_of a) (text_of b)).1 (ap (λ tag. te
 none_of_them : (tags : List KnownTag) (tag : KnownTag) → is_among tags tag ≡ false → (k : ℕ) (d : KnownTag) → k < length tags → get_or tags k d ≢ tag
 none_of_them tags tag e k d within same = both_ways (is_among tags tag) e (list_any_at (λ other. same_tag other tag) tags k d within (named_alike (get_or tags k d) tag same))
 
-abbrev told : Bool → List ℕ → KnownTag → Result KnownTag Misread
-told b word read = cond b (Err (Bad word)) (Ok read)
+abbrev checked : Bool → List ℕ → KnownTag → Result KnownTag Misread
+checked b word read = cond b (Err (Bad word)) (Ok read)
 
-read_among : (tags : List KnownTag) (read tag : KnownTag) (word : List ℕ) (b : Bool) → is_among tags read ≡ b → told b word read ≡ Ok tag → is_among tags tag ≡ false
+read_among : (tags : List KnownTag) (read tag : KnownTag) (word : List ℕ) (b : Bool) → is_among tags read ≡ b → checked b word read ≡ Ok tag → is_among tags tag ≡ false
 read_among tags read tag word true is e = cc
 read_among tags read tag word false is e =
     let same : read ≡ tag = cc in
@@ -56,10 +56,10 @@ all_tags : (groups_words : List (List ℕ)) (first : Result KnownTag Misread) (a
 all_tags words (Ok tag) all e = groups words (tag ∷ []) all (alone tag) e
 all_tags words (Err fault) all e = absurd cc
 
-parts : (wanted : Result (Option Wanted) Misread) (tags : Result (List KnownTag) Misread) (grouping : Grouping) → grouped wanted tags ≡ Ok grouping → tags ≡ Ok grouping.tags
+parts : (criteria : Result (Option Criteria) Misread) (tags : Result (List KnownTag) Misread) (grouping : Grouping) → grouped criteria tags ≡ Ok grouping → tags ≡ Ok grouping.tags
 parts (Err fault) tags grouping e = absurd cc
-parts (Ok wanted) (Err fault) grouping e = absurd cc
-parts (Ok wanted) (Ok tags) grouping e = let same : record { tags = tags; wanted = wanted } ≡ grouping = cc in ap (λ (g : Grouping). Ok g.tags) same
+parts (Ok criteria) (Err fault) grouping e = absurd cc
+parts (Ok criteria) (Ok tags) grouping e = let same : record { tags = tags; criteria = criteria } ≡ grouping = cc in ap (λ (g : Grouping). Ok g.tags) same
 
 pub distinct : (words : List (List ℕ)) (grouping : Grouping) → known_grouping_of words ≡ Ok grouping → AllPairs (λ a b. a ≢ b) grouping.tags
 unfolding known_grouping_of

@@ -12,10 +12,10 @@ apart xs name enough is =
     let all : take (length xs - 2 + 1 + 1) xs ≡ xs = take_all (length xs - 2 + 1 + 1) xs (omega arith) in
     let last : take (length xs - 2 + 1 + 1) xs ≡ take (length xs - 2 + 1) xs ++ get_or xs (length xs - 2 + 1) name ∷ [] = take_more xs (length xs - 2 + 1) name (omega arith) in
     let before : take (length xs - 2 + 1) xs ≡ take (length xs - 2) xs ++ get_or xs (length xs - 2) name ∷ [] = take_more xs (length xs - 2) name (omega arith) in
-    let place : length xs - 2 + 1 ≡ length xs - 1 = omega arith in
+    let index : length xs - 2 + 1 ≡ length xs - 1 = omega arith in
     sym all ∙ last ∙ ap (λ front. front ++ get_or xs (length xs - 2 + 1) name ∷ []) before
     ∙ append_assoc (take (length xs - 2) xs) (get_or xs (length xs - 2) name ∷ []) (get_or xs (length xs - 2 + 1) name ∷ [])
-    ∙ (λ i. take (length xs - 2) xs ++ sym is i ∷ get_or xs (place i) name ∷ [])
+    ∙ (λ i. take (length xs - 2) xs ++ sym is i ∷ get_or xs (index i) name ∷ [])
 
 mapped : {X : Type 0} → (f : X → List ℕ) (xs : List X) (name : X) → 2 ≤ length xs → name ≡ get_or xs (length xs - 2) name
     → map f xs ≡ map f (take (length xs - 2) xs) ++ f name ∷ f (get_or xs (length xs - 1) name) ∷ []
@@ -50,10 +50,10 @@ pub no_group_last : {X : Type 0} → (f : X → List ℕ) (xs : List X) (name : 
 no_group_last f xs name enough is other =
     let front = map f (take (length xs - 2) xs) in
     let tag = f (get_or xs (length xs - 1) name) in
-    let told : groups_start (map f xs) ≡ length (tag ∷ f name ∷ reverse front) =
+    let counted : groups_start (map f xs) ≡ length (tag ∷ f name ∷ reverse front) =
     ap groups_start (mapped f xs name enough is) ∙ start front (f name) tag ∙ ap (λ (b : Bool). cond b (groups_start front) (length (tag ∷ f name ∷ reverse front))) other in
-    let turned : length (tag ∷ f name ∷ reverse front) ≡ length (map f xs) = sym (ap length (reversed front (f name) tag)) ∙ length-reverse (front ++ f name ∷ tag ∷ []) ∙ sym (ap length (mapped f xs name enough is)) in
-    sym (told ∙ turned ∙ length-map xs f)
+    let reversed_length : length (tag ∷ f name ∷ reverse front) ≡ length (map f xs) = sym (ap length (reversed front (f name) tag)) ∙ length-reverse (front ++ f name ∷ tag ∷ []) ∙ sym (ap length (mapped f xs name enough is)) in
+    sym (counted ∙ reversed_length ∙ length-map xs f)
 
 -- one word or none is before no group
 pub few_words : {X : Type 0} → (f : X → List ℕ) (xs : List X) → length xs < 2 → length xs ≡ groups_start (map f xs)

@@ -12,8 +12,8 @@ long front name argument = length-append front (name ∷ argument ∷ [])
 ends : (name : List ℕ) (least : ℕ) (front : List (List ℕ)) (argument : List ℕ) → least ≤ length front → ends_in name least (front ++ name ∷ argument ∷ []) ≡ true
 ends name least front argument enough =
     let whole = long front name argument in
-    let place : get_or (front ++ name ∷ argument ∷ []) (length (front ++ name ∷ argument ∷ []) - 2) [] ≡ name = get_or_at front name (argument ∷ []) [] _ (omega (arith, whole)) in
-    and_from _ _ (le-leb (least + 2) (length (front ++ name ∷ argument ∷ [])) (omega (arith, whole))) (ap (λ (found : List ℕ). bytes_eq found name) place ∙ (bytes_eq-Decides name name).1 refl)
+    let is_name : get_or (front ++ name ∷ argument ∷ []) (length (front ++ name ∷ argument ∷ []) - 2) [] ≡ name = get_or_at front name (argument ∷ []) [] _ (omega (arith, whole)) in
+    and_from _ _ (le-leb (least + 2) (length (front ++ name ∷ argument ∷ [])) (omega (arith, whole))) (ap (λ (found : List ℕ). bytes_eq found name) is_name ∙ (bytes_eq-Decides name name).1 refl)
 
 front_is : (name : List ℕ) (least : ℕ) (front : List (List ℕ)) (argument : List ℕ) → least ≤ length front → front_length name least (front ++ name ∷ argument ∷ []) ≡ length front
 front_is name least front argument enough =

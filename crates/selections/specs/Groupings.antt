@@ -13,10 +13,10 @@ use Rattle.mpd_text.specs.declared.songs.song.TagName.{TagName}
 use Rattle.mpd_text.specs.declared.songs.song.TagName.TheVariants as base
 use Rattle.command_arguments.specs.Forms.{tag_of as base_tag_of}
 use Rattle.command_arguments.specs.Readers.{map_ok, argument_of, both}
-use Rattle.command_arguments.specs.Wanted.{filter_of, is_alone, one_filter_of, perhaps_filter_of}
+use Rattle.command_arguments.specs.Criteria.{filter_of, is_alone, one_filter_of, perhaps_filter_of}
 use Rattle.command_arguments.specs.declared.readers.Misread.{Misread}
 use Rattle.command_arguments.specs.declared.readers.Misread.TheVariants.{WrongNumber, Bad}
-use Rattle.command_arguments.specs.declared.wanted.Wanted.{Wanted}
+use Rattle.command_arguments.specs.declared.criteria.Criteria.{Criteria}
 use Rattle.selections.specs.Options.{before, option_words, option_of}
 use Rattle.selections.specs.declared.asked.Counting.{Counting}
 use Rattle.selections.specs.declared.asked.Grouping.{Grouping}
@@ -80,12 +80,12 @@ is_artist first (text ∷ []) [] = names_album (tag_of first) && not (is_alone t
 is_artist first _ _ = false
 
 -- FILTER or nothing, before the groups; `list album TEXT` is `list album artist TEXT`
-abbrev pub listed_filter_of : List ℕ → List (List ℕ) → List (List ℕ) → Result (Option Wanted) Misread
+abbrev pub listed_filter_of : List ℕ → List (List ℕ) → List (List ℕ) → Result (Option Criteria) Misread
 listed_filter_of first front groups = perhaps_filter_of Known Equals (if is_artist first front groups then codes "artist" ∷ front else front)
 
 -- a filter, whose number of words comes first, and the tags
-abbrev pub grouped : Result (Option Wanted) Misread → Result (List KnownTag) Misread → Result Grouping Misread
-grouped wanted tags = map_ok (λ p. record { tags = p.1; wanted = p.0 }) (both wanted tags)
+abbrev pub grouped : Result (Option Criteria) Misread → Result (List KnownTag) Misread → Result Grouping Misread
+grouped criteria tags = map_ok (λ p. record { tags = p.1; criteria = p.0 }) (both criteria tags)
 
 -- TAG [FILTER] [group TAG]...
 unfoldable pub known_grouping_of : List (List ℕ) → Result Grouping Misread
@@ -100,7 +100,7 @@ TagsDiffer = (words : List (List ℕ)) (grouping : Grouping) → known_grouping_
 -- [FILTER] [group TAG]
 abbrev pub counted_of : List (List ℕ) → Result Counting Misread
 counted_of words =
-    map_ok (λ p. record { group = p.1; wanted = p.0 })
+    map_ok (λ p. record { group = p.1; criteria = p.0 })
     (both (perhaps_filter_of Known Equals (before (codes "group") 0 words)) (option_of tag_of (option_words (codes "group") 0 words)))
 
 -- [FILTER] [group TAG], and one of both at least
@@ -123,11 +123,11 @@ known_as base.Composer = known.Composer
 
 -- TAG [FILTER], as the base profile has it
 abbrev pub base_grouping_of : List (List ℕ) → Result Grouping Misread
-base_grouping_of words = map_ok (λ p. record { tags = known_as p.0 ∷ []; wanted = p.1 }) (one_filter_of base_tag_of Base Equals words)
+base_grouping_of words = map_ok (λ p. record { tags = known_as p.0 ∷ []; criteria = p.1 }) (one_filter_of base_tag_of Base Equals words)
 
 -- FILTER, as the base profile has it
 abbrev pub base_counting_of : List (List ℕ) → Result Counting Misread
-base_counting_of words = map_ok (λ wanted. record { group = None; wanted = Some wanted }) (filter_of Base Equals words)
+base_counting_of words = map_ok (λ criteria. record { group = None; criteria = Some criteria }) (filter_of Base Equals words)
 
 -- `list`: TAG [FILTER] [group TAG]... in the everyday profile
 unfoldable pub grouping_of : Bool → List (List ℕ) → Result Grouping Misread

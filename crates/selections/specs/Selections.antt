@@ -3,41 +3,41 @@
 use Rattle.std.specs.Prelude.{◌≡◌, ℕ, Bool, true, false, List, [], ◌∷◌, ◌++◌, Option, Some, None, Result, Err, codes}
 use Rattle.filters.specs.declared.expression.Test.{Test}
 use Rattle.filters.specs.declared.words.Vocabulary.TheVariants.{Base, Known}
-use Rattle.command_arguments.specs.Forms.{place_of, window_of}
+use Rattle.command_arguments.specs.Forms.{position_of, window_of}
 use Rattle.command_arguments.specs.Readers.{map_ok, argument_of, both}
-use Rattle.command_arguments.specs.Wanted.{filter_of, filter_window_of}
-use Rattle.command_arguments.specs.declared.forms.Place.{Place}
+use Rattle.command_arguments.specs.Criteria.{filter_of, filter_window_of}
+use Rattle.command_arguments.specs.declared.forms.Position.{Position}
 use Rattle.command_arguments.specs.declared.forms.Window.{Window}
 use Rattle.command_arguments.specs.declared.readers.Misread.{Misread}
 use Rattle.command_arguments.specs.declared.readers.Misread.TheVariants.{WrongNumber}
-use Rattle.command_arguments.specs.declared.wanted.Wanted.{Wanted}
+use Rattle.command_arguments.specs.declared.criteria.Criteria.{Criteria}
 use Rattle.selections.specs.Options.{sort_of, before, option_words, option_of}
 use Rattle.selections.specs.declared.asked.Selection.{Selection}
 use Rattle.selections.specs.declared.sort_by.SortBy.{SortBy}
 
 -- FILTER [sort [-]TAG]
-abbrev pub sorted_of : Test → List (List ℕ) → Result (Wanted × Option SortBy) Misread
+abbrev pub sorted_of : Test → List (List ℕ) → Result (Criteria × Option SortBy) Misread
 sorted_of test words = both (filter_of Known test (before (codes "sort") 1 words)) (option_of sort_of (option_words (codes "sort") 1 words))
 
 -- a filter with its order, and then a window
-abbrev pub with_window : Result ((Wanted × Option SortBy) × Option Window) Misread → Result Selection Misread
-with_window r = map_ok (λ p. record { wanted = p.0.0; sort = p.0.1; window = p.1 }) r
+abbrev pub with_window : Result ((Criteria × Option SortBy) × Option Window) Misread → Result Selection Misread
+with_window r = map_ok (λ p. record { criteria = p.0.0; sort = p.0.1; window = p.1 }) r
 
 -- SELECTION: FILTER [sort [-]TAG] [window START:END]
 abbrev pub windowed_of : Test → List (List ℕ) → Result Selection Misread
 windowed_of test words = with_window (both (sorted_of test (before (codes "window") 1 words)) (option_of window_of (option_words (codes "window") 1 words)))
 
 -- SELECTION [position POSITION]
-abbrev pub known_placed_of : Test → List (List ℕ) → Result (Selection × Option Place) Misread
-known_placed_of test words = both (windowed_of test (before (codes "position") 1 words)) (option_of place_of (option_words (codes "position") 1 words))
+abbrev pub known_placed_of : Test → List (List ℕ) → Result (Selection × Option Position) Misread
+known_placed_of test words = both (windowed_of test (before (codes "position") 1 words)) (option_of position_of (option_words (codes "position") 1 words))
 
 -- FILTER [WINDOW], as the base profile has it
 abbrev pub base_selection_of : Test → List (List ℕ) → Result Selection Misread
-base_selection_of test words = map_ok (λ p. record { wanted = p.0; sort = None; window = p.1 }) (filter_window_of Base test words)
+base_selection_of test words = map_ok (λ p. record { criteria = p.0; sort = None; window = p.1 }) (filter_window_of Base test words)
 
 -- FILTER, as the base profile has it
-abbrev pub base_placed_of : Test → List (List ℕ) → Result (Selection × Option Place) Misread
-base_placed_of test words = map_ok (λ wanted. (record { wanted = wanted; sort = None; window = None }, None)) (filter_of Base test words)
+abbrev pub base_placed_of : Test → List (List ℕ) → Result (Selection × Option Position) Misread
+base_placed_of test words = map_ok (λ criteria. (record { criteria = criteria; sort = None; window = None }, None)) (filter_of Base test words)
 
 -- `find` and `search`: SELECTION in the everyday profile
 unfoldable pub selection_of : Bool → Test → List (List ℕ) → Result Selection Misread
@@ -45,7 +45,7 @@ selection_of true test words = windowed_of test words
 selection_of false test words = base_selection_of test words
 
 -- `findadd` and `searchadd`: SELECTION [position POSITION] in the everyday profile
-unfoldable pub placed_selection_of : Bool → Test → List (List ℕ) → Result (Selection × Option Place) Misread
+unfoldable pub placed_selection_of : Bool → Test → List (List ℕ) → Result (Selection × Option Position) Misread
 placed_selection_of true test words = known_placed_of test words
 placed_selection_of false test words = base_placed_of test words
 
@@ -68,4 +68,4 @@ SortIsRead = (test : Test) (word argument : List ℕ) (words : List (List ℕ))
 -- and `position ARGUMENT`, which comes after a selection
 abbrev pub PositionIsRead : Type 0
 PositionIsRead = (test : Test) (word argument : List ℕ) (words : List (List ℕ))
-    → placed_selection_of true test (word ∷ words ++ codes "position" ∷ argument ∷ []) ≡ both (selection_of true test (word ∷ words)) (map_ok Some (argument_of place_of argument))
+    → placed_selection_of true test (word ∷ words ++ codes "position" ∷ argument ∷ []) ≡ both (selection_of true test (word ∷ words)) (map_ok Some (argument_of position_of argument))

@@ -1,7 +1,7 @@
 //! What `list` and `count` ask for: a filter or none, and the tags that group the answer.
 ghost use Rattle.std.specs.Prelude.{◌≡◌, ◌≤◌, ◌∷◌, [], codes, length, map, string_bytes};
 ghost use Rattle.command_arguments.specs.Readers.{Gives};
-ghost use Rattle.command_arguments.specs.Wanted.{filter_of};
+ghost use Rattle.command_arguments.specs.Criteria.{filter_of};
 ghost use Rattle.known_tags.specs.KnownTags.{tag_of};
 ghost use Rattle.filters.specs.declared.expression.Test.TheVariants.{Equals};
 ghost use Rattle.filters.specs.declared.words.Vocabulary.TheVariants.{Known};
@@ -9,7 +9,9 @@ ghost use Rattle.selections.specs.Groupings.{groups_start as groups_start_lem, n
 
 use crate::asked::{Counting, Grouping};
 use crate::options::{front_length, option_argument};
-use command_arguments::{Misread, Wanted, filter, is_alone, one_filter, perhaps_filter, read_word};
+use command_arguments::{
+    Criteria, Misread, filter, is_alone, one_filter, perhaps_filter, read_word,
+};
 use filters::{Test, Vocabulary};
 use known_tags::KnownTag;
 use mpd_text::{Sequence, TagName, Text};
@@ -44,10 +46,10 @@ pub fn counting(alloc: Global, everyday: bool, words: &[String]) -> Result<Count
 fn base_grouping(alloc: Global, words: &[String]) -> Result<Grouping, Misread>
     ensures { Gives result (base_grouping_of (map string_bytes words.now)) }
 {
-    let (name, wanted) = one_filter(alloc, Vocabulary::Base, words, Test::Equals)?;
+    let (name, criteria) = one_filter(alloc, Vocabulary::Base, words, Test::Equals)?;
     let mut tags = Sequence::new(alloc);
     tags.push(known_as(name))?;
-    Ok(Grouping { tags, wanted })
+    Ok(Grouping { tags, criteria })
 }
 
 /// A tag of songs among the known tags.
@@ -72,10 +74,10 @@ fn known_as(name: TagName) -> KnownTag
 fn base_counting(alloc: Global, words: &[String]) -> Result<Counting, Misread>
     ensures { Gives result (base_counting_of (map string_bytes words.now)) }
 {
-    let wanted = filter(alloc, Vocabulary::Base, words, Test::Equals)?;
+    let criteria = filter(alloc, Vocabulary::Base, words, Test::Equals)?;
     Ok(Counting {
         group: None,
-        wanted: Some(wanted),
+        criteria: Some(criteria),
     })
 }
 
@@ -88,9 +90,9 @@ fn known_grouping(alloc: Global, words: &[String]) -> Result<Grouping, Misread>
         return Err(Misread::WrongNumber);
     };
     let (front, groups) = rest.split_at(groups_start(rest));
-    let wanted = listed_filter(alloc, first.as_str(), front, groups)?;
+    let criteria = listed_filter(alloc, first.as_str(), front, groups)?;
     let tags = tags(alloc, first.as_str(), groups)?;
-    Ok(Grouping { tags, wanted })
+    Ok(Grouping { tags, criteria })
 }
 
 /// The law that no tag of a grouping is there twice.
@@ -114,9 +116,9 @@ fn counted(alloc: Global, words: &[String]) -> Result<Counting, Misread>
     ensures { Gives result (counted_of (map string_bytes words.now)) }
 {
     let (front, back) = words.split_at(front_length("group", 0, words));
-    let wanted = perhaps_filter(alloc, Vocabulary::Known, front, Test::Equals)?;
+    let criteria = perhaps_filter(alloc, Vocabulary::Known, front, Test::Equals)?;
     let group = option_argument(alloc, back)?;
-    Ok(Counting { group, wanted })
+    Ok(Counting { group, criteria })
 }
 
 /// How many words are before the groups at the end.
@@ -140,7 +142,7 @@ fn listed_filter(
     first: &str,
     front: &[String],
     groups: &[String],
-) -> Result<Option<Wanted>, Misread>
+) -> Result<Option<Criteria>, Misread>
     ensures { Gives result (listed_filter_of first.now (map string_bytes front.now) (map string_bytes groups.now)) }
 {
     match front {
@@ -152,7 +154,7 @@ fn listed_filter(
 }
 
 /// The songs of an artist.
-fn by_artist(alloc: Global, name: &str) -> Result<Wanted, Misread>
+fn by_artist(alloc: Global, name: &str) -> Result<Criteria, Misread>
     ensures { Gives result (filter_of Known Equals (codes "artist" ∷ name.now ∷ [])) }
 {
     let words = [

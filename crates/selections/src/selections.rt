@@ -7,7 +7,7 @@ ghost use Rattle.selections.specs.Selections.{base_selection_of, base_placed_of,
 use crate::asked::Selection;
 use crate::options::{front_length, option_argument};
 use crate::sort_by::SortBy;
-use command_arguments::{Misread, Place, Wanted, filter, filter_window};
+use command_arguments::{Criteria, Misread, Position, filter, filter_window};
 use filters::{Test, Vocabulary};
 use mpd_text::Text;
 use std::alloc::Global;
@@ -29,7 +29,7 @@ pub fn selection(
     }
 }
 
-/// `findadd` and `searchadd`: SELECTION, and perhaps the place in the queue; in the base profile FILTER
+/// `findadd` and `searchadd`: SELECTION, and perhaps the position in the queue; in the base profile FILTER
 /// alone.
 #[tactic(auto, unfolding(crate::specs::Selections::placed_selection_of))]
 pub fn placed_selection(
@@ -37,7 +37,7 @@ pub fn placed_selection(
     everyday: bool,
     words: &[String],
     test: Test,
-) -> Result<(Selection, Option<Place>), Misread>
+) -> Result<(Selection, Option<Position>), Misread>
     ensures { Gives result (placed_selection_of everyday test (map string_bytes words.now)) }
 {
     if everyday {
@@ -68,9 +68,9 @@ pub fn name_selection(
 fn base_selection(alloc: Global, words: &[String], test: Test) -> Result<Selection, Misread>
     ensures { Gives result (base_selection_of test (map string_bytes words.now)) }
 {
-    let (wanted, window) = filter_window(alloc, Vocabulary::Base, words, test)?;
+    let (criteria, window) = filter_window(alloc, Vocabulary::Base, words, test)?;
     Ok(Selection {
-        wanted,
+        criteria,
         sort: None,
         window,
     })
@@ -81,12 +81,12 @@ fn base_placed(
     alloc: Global,
     words: &[String],
     test: Test,
-) -> Result<(Selection, Option<Place>), Misread>
+) -> Result<(Selection, Option<Position>), Misread>
     ensures { Gives result (base_placed_of test (map string_bytes words.now)) }
 {
-    let wanted = filter(alloc, Vocabulary::Base, words, test)?;
+    let criteria = filter(alloc, Vocabulary::Base, words, test)?;
     let selection = Selection {
-        wanted,
+        criteria,
         sort: None,
         window: None,
     };
@@ -94,13 +94,17 @@ fn base_placed(
 }
 
 /// FILTER, and perhaps the order.
-fn sorted(alloc: Global, words: &[String], test: Test) -> Result<(Wanted, Option<SortBy>), Misread>
+fn sorted(
+    alloc: Global,
+    words: &[String],
+    test: Test,
+) -> Result<(Criteria, Option<SortBy>), Misread>
     ensures { Gives result (sorted_of test (map string_bytes words.now)) }
 {
     let (front, back) = words.split_at(front_length("sort", 1, words));
-    let wanted = filter(alloc, Vocabulary::Known, front, test)?;
+    let criteria = filter(alloc, Vocabulary::Known, front, test)?;
     let sort = option_argument(alloc, back)?;
-    Ok((wanted, sort))
+    Ok((criteria, sort))
 }
 
 /// SELECTION.
@@ -108,27 +112,27 @@ fn windowed(alloc: Global, words: &[String], test: Test) -> Result<Selection, Mi
     ensures { Gives result (windowed_of test (map string_bytes words.now)) }
 {
     let (front, back) = words.split_at(front_length("window", 1, words));
-    let (wanted, sort) = sorted(alloc, front, test)?;
+    let (criteria, sort) = sorted(alloc, front, test)?;
     let window = option_argument(alloc, back)?;
     Ok(Selection {
-        wanted,
+        criteria,
         sort,
         window,
     })
 }
 
-/// SELECTION, and perhaps the place in the queue.
+/// SELECTION, and perhaps the position in the queue.
 fn known_placed(
     alloc: Global,
     words: &[String],
     test: Test,
-) -> Result<(Selection, Option<Place>), Misread>
+) -> Result<(Selection, Option<Position>), Misread>
     ensures { Gives result (known_placed_of test (map string_bytes words.now)) }
 {
     let (front, back) = words.split_at(front_length("position", 1, words));
     let selection = windowed(alloc, front, test)?;
-    let place = option_argument(alloc, back)?;
-    Ok((selection, place))
+    let position = option_argument(alloc, back)?;
+    Ok((selection, position))
 }
 
 /// The law that an option at the end is read from its argument, and the rest from the words before it, of

@@ -1,3 +1,3 @@
 pub mod Inboxes
-pub mod Places
+pub mod Slots
 pub mod Rounds

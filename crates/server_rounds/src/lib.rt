@@ -3,11 +3,11 @@
 #![tactic(auto)]
 
 mod inbox;
-mod place;
 mod rounds;
+mod slot;
 mod step;
 
 pub use inbox::Inbox;
-pub use place::{Arrival, ClosedTurn, OpenTurn, Turn};
 pub use rounds::Rounds;
+pub use slot::{Arrival, ClosedTurn, OpenTurn, Turn};
 pub use step::Step;

@@ -1,19 +1,19 @@
-//! The places of a server's clients, and how far its round is.
+//! The slots of a server's clients, and how far its round is.
 ghost use Rattle.std.specs.Prelude.{◌≡◌, ◌<◌, ◌↔◌, ℕ, false, true, length, slice_index_or, IfSome, MatchOption};
 ghost use Rattle.std.specs.List.{list_any};
-ghost use Rattle.server_rounds.specs.Places.{is_looked_at as is_looked_at_lem, is_ready as is_ready_lem, may_wait as may_wait_lem};
+ghost use Rattle.server_rounds.specs.Slots.{is_looked_at as is_looked_at_lem, is_ready as is_ready_lem, may_wait as may_wait_lem};
 ghost use Rattle.server_rounds.specs.Rounds.{HasTurnFrom, IsCalledAmong, IsCalledFrom, IsLeast, IsNobody, WaitsAmong, comes_later as comes_later_lem, may_come as may_come_lem};
 
-use crate::place::{
-    Arrival, Place, Turn, arrived, has_socket, has_turn, heard, is_free, is_looked_at, is_ready,
-    may_read, may_wait, owes_notice, place_after, time_left, told,
+use crate::slot::{
+    Arrival, SlotState, Turn, arrived, has_socket, has_turn, heard, is_free, is_looked_at,
+    is_ready, may_read, may_wait, owes_notice, state_after, time_left, told,
 };
 use crate::step::{ListenerState, Phase, Step};
 use std::marker::Model;
 use std::time::Instant;
 
-/// How many places there are.
-const PLACES: usize = 64;
+/// How many slots there are.
+const SLOTS: usize = 64;
 
 /// The most clients that are let in in one round.
 const MAX_LET_IN: u32 = 64;
@@ -22,7 +22,7 @@ const MAX_LET_IN: u32 = 64;
 /// not tell.
 const SHORT_SLEEP: u64 = 50;
 
-/// A server of sockets, without them: who has which of 64 places, whether a client waits to be let in, and how far
+/// A server of sockets, without them: who has which of 64 slots, whether a client waits to be let in, and how far
 /// the round is. A caller does the steps, and says what came of them.
 ///
 /// In each round clients are let in first. Then every client that sent something, or whose socket takes bytes
@@ -30,7 +30,7 @@ const SHORT_SLEEP: u64 = 50;
 /// others one turn's worth, and one that does not read costs them nothing.
 #[derive(Drop)]
 pub struct Rounds {
-    places: [Place; 64],
+    slots: [SlotState; 64],
     /// Those for which a notice waits.
     called: [bool; 64],
     listener: ListenerState,
@@ -45,22 +45,22 @@ impl Model for Rounds {
 
     ghost Value = { RoundsData };
 
-    ghost view = { λ r. record { places = r.places; called = r.called; listener = r.listener; is_woken = r.is_woken; phase = r.phase } };
+    ghost view = { λ r. record { slots = r.slots; called = r.called; listener = r.listener; is_woken = r.is_woken; phase = r.phase } };
 
-    ghost invariant = { λ r. (length r.places ≡ 64) × (length r.called ≡ 64) };
+    ghost invariant = { λ r. (length r.slots ≡ 64) × (length r.called ≡ 64) };
 }
 
 impl Rounds {
     ghost use Rattle.std.specs.Prelude.{◌≡◌, ◌<◌, ◌↔◌, ℕ, MatchOption};
-    ghost use Rattle.server_rounds.specs.Places.{arrived as arrived_lem, has_socket as has_socket_lem, may_read as may_read_lem, owes_notice as owes_notice_lem, told as told_lem};
-    ghost use Rattle.server_rounds.specs.Rounds.{EndsTurn, IsCalled, IsCalledBy, IsFreeAt, IsFrom, IsLeast, IsNext, IsNobody, LetsIn, after, heard_from, is_at_once as is_at_once_lem, is_soon as is_soon_lem, longest_sleep as longest_sleep_lem, nobody_came as nobody_came_lem, opening, place_of, with_place, woken};
+    ghost use Rattle.server_rounds.specs.Slots.{arrived as arrived_lem, has_socket as has_socket_lem, may_read as may_read_lem, owes_notice as owes_notice_lem, told as told_lem};
+    ghost use Rattle.server_rounds.specs.Rounds.{EndsTurn, IsCalled, IsCalledBy, IsFreeAt, IsFrom, IsLeast, IsNext, IsNobody, LetsIn, after, heard_from, is_at_once as is_at_once_lem, is_soon as is_soon_lem, longest_sleep as longest_sleep_lem, nobody_came as nobody_came_lem, opening, state_of, with_state, woken};
 
     /// A server that serves nobody yet, and is told of notices by nobody.
     pub fn new() -> Rounds
         ensures { result ≡ opening }
     {
         Rounds {
-            places: [Place::Free; 64],
+            slots: [SlotState::Free; 64],
             called: [false; 64],
             listener: ListenerState::Ready,
             is_woken: false,
@@ -76,14 +76,14 @@ impl Rounds {
     }
 
     /// The system tells of the socket with this number, and perhaps that its peer ends. The listener has number 0, the
-    /// clients' sockets those of their places and one more; others are none of these.
+    /// clients' sockets those of their slots and one more; others are none of these.
     pub fn hear(&mut self, number: usize, is_ending: bool)
         ensures { self.new ≡ heard_from self.old number is_ending }
     {
         if number == 0 {
             self.listener = ListenerState::Ready;
-        } else if number <= PLACES {
-            self.places[number - 1] = heard(self.places[number - 1], is_ending);
+        } else if number <= SLOTS {
+            self.slots[number - 1] = heard(self.slots[number - 1], is_ending);
         }
     }
 
@@ -115,7 +115,7 @@ impl Rounds {
         Step::LetIn
     }
 
-    /// The next turn, of the places from one on; after all of them it is asked for notices.
+    /// The next turn, of the slots from one on; after all of them it is asked for notices.
     fn turn(&mut self, from: usize) -> Step
         requires none_to_let_in { LetsIn self.old.phase self.old → ⊥ }
         requires phase { IsFrom self.old.phase from }
@@ -123,11 +123,11 @@ impl Rounds {
         ensures new { self.new ≡ after self.old result }
         ensures within { (slot : ℕ) → result ≡ Step.Visit slot → slot < 64 }
     {
-        if let Some(slot) = next_turn(&self.places, from) {
+        if let Some(slot) = next_turn(&self.slots, from) {
             self.phase = Phase::Turns(slot + 1);
             return Step::Visit(slot);
         }
-        if any_may_wait(&self.places) {
+        if any_may_wait(&self.slots) {
             self.called = [false; 64];
             self.phase = Phase::Notices(0);
             return Step::Ask;
@@ -135,7 +135,7 @@ impl Rounds {
         self.rest()
     }
 
-    /// The next client that is called, of the places from one on.
+    /// The next client that is called, of the slots from one on.
     fn notice(&mut self, from: usize) -> Step
         requires { self.old.phase ≡ Phase.Notices from }
         ensures next { IsNext self.old result }
@@ -176,29 +176,29 @@ impl Rounds {
     fn is_at_once(&self) -> bool
         ensures { result ≡ is_at_once_lem self.now }
     {
-        may_come(self.listener) || any_is_ready(&self.places)
+        may_come(self.listener) || any_is_ready(&self.slots)
     }
 
     /// Whether there is something to do soon, of which the system does not tell.
     fn is_soon(&self) -> bool
         ensures { result ≡ is_soon_lem self.now }
     {
-        comes_later(self.listener) || any_is_looked_at(&self.places, self.is_woken)
+        comes_later(self.listener) || any_is_looked_at(&self.slots, self.is_woken)
     }
 
-    /// The place for a client that is to be let in: the first that nobody has.
-    pub fn free_place(&self) -> Option<usize>
+    /// The slot for a client that is to be let in: the first that nobody has.
+    pub fn free_slot(&self) -> Option<usize>
         ensures { MatchOption result (IsNobody (IsFreeAt self.now)) (λ slot. IsLeast (IsFreeAt self.now) slot) }
     {
-        self.places.iter().position(|place| is_free(*place))
+        self.slots.iter().position(|state| is_free(*state))
     }
 
-    /// A free place is given to a client, or not.
+    /// A free slot is given to a client, or not.
     pub fn arrive(&mut self, slot: usize, arrival: Arrival)
         requires { IsFreeAt self.old slot }
-        ensures { self.new ≡ with_place self.old slot (arrived_lem arrival) }
+        ensures { self.new ≡ with_state self.old slot (arrived_lem arrival) }
     {
-        self.places[slot] = arrived(arrival);
+        self.slots[slot] = arrived(arrival);
     }
 
     /// The listener gave no client: none waits, or one could not be let in.
@@ -220,36 +220,36 @@ impl Rounds {
         ensures frame { self.new ≡ record self.old { called = self.new.called } }
         ensures called { (slot : ℕ) → slot < 64 → IsCalled self.new slot ↔ IsCalledBy self.old clients.now slot }
     {
-        self.called = called_in(&self.places, clients);
+        self.called = called_in(&self.slots, clients);
     }
 
     /// Whether the socket of a client is read in its turn.
     pub fn may_read(&self, slot: usize) -> bool
-        ensures { result ≡ may_read_lem (place_of self.now slot) }
+        ensures { result ≡ may_read_lem (state_of self.now slot) }
     {
-        slot < PLACES && may_read(self.places[slot])
+        slot < SLOTS && may_read(self.slots[slot])
     }
 
-    /// Whether there is a socket to a place; where there is none, it is let go.
+    /// Whether there is a socket to a slot; where there is none, it is let go.
     pub fn has_socket(&self, slot: usize) -> bool
-        ensures { result ≡ has_socket_lem (place_of self.now slot) }
+        ensures { result ≡ has_socket_lem (state_of self.now slot) }
     {
-        slot < PLACES && has_socket(self.places[slot])
+        slot < SLOTS && has_socket(self.slots[slot])
     }
 
-    /// Whether the player is to be told that the client of a place is gone.
+    /// Whether the player is to be told that the client of a slot is gone.
     pub fn owes_notice(&self, slot: usize) -> bool
-        ensures { result ≡ owes_notice_lem (place_of self.now slot) }
+        ensures { result ≡ owes_notice_lem (state_of self.now slot) }
     {
-        slot < PLACES && owes_notice(self.places[slot])
+        slot < SLOTS && owes_notice(self.slots[slot])
     }
 
-    /// The player was told that the client of a place is gone.
+    /// The player was told that the client of a slot is gone.
     pub fn tell(&mut self, slot: usize)
-        ensures { self.new ≡ with_place self.old slot (told_lem (place_of self.old slot)) }
+        ensures { self.new ≡ with_state self.old slot (told_lem (state_of self.old slot)) }
     {
-        if slot < PLACES {
-            self.places[slot] = told(self.places[slot]);
+        if slot < SLOTS {
+            self.slots[slot] = told(self.slots[slot]);
         }
     }
 
@@ -258,12 +258,12 @@ impl Rounds {
         requires { slot < 64 }
         ensures { EndsTurn self.old slot turn now self.new }
     {
-        let place = self.places[slot];
-        let left = time_left(place, now);
+        let state = self.slots[slot];
+        let left = time_left(state, now);
         if let Turn::Killed = turn {
             self.phase = Phase::Over;
         } else {
-            self.places[slot] = place_after(place, turn, left);
+            self.slots[slot] = state_after(state, turn, left);
         }
     }
 }
@@ -282,38 +282,38 @@ fn comes_later(listener: ListenerState) -> bool
     matches!(listener, ListenerState::TryLater)
 }
 
-fn any_is_ready(places: &[Place]) -> bool
-    ensures { result ≡ list_any is_ready_lem places.now }
+fn any_is_ready(slots: &[SlotState]) -> bool
+    ensures { result ≡ list_any is_ready_lem slots.now }
 {
-    places.iter().any(|place| is_ready(*place))
+    slots.iter().any(|slot| is_ready(*slot))
 }
 
-fn any_may_wait(places: &[Place]) -> bool
-    ensures { result ≡ list_any may_wait_lem places.now }
+fn any_may_wait(slots: &[SlotState]) -> bool
+    ensures { result ≡ list_any may_wait_lem slots.now }
 {
-    places.iter().any(|place| may_wait(*place))
+    slots.iter().any(|slot| may_wait(*slot))
 }
 
-fn any_is_looked_at(places: &[Place], is_woken: bool) -> bool
-    ensures { result ≡ list_any (is_looked_at_lem is_woken) places.now }
+fn any_is_looked_at(slots: &[SlotState], is_woken: bool) -> bool
+    ensures { result ≡ list_any (is_looked_at_lem is_woken) slots.now }
 {
-    places.iter().any(|place| is_looked_at(*place, is_woken))
+    slots.iter().any(|slot| is_looked_at(*slot, is_woken))
 }
 
-/// The first place from one on that has a turn.
-fn next_turn(places: &[Place], from: usize) -> Option<usize>
-    ensures first { MatchOption result (IsNobody (HasTurnFrom places.now from)) (λ slot. IsLeast (HasTurnFrom places.now from) slot) }
-    ensures within { IfSome result (λ slot. slot < length places.now) }
+/// The first slot from one on that has a turn.
+fn next_turn(slots: &[SlotState], from: usize) -> Option<usize>
+    ensures first { MatchOption result (IsNobody (HasTurnFrom slots.now from)) (λ slot. IsLeast (HasTurnFrom slots.now from) slot) }
+    ensures within { IfSome result (λ slot. slot < length slots.now) }
 {
-    for slot in from..places.len() {
-        if has_turn(places[slot]) {
+    for slot in from..slots.len() {
+        if has_turn(slots[slot]) {
             return Some(slot);
         }
     }
     None
 }
 
-/// The first place from one on that is called.
+/// The first slot from one on that is called.
 fn next_called(called: &[bool], from: usize) -> Option<usize>
     ensures first { MatchOption result (IsNobody (IsCalledFrom called.now from)) (λ slot. IsLeast (IsCalledFrom called.now from) slot) }
     ensures within { IfSome result (λ slot. slot < length called.now) }
@@ -326,22 +326,22 @@ fn next_called(called: &[bool], from: usize) -> Option<usize>
     None
 }
 
-/// Of 64 places those for whose clients a notice waits.
-fn called_in(places: &[Place], clients: &[u32]) -> [bool; 64]
-    requires { length places.now ≡ 64 }
+/// Of 64 slots those for whose clients a notice waits.
+fn called_in(slots: &[SlotState], clients: &[u32]) -> [bool; 64]
+    requires { length slots.now ≡ 64 }
     ensures length { length result ≡ 64 }
-    ensures called { (slot : ℕ) → slot < 64 → slice_index_or result slot false ≡ true ↔ IsCalledAmong places.now clients.now slot }
+    ensures called { (slot : ℕ) → slot < 64 → slice_index_or result slot false ≡ true ↔ IsCalledAmong slots.now clients.now slot }
 {
     let mut called = [false; 64];
-    for slot in 0..PLACES {
-        called[slot] = is_called(places[slot], slot as u32 + 1, clients);
+    for slot in 0..SLOTS {
+        called[slot] = is_called(slots[slot], slot as u32 + 1, clients);
     }
     called
 }
 
-/// Whether a notice waits for the client of a place that has this number.
-fn is_called(place: Place, client: u32, clients: &[u32]) -> bool
-    ensures { result ≡ true ↔ WaitsAmong place client clients.now }
+/// Whether a notice waits for the client of a slot that has this number.
+fn is_called(slot: SlotState, client: u32, clients: &[u32]) -> bool
+    ensures { result ≡ true ↔ WaitsAmong slot client clients.now }
 {
-    may_wait(place) && !is_ready(place) && clients.contains(&client)
+    may_wait(slot) && !is_ready(slot) && clients.contains(&client)
 }

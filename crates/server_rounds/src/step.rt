@@ -8,7 +8,7 @@ pub enum Step {
     Sleep(Option<u64>),
     /// It asks the listener for a client that waits to be let in.
     LetIn,
-    /// It gives the client of this place its turn, and tells the player of one that is gone.
+    /// It gives the client of this slot its turn, and tells the player of one that is gone.
     Visit(usize),
     /// It asks for whom notices wait.
     Ask,
@@ -32,9 +32,9 @@ pub enum ListenerState {
 pub enum Phase {
     /// So many more clients may be let in, and then all turns come.
     LettingIn(u32),
-    /// Turns come, of the places from this one on.
+    /// Turns come, of the slots from this one on.
     Turns(usize),
-    /// Clients for which a notice waits come, of the places from this one on.
+    /// Clients for which a notice waits come, of the slots from this one on.
     Notices(usize),
     /// A client ended the daemon.
     Over,

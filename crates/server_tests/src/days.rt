@@ -15,7 +15,7 @@ use std::alloc::{AllocError, Global};
 use std::marker::Brand;
 use std::sync::Wait;
 use test_houses::opened;
-use test_texts::Told;
+use test_texts::Recorder;
 
 /// A step of a day.
 #[derive(Clone, Copy)]
@@ -92,7 +92,7 @@ fn fault_name(fault: SessionFault) -> &'static str {
 #[derive(Drop)]
 struct Log {
     test_clients: Vec<TestClient>,
-    told: Told,
+    recorder: Recorder,
 }
 
 /// A client comes, and is one of the test clients.
@@ -112,11 +112,11 @@ fn greets<L: Ledgers>(
         uptime: None,
     };
     let Ok(greeted) = house.notice(rt, seat, News::Comes(client)) else {
-        log.told.fail();
+        log.recorder.fail();
         return;
     };
     let Ok(session) = Session::new(alloc, Asker { client, commands }, greeted.reply()) else {
-        log.told.fail();
+        log.recorder.fail();
         return;
     };
     let test_client = TestClient {
@@ -125,7 +125,7 @@ fn greets<L: Ledgers>(
         wire: Counting::new(Pipe::new(Vec::new(alloc), takes)),
     };
     if log.test_clients.push(test_client).is_err() {
-        log.told.fail();
+        log.recorder.fail();
     }
 }
 
@@ -144,7 +144,7 @@ fn reads_of<L: Ledgers>(
     for test_client in &mut log.test_clients {
         if test_client.client == client {
             if let Some(fault) = reads(rt, alloc, house, seat, shelf, test_client, bytes, then) {
-                log.told.add(fault_name(fault));
+                log.recorder.add(fault_name(fault));
             }
         }
     }
@@ -183,17 +183,17 @@ fn step_of<L: Ledgers>(
 }
 
 /// What was told of faults, and of each client how its session is and what was written to it.
-fn told_of(log: Log) -> Result<String, AllocError> {
+fn observed_of(log: Log) -> Result<String, AllocError> {
     let Log {
         test_clients,
-        mut told,
+        mut recorder,
     } = log;
     for test_client in &test_clients {
         let text = str::from_utf8(test_client.wire.inner().bytes()).unwrap_or("no text\n");
         let (client, state) = (test_client.client, state(&test_client.session));
-        told.add(format_args!("{client} {state}\n{text}"));
+        recorder.add(format_args!("{client} {state}\n{text}"));
     }
-    told.into_text()
+    recorder.into_text()
 }
 
 fn steps_of<L: Ledgers>(
@@ -207,14 +207,14 @@ fn steps_of<L: Ledgers>(
     let mut shelf = MemShelf::new(alloc);
     let mut log = Log {
         test_clients: Vec::new(alloc),
-        told: Told::new(alloc),
+        recorder: Recorder::new(alloc),
     };
     for step in steps {
         step_of(
             rt, alloc, house, seat, &mut shelf, &mut log, *step, may_kill,
         );
     }
-    told_of(log)
+    observed_of(log)
 }
 
 fn day_of_a_seat<L: Ledgers>(
@@ -247,7 +247,7 @@ fn day<L: Ledgers>(
 
 /// What the sessions of a day wrote, each after its client's number and whether it is closed, where clients may end
 /// the daemon, or may not.
-pub(crate) fn told_where<R: Wait>(
+pub(crate) fn observed_where<R: Wait>(
     rt: &R,
     alloc: Global,
     steps: &[Step<'_>],
@@ -258,7 +258,7 @@ pub(crate) fn told_where<R: Wait>(
 
 /// What the session of one client wrote that comes and says some pieces, and whose session then has so many turns
 /// more.
-pub(crate) fn told_of_pieces<R: Wait>(
+pub(crate) fn observed_of_pieces<R: Wait>(
     rt: &R,
     alloc: Global,
     takes: Takes,
@@ -274,7 +274,7 @@ pub(crate) fn told_of_pieces<R: Wait>(
         is_whole = steps.push(Step::Waits(1)).is_ok() && is_whole;
     }
     if is_whole {
-        told_where(rt, alloc, &steps, false)
+        observed_where(rt, alloc, &steps, false)
     } else {
         Err(AllocError)
     }

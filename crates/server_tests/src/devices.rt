@@ -1,10 +1,10 @@
 //! Writers that do some of what they could, or nothing, or fail.
-use crate::days::told_of_pieces;
+use crate::days::observed_of_pieces;
 use crate::wires::Takes;
 use std::alloc::{AllocError, Global};
 use std::sync::Wait;
 use std::test::Fail;
-use test_texts::{Told, wants, wants_made};
+use test_texts::{Recorder, wants, wants_made};
 
 const LINES: &[u8] =
     b"ping\nadd a.wav\nplchangesposid 0\ncommand_list_ok_begin\nping\nping\ncommand_list_end\nfoo\n";
@@ -43,19 +43,19 @@ fn few_bytes<R: Wait>(rt: &R, alloc: Global) -> Result<(), Fail> {
     let all = answers().len();
     for most in 1..120usize {
         wants(
-            told_of_pieces(rt, alloc, Takes::AtMost(most), &[LINES], 0),
+            observed_of_pieces(rt, alloc, Takes::AtMost(most), &[LINES], 0),
             TOLD,
         )?;
     }
     for most in 1..40usize {
         wants(
-            told_of_pieces(rt, alloc, Takes::Haltingly(most), &[LINES], all),
+            observed_of_pieces(rt, alloc, Takes::Haltingly(most), &[LINES], all),
             TOLD,
         )?;
     }
     for most in 0..all {
-        let told = told_of_pieces(rt, alloc, Takes::FailsAfter(most), LINES_AND_A_PING, 0);
-        wants_made(told, front(alloc, most))?;
+        let observed = observed_of_pieces(rt, alloc, Takes::FailsAfter(most), LINES_AND_A_PING, 0);
+        wants_made(observed, front(alloc, most))?;
     }
     Ok(())
 }
@@ -63,7 +63,7 @@ fn few_bytes<R: Wait>(rt: &R, alloc: Global) -> Result<(), Fail> {
 /// Two stickers, and questions for their values: 2,047 for the first, whose value has 8,177 letters, and one
 /// for the second, whose value has so many letters.
 fn questions(alloc: Global, last: usize) -> Result<String, AllocError> {
-    let mut lines = Told::new(alloc);
+    let mut lines = Recorder::new(alloc);
     lines.add("sticker set song a.wav n ");
     lines.add_made("x".repeat(alloc, 8_177));
     lines.add("\nsticker set song a.wav m ");
@@ -79,14 +79,14 @@ fn questions(alloc: Global, last: usize) -> Result<String, AllocError> {
 /// 8,192 bytes, which are 8,192 bytes less than the 16,777,216 that may be unsent. The greeting has 14 bytes,
 /// and the answers to the two lines that set stickers and to the ping have 3 each: with 8,154 letters in the
 /// second value the limit is met, and with 8,155 it is passed, by the answer to the ping.
-fn told_of_unsent<R: Wait>(rt: &R, alloc: Global, last: usize) -> Result<String, AllocError> {
+fn observed_of_unsent<R: Wait>(rt: &R, alloc: Global, last: usize) -> Result<String, AllocError> {
     let lines = questions(alloc, last)?;
-    told_of_pieces(rt, alloc, Takes::UpTo(0), &[lines.as_bytes(), b"ping\n"], 1)
+    observed_of_pieces(rt, alloc, Takes::UpTo(0), &[lines.as_bytes(), b"ping\n"], 1)
 }
 
 #[test]
 fn writers_that_take_few_bytes(rt: HostRuntime) -> Result<(), Fail> {
     few_bytes(&rt, rt.alloc())?;
-    wants(told_of_unsent(&rt, rt.alloc(), 8_154), "1 open\n")?;
-    wants(told_of_unsent(&rt, rt.alloc(), 8_155), "1 unsent\n")
+    wants(observed_of_unsent(&rt, rt.alloc(), 8_154), "1 open\n")?;
+    wants(observed_of_unsent(&rt, rt.alloc(), 8_155), "1 unsent\n")
 }

@@ -39,7 +39,7 @@ const BREAK_OFF: [&[u8]; 4] = [b"commands\n", b"command: add\n", b"", b"ping\n"]
 enum Party {
     /// One pings.
     One,
-    /// More come than there are places for, and another comes once one has gone.
+    /// More come than there are slots for, and another comes once one has gone.
     Many,
     /// One asks for much and does not read it, while another pings.
     SlowReader,
@@ -47,15 +47,15 @@ enum Party {
     Idle,
     /// One sends a line without end, while another pings.
     LongLine,
-    /// One goes with an open list and with a line begun, and its place is another's.
+    /// One goes with an open list and with a line begun, and its slot is another's.
     Leaves,
     /// One waits for the end of a scan, which no client's line makes.
     Scan,
     /// One asks, and sends no more from then on, but reads.
     HalfClosed,
-    /// One of as many as there are places for is closed at a limit, and its place is another's.
+    /// One of as many as there are slots for is closed at a limit, and its slot is another's.
     Replaced,
-    /// One of as many as there are places for closes, and its place is another's at once.
+    /// One of as many as there are slots for closes, and its slot is another's at once.
     Followed,
     /// Many go with an answer unread, so that their sockets fail to be read.
     BreakOff,
@@ -166,19 +166,19 @@ impl TestClient {
     }
 
     /// Hears just these bytes next.
-    fn hears(&mut self, wanted: &[u8]) {
-        let Ok(mut bytes) = Vec::from_elem(self.alloc, 0u8, wanted.len()) else {
+    fn hears(&mut self, expected: &[u8]) {
+        let Ok(mut bytes) = Vec::from_elem(self.alloc, 0u8, expected.len()) else {
             self.went_well = false;
             return;
         };
         self.takes(bytes.as_mut_slice());
-        self.needs(bytes.as_slice() == wanted);
+        self.needs(bytes.as_slice() == expected);
     }
 
     /// Says some bytes, and hears just these.
-    fn says(&mut self, bytes: &[u8], wanted: &[u8]) {
+    fn says(&mut self, bytes: &[u8], expected: &[u8]) {
         self.writes(bytes);
-        self.hears(wanted);
+        self.hears(expected);
     }
 
     fn pings(&mut self, count: u32) {
@@ -277,8 +277,8 @@ fn others<R: Net<Listener = TcpListener, Stream = TcpStream>>(
     others
 }
 
-/// There is no place for one who comes.
-fn one_finds_no_place<R: Net<Listener = TcpListener, Stream = TcpStream>>(
+/// There is no slot for one who comes.
+fn one_finds_no_slot<R: Net<Listener = TcpListener, Stream = TcpStream>>(
     rt: &R,
     address: SocketAddr,
 ) -> bool {
@@ -294,19 +294,19 @@ fn one_goes<R: Net<Listener = TcpListener, Stream = TcpStream>>(
     alloc: Global,
     address: SocketAddr,
     bytes: &[u8],
-    wanted: &[u8],
+    expected: &[u8],
     last: &[u8],
 ) -> bool {
     let Some(mut client) = comes(rt, alloc, address) else {
         return false;
     };
-    client.says(bytes, wanted);
+    client.says(bytes, expected);
     client.writes(last);
     client.went_well
 }
 
-/// There is a place for one who comes.
-fn one_finds_a_place<R: Net<Listener = TcpListener, Stream = TcpStream>>(
+/// There is a slot for one who comes.
+fn one_finds_a_slot<R: Net<Listener = TcpListener, Stream = TcpStream>>(
     rt: &R,
     alloc: Global,
     address: SocketAddr,
@@ -323,7 +323,7 @@ fn one_closes(client: Option<TestClient>) -> bool {
     last.went_well
 }
 
-/// Beside as many as there are places for one finds no place, until another has closed.
+/// Beside as many as there are slots for one finds no slot, until another has closed.
 fn many_come<R: Net<Listener = TcpListener, Stream = TcpStream>>(
     rt: &R,
     alloc: Global,
@@ -332,9 +332,9 @@ fn many_come<R: Net<Listener = TcpListener, Stream = TcpStream>>(
 ) {
     let mut clients = others(rt, alloc, address, 63);
     let went_well = clients.len() == 63
-        && one_finds_no_place(rt, address)
+        && one_finds_no_slot(rt, address)
         && one_closes(clients.pop())
-        && one_finds_a_place(rt, alloc, address);
+        && one_finds_a_slot(rt, alloc, address);
     first.needs(went_well);
     first.pings(1);
 }
@@ -420,7 +420,7 @@ fn beside_another<R: Net<Listener = TcpListener, Stream = TcpStream>>(
     first.needs(second.went_well);
 }
 
-/// The place is free as soon as all is written, and not when the time to read is over: the few pings take
+/// The slot is free as soon as all is written, and not when the time to read is over: the few pings take
 /// much less than that.
 fn one_is_followed<R: Net<Listener = TcpListener, Stream = TcpStream>>(
     rt: &R,
@@ -435,11 +435,11 @@ fn one_is_followed<R: Net<Listener = TcpListener, Stream = TcpStream>>(
     last.writes(b"close\n");
     first.pings(10);
     last.needs(first.went_well);
-    first.needs(last.went_well && one_finds_a_place(rt, alloc, address));
+    first.needs(last.went_well && one_finds_a_slot(rt, alloc, address));
 }
 
-/// Beside as many clients as there are places for beside the first and another, that one closes or is closed at a
-/// limit, and its place is another's.
+/// Beside as many clients as there are slots for beside the first and another, that one closes or is closed at a
+/// limit, and its slot is another's.
 fn beside_many<R: Net<Listener = TcpListener, Stream = TcpStream>>(
     rt: &R,
     alloc: Global,
@@ -456,7 +456,7 @@ fn beside_many<R: Net<Listener = TcpListener, Stream = TcpStream>>(
         one_is_followed(rt, alloc, address, first);
     } else {
         beside_another(rt, alloc, address, first, Party::LongLine);
-        first.needs(first.went_well && one_finds_a_place(rt, alloc, address));
+        first.needs(first.went_well && one_finds_a_slot(rt, alloc, address));
     }
 }
 
@@ -470,9 +470,9 @@ fn many_go<R: Net<Listener = TcpListener, Stream = TcpStream>>(
     count: u32,
     lines: &[&[u8]; 4],
 ) {
-    let [bytes, wanted, last, afterwards] = lines;
+    let [bytes, expected, last, afterwards] = lines;
     for _client in 0..count {
-        first.needs(first.went_well && one_goes(rt, alloc, address, bytes, wanted, last));
+        first.needs(first.went_well && one_goes(rt, alloc, address, bytes, expected, last));
     }
     first.says(afterwards, b"OK\n");
 }
@@ -539,7 +539,7 @@ fn goes_well<
     served.is_ok() && visited
 }
 
-/// The place of the first of these that does not go well.
+/// The index of the first of these that does not go well.
 fn first_that_fails<
     R: Threads
         + Wait
@@ -550,9 +550,9 @@ fn first_that_fails<
         + Sync
         + 'static,
 >(rt: R, alloc: Global, parties: &[Party]) -> Option<usize> {
-    for (place, party) in parties.iter().enumerate() {
+    for (index, party) in parties.iter().enumerate() {
         if !goes_well(rt, alloc, *party) {
-            return Some(place);
+            return Some(index);
         }
     }
     None

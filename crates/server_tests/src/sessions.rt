@@ -1,5 +1,5 @@
 //! Sessions of clients that say a few lines, and what is told of each.
-use crate::days::{Step, told_where};
+use crate::days::{Step, observed_where};
 use crate::wires::Takes;
 use std::test::Fail;
 use test_texts::wants;
@@ -8,7 +8,7 @@ use test_texts::wants;
 struct Row<'a> {
     steps: &'a [Step<'a>],
     may_kill: bool,
-    told: &'a str,
+    expected: &'a str,
 }
 
 const SESSIONS: &[Row<'_>] = &[
@@ -22,7 +22,7 @@ const SESSIONS: &[Row<'_>] = &[
             Step::Says(2, b"plchangesposid 0\n"),
         ],
         may_kill: false,
-        told: "1 left
+        expected: "1 left
 OK MPD 0.23.0
 OK
 2 open
@@ -40,7 +40,7 @@ OK
             ),
         ],
         may_kill: false,
-        told: "1 left
+        expected: "1 left
 OK MPD 0.23.0
 list_OK
 ",
@@ -52,7 +52,7 @@ list_OK
             Step::Says(1, b"ping\nkill\nping\n"),
         ],
         may_kill: false,
-        told: "1 open
+        expected: "1 open
 OK MPD 0.23.0
 OK
 ACK [4@0] {kill} no permission for \"kill\"
@@ -65,7 +65,7 @@ OK
             Step::Says(1, b"ping\nkill\nping\n"),
         ],
         may_kill: true,
-        told: "1 killed
+        expected: "1 killed
 OK MPD 0.23.0
 OK
 ",
@@ -85,7 +85,7 @@ OK
             ),
         ],
         may_kill: true,
-        told: "1 left
+        expected: "1 left
 OK MPD 0.23.0
 list_OK
 2 killed
@@ -102,7 +102,7 @@ list_OK
             Step::Says(1, b"\n"),
         ],
         may_kill: false,
-        told: "1 no peer\nOK MP",
+        expected: "1 no peer\nOK MP",
     },
     // A reader fails.
     Row {
@@ -113,7 +113,7 @@ list_OK
             Step::Says(1, b"ping\n"),
         ],
         may_kill: false,
-        told: "read fault answered
+        expected: "read fault answered
 1 read fault
 OK MPD 0.23.0
 OK
@@ -127,7 +127,7 @@ OK
             Step::Fails(1),
         ],
         may_kill: false,
-        told: "read fault answered
+        expected: "read fault answered
 1 read fault
 OK MPD 0.23.0
 OK
@@ -140,7 +140,7 @@ OK
             Step::Says(1, b"\xff\nping\r\n\n"),
         ],
         may_kill: false,
-        told: "1 open
+        expected: "1 open
 OK MPD 0.23.0
 ACK [2@0] {} line is not UTF-8
 OK
@@ -158,7 +158,7 @@ ACK [5@0] {} no command given
             Step::Says(1, b"plchangesposid 0\n"),
         ],
         may_kill: false,
-        told: "1 open
+        expected: "1 open
 OK MPD 0.23.0
 list_OK
 list_OK
@@ -185,7 +185,7 @@ OK
             Step::Says(1, b"command_list_begin\n\xff\ncommand_list_end\n"),
         ],
         may_kill: false,
-        told: "1 open
+        expected: "1 open
 OK MPD 0.23.0
 ACK [5@0] {} unknown command \"command_list_end\"
 OK
@@ -202,7 +202,7 @@ ACK [2@0] {} line is not UTF-8
             Step::Says(1, b"command_list_ok_begin\nping\nadd a.wav\n"),
         ],
         may_kill: false,
-        told: "1 open
+        expected: "1 open
 OK MPD 0.23.0
 ",
     },
@@ -219,7 +219,7 @@ OK MPD 0.23.0
             Step::Says(2, b"plchangesposid 0\n"),
         ],
         may_kill: false,
-        told: "1 no peer
+        expected: "1 no peer
 OK MPD 0.23.0
 OK
 2 open
@@ -239,7 +239,7 @@ OK
             Step::Says(1, b"ping\n"),
         ],
         may_kill: false,
-        told: "1 open
+        expected: "1 open
 OK MPD 0.23.0
 changed: mixer
 OK
@@ -263,7 +263,7 @@ OK
             Step::Says(1, b"noidle\ngetvol\n"),
         ],
         may_kill: false,
-        told: "1 open
+        expected: "1 open
 OK MPD 0.23.0
 changed: mixer
 OK
@@ -302,7 +302,7 @@ OK
             ),
         ],
         may_kill: false,
-        told: "1 left
+        expected: "1 left
 OK MPD 0.23.0
 OK
 changed: mixer
@@ -317,11 +317,11 @@ OK
 ];
 
 #[test]
-fn sessions_tell_what_is_wanted(rt: HostRuntime) -> Result<(), Fail> {
+fn sessions_tell_what_is_expected(rt: HostRuntime) -> Result<(), Fail> {
     for row in SESSIONS {
         wants(
-            told_where(&rt, rt.alloc(), row.steps, row.may_kill),
-            row.told,
+            observed_where(&rt, rt.alloc(), row.steps, row.may_kill),
+            row.expected,
         )?;
     }
     Ok(())

@@ -2,7 +2,7 @@
 use std::alloc::{AllocError, Global};
 use std::io;
 use std::io::{ErrorKind, Read, Write};
-use test_texts::Told;
+use test_texts::Recorder;
 
 /// What a reader does once its bytes are read.
 #[derive(Clone, Copy)]
@@ -129,10 +129,10 @@ impl Write for Pipe {
 /// What is told without its letters `x`.
 pub(crate) fn without_x(
     alloc: Global,
-    told: Result<String, AllocError>,
+    observed: Result<String, AllocError>,
 ) -> Result<String, AllocError> {
-    let mut rest = Told::new(alloc);
-    for word in told?.split('x') {
+    let mut rest = Recorder::new(alloc);
+    for word in observed?.split('x') {
         if !word.is_empty() {
             rest.add(word);
         }

@@ -8,16 +8,16 @@ use std::io;
 pub(crate) fn print_found(
     rt: &HostRuntime,
     settings: &Settings,
-    told: &str,
+    report: &str,
 ) -> Result<(), DaemonFault> {
-    match print_lines(rt, settings, told) {
+    match print_lines(rt, settings, report) {
         Ok(()) => Ok(()),
         Err(_) => Err(DaemonFault::WriteFault),
     }
 }
 
-fn print_lines(rt: &HostRuntime, settings: &Settings, told: &str) -> io::Result<()> {
-    println!(rt; "music: {}: {told}", settings.music)?;
+fn print_lines(rt: &HostRuntime, settings: &Settings, report: &str) -> io::Result<()> {
+    println!(rt; "music: {}: {report}", settings.music)?;
     println!(rt; "listen: {}", settings.listen)?;
     if let Some(path) = &settings.shelf {
         println!(rt; "shelf: {path}")?;

@@ -24,7 +24,7 @@ const COMMON_RATES: [u32; 12] = [
 #[derive(Drop)]
 pub(crate) struct Found {
     pub(crate) songs: SharedDb,
-    pub(crate) told: String,
+    pub(crate) report: String,
 }
 
 /// The songs of a folder, with the tags of the everyday profile or of the base profile. A long scan shows on a
@@ -60,11 +60,11 @@ where
         watcher,
     ) {
         Ok(scanned) => {
-            let told = told_of(rt, alloc, folder, &scanned)?;
+            let report = report_of(rt, alloc, folder, &scanned)?;
             match Db::of_songs(alloc, scanned.songs) {
                 Ok(songs) => Ok(Found {
                     songs: SharedDb::new(alloc, songs)?,
-                    told,
+                    report,
                 }),
                 // A scan gives each URI once, and no more songs than a library has.
                 Err(_) => Err(DaemonFault::NoMemory),
@@ -76,7 +76,7 @@ where
 
 /// The line that tells of a scan: how many songs there are, or where none is, and a file is refused for what
 /// may be another rate, that rate.
-fn told_of<R: Files + AllocGlobal + Clone + Drop>(
+fn report_of<R: Files + AllocGlobal + Clone + Drop>(
     rt: &R,
     alloc: Global,
     folder: &str,
@@ -192,7 +192,7 @@ where
         let time = milliseconds_since(&self.rt, start);
         match found {
             Ok(found) => {
-                tell_rescan(&self.rt, alloc, found.told.as_str(), time);
+                tell_rescan(&self.rt, alloc, found.report.as_str(), time);
                 Some(found.songs)
             }
             Err(fault) => {
@@ -206,8 +206,8 @@ where
 }
 
 /// Tells on standard error what came of a scan that a client asked for, and how long it took.
-fn tell_rescan<R: Eprint>(rt: &R, alloc: Global, told: &str, time: Option<u128>) {
-    if let Ok(line) = rescan_text(alloc, told, time) {
+fn tell_rescan<R: Eprint>(rt: &R, alloc: Global, report: &str, time: Option<u128>) {
+    if let Ok(line) = rescan_text(alloc, report, time) {
         tell(rt, line.as_str());
     }
 }

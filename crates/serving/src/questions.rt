@@ -64,7 +64,7 @@ pub(crate) fn short_questions(alloc: Global, names: &[Text]) -> Result<String, A
     Ok(lines)
 }
 
-/// An answer without the places in songs, which move on without a change.
+/// An answer without the positions in songs, which move on without a change.
 pub(crate) fn changes_only(alloc: Global, answer: &str) -> Result<String, AllocError> {
     let mut changes = String::new(alloc);
     for line in answer.lines() {

@@ -104,7 +104,7 @@ fn restore_text<L: Ledgers, S: Shelf + Drop, R: Wait>(
     };
     let refused = tell_lines(&mut restorer, text)?;
     if refused > TOLD {
-        let _told = eprintln!(*host; "music_daemon: state: {refused} lines in all were refused");
+        let _printed = eprintln!(*host; "music_daemon: state: {refused} lines in all were refused");
     }
     let Restorer {
         rt: _,
@@ -171,7 +171,7 @@ impl<'h, L: Ledgers, S: Shelf + Drop, R: Wait> Restorer<'h, L, S, R> {
         if self.refused <= TOLD {
             let line = OneLine(line);
             let why = OneLine(why.trim_end());
-            let _told = eprintln!(*self.host; "music_daemon: state: {line}: {why}");
+            let _printed = eprintln!(*self.host; "music_daemon: state: {line}: {why}");
         }
     }
 }

@@ -102,10 +102,13 @@ fn found_for(
 
 /// The same, with the line of the start. Without memory for it, the line of the scan stays.
 fn started(alloc: Global, settings: &Settings, version: &str, found: Found) -> Found {
-    let Found { songs, told } = found;
-    match start_text(alloc, version, settings, told.as_str()) {
-        Ok(line) => Found { songs, told: line },
-        Err(_) => Found { songs, told },
+    let Found { songs, report } = found;
+    match start_text(alloc, version, settings, report.as_str()) {
+        Ok(line) => Found {
+            songs,
+            report: line,
+        },
+        Err(_) => Found { songs, report },
     }
 }
 
@@ -125,7 +128,7 @@ fn check(host: &HostRuntime, settings: &Settings, found: &Found) -> Result<(), D
     if let Some(path) = &settings.state {
         read_state(host, path.as_str())?;
     }
-    print_found(host, settings, found.told.as_str())
+    print_found(host, settings, found.report.as_str())
 }
 
 /// Opens the house and the server, and runs the daemon with the files of the system.
@@ -145,7 +148,7 @@ fn serve_with<
     requires blanks { AreFor L.names blanks }
 {
     let alloc = host.alloc();
-    let Found { songs, told } = found;
+    let Found { songs, report } = found;
     let player = player_of(alloc, settings, songs, second_now(&rt))?;
     let opened = open_player_handles::<L, R>(&rt, alloc, blanks, player)?;
     let player_handles = match &settings.state {
@@ -155,7 +158,7 @@ fn serve_with<
     let listener = listen_at(&rt, alloc, settings.listen.as_str())?;
     let server = Server::open(&rt, alloc, listener)?;
     let resources = resources_of(rt, host, settings)?;
-    tell(&host, told.as_str());
+    tell(&host, report.as_str());
     let state = state_of(alloc, settings)?;
     run(
         rt,

@@ -12,8 +12,8 @@ use Rattle.std.specs.List.{list_all}
 use Rattle.settings.specs.OneLines.{HasNoControls, OneLines, shown}
 
 -- what is told of a text and one more character
-pub told-more : (text : List ℕ) (c : ℕ) → encode_utf8_all (flat_map shown text) ++ encode_utf8_all (shown c) ≡ encode_utf8_all (flat_map shown (text ++ c ∷ []))
-told-more text c = sym (encodes-append (flat_map shown text) (shown c)) ∙ ap encode_utf8_all (flat_map_more shown [] text c)
+pub escaped-more : (text : List ℕ) (c : ℕ) → encode_utf8_all (flat_map shown text) ++ encode_utf8_all (shown c) ≡ encode_utf8_all (flat_map shown (text ++ c ∷ []))
+escaped-more text c = sym (encodes-append (flat_map shown text) (shown c)) ∙ ap encode_utf8_all (flat_map_more shown [] text c)
 
 abbrev is_plain : ℕ → Bool
 is_plain c = not (is_control c)
@@ -31,17 +31,17 @@ clean c = elim (cases_lt c 160) [
       subst (λ cs. list_all is_plain cs ≡ true) (sym (kept c plain)) (and_from _ _ (not_from_false _ plain) refl)
 ]
 
-told-clean : (cs : List ℕ) → list_all is_plain (flat_map shown cs) ≡ true
-told-clean [] = refl
-told-clean (c ∷ cs) = list_all-append is_plain (shown c) (flat_map shown cs) ∙ and_from _ _ (clean c) (told-clean cs)
+escaped-clean : (cs : List ℕ) → list_all is_plain (flat_map shown cs) ≡ true
+escaped-clean [] = refl
+escaped-clean (c ∷ cs) = list_all-append is_plain (shown c) (flat_map shown cs) ∙ and_from _ _ (clean c) (escaped-clean cs)
 
-told-same : (cs : List ℕ) → HasNoControls cs → flat_map shown cs ≡ cs
-told-same [] plain = refl
-told-same (c ∷ cs) plain = ap (λ t. t ++ flat_map shown cs) (kept c (All-head (λ d. is_control d ≡ false) c cs plain))
-    ∙ ap (λ t. c ∷ t) (told-same cs (All-tail (λ d. is_control d ≡ false) c cs plain))
+escaped-same : (cs : List ℕ) → HasNoControls cs → flat_map shown cs ≡ cs
+escaped-same [] plain = refl
+escaped-same (c ∷ cs) plain = ap (λ t. t ++ flat_map shown cs) (kept c (All-head (λ d. is_control d ≡ false) c cs plain))
+    ∙ ap (λ t. c ∷ t) (escaped-same cs (All-tail (λ d. is_control d ≡ false) c cs plain))
 
 pub all : OneLines
 all = record {
-  none = λ text k d less. not-true _ (AllPass-from_list_all is_plain _ (told-clean (chars text)) k d less);
-  same = λ text utf8 plain. ap encode_utf8_all (told-same (chars text) plain) ∙ encodes-chars text utf8;
+  none = λ text k d less. not-true _ (AllPass-from_list_all is_plain _ (escaped-clean (chars text)) k d less);
+  same = λ text utf8 plain. ap encode_utf8_all (escaped-same (chars text) plain) ∙ encodes-chars text utf8;
 }

@@ -172,7 +172,7 @@ push_output (item e rest) d (x ∷ xs) o are is = (are.0, push_output rest d xs 
 pub one_more_output : (vs : List Value) (v : Value) (os : List OutputSettings) (o : OutputSettings) → AreOutputs (items_view vs) os → IsOutput (view v) o → AreOutputs (items_view (vs ++ v ∷ [])) (os ++ o ∷ [])
 one_more_output vs v os o are is = rw (items_view-push vs v) (push_output (items_view vs) (view v) os o are is)
 
--- the item at a place of outputs, and those after it
+-- the item at an index of outputs, and those after it
 pub outputs_left : (vs : List Value) (i : ℕ) (d : Value) → i < length vs → each_output (items_view (drop i vs)) ≡ true → (is_output (view (get_or vs i d)) ≡ true) × (each_output (items_view (drop (i + 1) vs)) ≡ true)
 outputs_left vs i d within each =
     let here : each_output (item (view (get_or vs i d)) (items_view (drop (i + 1) vs))) ≡ true = rw (items_view-drop vs i d within) at each in

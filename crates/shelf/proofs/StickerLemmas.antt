@@ -24,14 +24,14 @@ map_update : {X Y : Type 0} (f : X → Y) (g : List ℕ → Option X) (key other
     → option_map f (update bytes_eq g key w other) ≡ update bytes_eq (λ k. option_map f (g k)) key (option_map f w) other
 map_update f g key other w = elim (cases_Bool (bytes_eq key other)) [ inl is ↦ rw is refl | inr apart ↦ rw apart refl ]
 
-abbrev pub Changes : {X : Type 0} → List ℕ → BTreeMap (String Global) X → BTreeMap (String Global) X → Option X → Type 0
-Changes key old new w = UpdatesBy string_cmp (λ k. slice_cmp nat_cmp key (string_bytes k)) old new w
+abbrev pub UpdatesByText : {X : Type 0} → List ℕ → BTreeMap (String Global) X → BTreeMap (String Global) X → Option X → Type 0
+UpdatesByText key old new w = UpdatesBy string_cmp (λ k. slice_cmp nat_cmp key (string_bytes k)) old new w
 
-pub texts_changed : (key : List ℕ) (old new : Texts) (w : Option (String Global)) → Changes key old new w
+pub texts_changed : (key : List ℕ) (old new : Texts) (w : Option (String Global)) → UpdatesByText key old new w
     → (other : List ℕ) → text_in (Some new) other ≡ update bytes_eq (text_in (Some old)) key (option_map string_bytes w) other
 texts_changed key old new w h other = ap (option_map string_bytes) (btree_map_updates_text key old new w h other) ∙ map_update string_bytes (get_by_text old) key other w
 
-pub stickers_changed : (key : List ℕ) (old new : Targets) (w : Option Texts) → Changes key old new w
+pub stickers_changed : (key : List ℕ) (old new : Targets) (w : Option Texts) → UpdatesByText key old new w
     → (other name : List ℕ) → stickers_in new other name ≡ (if bytes_eq key other then text_in w else stickers_in old other) name
 stickers_changed key old new w h other name = ap (λ names. text_in names name) (btree_map_updates_text key old new w h other) ∙ at (cases_Bool (bytes_eq key other))
   where
@@ -45,7 +45,7 @@ module _ (target : List ℕ) (old new : Targets) where
   abbrev pub Given : (List ℕ → Option (List ℕ)) → Type 0
   Given named = (other name : List ℕ) → stickers_in new other name ≡ (if bytes_eq target other then named else stickers_in old other) name
 
-  pub given : (w : Option Texts) (named : List ℕ → Option (List ℕ)) → Changes target old new w → ((name : List ℕ) → text_in w name ≡ named name) → Given named
+  pub given : (w : Option Texts) (named : List ℕ → Option (List ℕ)) → UpdatesByText target old new w → ((name : List ℕ) → text_in w name ≡ named name) → Given named
   given w named change same other name = stickers_changed target old new w change other name ∙ at (cases_Bool (bytes_eq target other))
     where
       at : (bytes_eq target other ≡ true) ⊎ (bytes_eq target other ≡ false)
@@ -54,7 +54,7 @@ module _ (target : List ℕ) (old new : Targets) where
       at (inr apart) = rw apart refl
 
   -- a change of the target that leaves what it shows
-  pub as_before : (w : Option Texts) → Changes target old new w → ((name : List ℕ) → text_in w name ≡ stickers_in old target name)
+  pub as_before : (w : Option Texts) → UpdatesByText target old new w → ((name : List ℕ) → text_in w name ≡ stickers_in old target name)
       → (other name : List ℕ) → stickers_in new other name ≡ stickers_in old other name
   as_before w change same other name = stickers_changed target old new w change other name ∙ at (cases_Bool (bytes_eq target other))
     where
@@ -65,15 +65,15 @@ module _ (target : List ℕ) (old new : Targets) where
       at (inr apart) = rw apart refl
 
   -- a text was put into, or taken out of, the map at the target
-  pub set_within : (name : List ℕ) (was now : Texts) (w : Option (String Global)) → get_by_text old target ≡ Some was → Changes target old new (Some now) → Changes name was now w
+  pub set_within : (name : List ℕ) (was now : Texts) (w : Option (String Global)) → get_by_text old target ≡ Some was → UpdatesByText target old new (Some now) → UpdatesByText name was now w
       → Given (update bytes_eq (stickers_in old target) name (option_map string_bytes w))
   set_within name was now w known outer inner = given (Some now) _ outer (λ n. rw known (texts_changed name was now w inner n))
 
-  pub set_under : (key value : String Global) (name value_bytes : List ℕ) (was now : Texts) → get_by_text old target ≡ Some was → Changes target old new (Some now)
+  pub set_under : (key value : String Global) (name value_bytes : List ℕ) (was now : Texts) → get_by_text old target ≡ Some was → UpdatesByText target old new (Some now)
       → Updates string_cmp was now key (Some value) → string_bytes key ≡ name → string_bytes value ≡ value_bytes
       → Given (update bytes_eq (stickers_in old target) name (Some value_bytes))
   set_under key value name value_bytes was now known outer put named is =
-      let inner : Changes name was now (Some value) = subst (λ bs. Changes bs was now (Some value)) named put in
+      let inner : UpdatesByText name was now (Some value) = subst (λ bs. UpdatesByText bs was now (Some value)) named put in
       rw (← is) (set_within name was now (Some value) known outer inner)
 
   -- the target had no map
@@ -82,15 +82,15 @@ module _ (target : List ℕ) (old new : Targets) where
       → Updates string_cmp none names key (Some value) → string_bytes key ≡ name → string_bytes value ≡ value_bytes
       → Given (update bytes_eq (stickers_in old target) name (Some value_bytes))
   set_first outer_key key value name value_bytes none names known empty outer_put outer_named put named is =
-      given (Some names) _ (subst (λ bs. Changes bs old new (Some names)) outer_named outer_put)
-      (λ n. rw known (texts_changed name none names (Some value) (subst (λ bs. Changes bs none names (Some value)) named put) n ∙ rw (empty, is) refl))
+      given (Some names) _ (subst (λ bs. UpdatesByText bs old new (Some names)) outer_named outer_put)
+      (λ n. rw known (texts_changed name none names (Some value) (subst (λ bs. UpdatesByText bs none names (Some value)) named put) n ∙ rw (empty, is) refl))
 
   -- the map at the target has the entries that it had
-  pub kept_entries : (was now : Texts) → get_by_text old target ≡ Some was → Changes target old new (Some now) → IsUnchanged was now
+  pub kept_entries : (was now : Texts) → get_by_text old target ≡ Some was → UpdatesByText target old new (Some now) → IsUnchanged was now
       → (other name : List ℕ) → stickers_in new other name ≡ stickers_in old other name
   kept_entries was now known outer same = as_before (Some now) outer (λ n. rw (known, same) refl)
 
-  pub none_left : Changes target old new None → Given no_stickers
+  pub none_left : UpdatesByText target old new None → Given no_stickers
   none_left outer = given None no_stickers outer (λ n. refl)
 
 empty_from_length : (es : List (String Global × String Global)) → length es ≡ 0 → es ≡ []
@@ -108,13 +108,13 @@ module _ (target new_target : List ℕ) (key : String Global) (empty : Texts) (o
   differ = elim (cases_Bool (bytes_eq new_target target)) [ inl is ↦ absurd (apart (sym ((bytes_eq-Decides new_target target).0 is))) | inr is ↦ is ]
 
   first_at : (other : List ℕ) → get_by_text first other ≡ update bytes_eq (get_by_text old) new_target (Some empty) other
-  first_at other = btree_map_updates_text new_target old first (Some empty) (subst (λ bs. Changes bs old first (Some empty)) named put) other
+  first_at other = btree_map_updates_text new_target old first (Some empty) (subst (λ bs. UpdatesByText bs old first (Some empty)) named put) other
 
   -- what is at the target stands there still
   pub still_there : get_by_text first target ≡ get_by_text old target
   still_there = first_at target ∙ rw differ refl
 
-  pub moved_to : (names : Texts) (second new : Targets) → get_by_text first target ≡ Some names → Changes target first second None → Changes new_target second new (Some names)
+  pub moved_to : (names : Texts) (second new : Targets) → get_by_text first target ≡ Some names → UpdatesByText target first second None → UpdatesByText new_target second new (Some names)
       → (other name : List ℕ) → stickers_in new other name ≡ moved target new_target (stickers_in old) other name
   moved_to names second new known gone given other name =
       ap (λ names. text_in names name) (btree_map_updates_text new_target second new (Some names) given other) ∙ at (cases_Bool (bytes_eq new_target other)) (cases_Bool (bytes_eq target other))
@@ -129,14 +129,14 @@ module _ (target new_target : List ℕ) (key : String Global) (empty : Texts) (o
       at (inr not_new) (inr not_old) = rw (not_new, not_old, btree_map_updates_text target first second None gone other, not_old, first_at other, not_new) refl
 
   -- the empty map still stands there
-  pub has_room : (second : Targets) → Changes target first second None → get_by_text second new_target ≡ Some empty
+  pub has_room : (second : Targets) → UpdatesByText target first second None → get_by_text second new_target ≡ Some empty
   has_room second gone =
       let apart_too : bytes_eq target new_target ≡ false = elim (cases_Bool (bytes_eq target new_target)) [ inl is ↦ absurd (apart ((bytes_eq-Decides target new_target).0 is)) | inr is ↦ is ] in
       let same : bytes_eq new_target new_target ≡ true = (bytes_eq-Decides new_target new_target).1 refl in
       btree_map_updates_text target first second None gone new_target ∙ rw (apart_too, first_at new_target, same) refl
 
   -- the target had no map
-  pub none_to_move : (new : Targets) → get_by_text first target ≡ None → Changes target first new None
+  pub none_to_move : (new : Targets) → get_by_text first target ≡ None → UpdatesByText target first new None
       → (other name : List ℕ) → stickers_in new other name ≡ moved target new_target (stickers_in old) other name
   none_to_move new known gone other name =
       ap (λ names. text_in names name) (btree_map_updates_text target first new None gone other) ∙ at (cases_Bool (bytes_eq new_target other)) (cases_Bool (bytes_eq target other))

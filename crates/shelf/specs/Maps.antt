@@ -147,9 +147,9 @@ Trusted old new = new.IsClean × old.IsOurs
 abbrev pub DeviceFailed : Standing → Standing → Type 0
 DeviceFailed old new = min (old.faults + 1) (2 ^ 64 - 1) ≤ new.faults
 
--- A call that is to turn the maps into `after`: it does, or changes nothing while the store is open. Only a
+-- A call that is to change the maps to `after`: it does, or changes nothing while the store is open. Only a
 -- failure of the device shuts the store. A stop during the call leaves the maps from before it or after it.
-pub record Turns (old new : Standing) (is_done : Bool) (after : Maps) : Type 0 where
+pub record Changes (old new : Standing) (is_done : Bool) (after : Maps) : Type 0 where
   pub clean : new.IsClean → old.IsClean
   pub counts : old.faults ≤ new.faults
   pub stays_open : new.IsClean → IsTrue old.is_open → IsTrue new.is_open ⊎ DeviceFailed old new

@@ -58,8 +58,8 @@ abbrev pub Shows : Stickers → ByTarget → Type 0
 Shows stickers texts = (target name : List ℕ) → texts_of stickers target name ≡ texts target name
 
 -- a call that is to change the texts so does that, or leaves them
-abbrev pub TurnsTexts : Stickers → Stickers → Bool → (ByTarget → ByTarget) → Type 0
-TurnsTexts old new is_done change = Shows new (if is_done then change (texts_of old) else texts_of old)
+abbrev pub ChangesTexts : Stickers → Stickers → Bool → (ByTarget → ByTarget) → Type 0
+ChangesTexts old new is_done change = Shows new (if is_done then change (texts_of old) else texts_of old)
 
 -- a success tells all entries of these texts, by rising bytes of the keys
 abbrev pub TellsTexts : (List ℕ → Option (List ℕ)) → Result (Vec Entry) ShelfFault → Type 0

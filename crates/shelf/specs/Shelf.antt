@@ -8,7 +8,7 @@ use Rattle.shelf.specs.declared.faults.ShelfFault.{ShelfFault}
 use Rattle.shelf.specs.declared.kinds.StickerKind.{StickerKind}
 use Rattle.shelf.specs.Calls.{Call, Lists, ListOf, Put, Create, Rename, Remove, StickerOf, SetSticker, DeleteSticker, DeleteStickers, StickersOf, FindStickers}
 use Rattle.shelf.specs.Entries.{entry_texts}
-use Rattle.shelf.specs.Maps.{Maps, Standing, Same, Trusted, Turns, Answers, AnswersAll, AreKeys, AreEntries, with_list, with_renamed, with_removed, with_sticker, with_stickers, no_stickers, no_refusal, refusal_of_list, refusal_of_put, refusal_of_create, refusal_of_rename, refusal_of_target, refusal_of_set, refusal_of_sticker}
+use Rattle.shelf.specs.Maps.{Maps, Standing, Same, Trusted, Changes, Answers, AnswersAll, AreKeys, AreEntries, with_list, with_renamed, with_removed, with_sticker, with_stickers, no_stickers, no_refusal, refusal_of_list, refusal_of_put, refusal_of_create, refusal_of_rename, refusal_of_target, refusal_of_set, refusal_of_sticker}
 
 -- what each call answers over these maps: its own refusal, and `StoreFault` for this reason alone
 abbrev pub AnswersCall : {X : Type 0} → Type 0 → Maps → Call → Result X ShelfFault → Type 0
@@ -46,9 +46,9 @@ module _ {S : Type 0} (standing : S → Standing) where
   IsAnswerTo failed old new call result =
       Trusted (standing old) (standing new) → AnswersCall (failed old new call) (standing old).maps call result
 
-  -- the call turns the maps into those of the call done, or changes nothing while the store is open
-  abbrev pub TurnsBy : {X : Type 0} → S → S → Call → Result X ShelfFault → Type 0
-  TurnsBy old new call result = Turns (standing old) (standing new) (is_ok result) (maps_once_done call (standing old).maps)
+  -- the call changes the maps to those of the call done, or changes nothing while the store is open
+  abbrev pub ChangesBy : {X : Type 0} → S → S → Call → Result X ShelfFault → Type 0
+  ChangesBy old new call result = Changes (standing old) (standing new) (is_ok result) (maps_once_done call (standing old).maps)
 
 module _ (old new : Standing) where
   -- where the store is trusted, a success tells the names of all lists, by rising bytes

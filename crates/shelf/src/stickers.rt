@@ -2,7 +2,7 @@
 
 ghost use Rattle.std.specs.Prelude.{◌≡◌, ◌≢◌, Some, None, IfOk, is_ok, string_bytes};
 ghost use Rattle.shelf.specs.Maps.{Answers, AnswersAll, no_refusal, no_stickers};
-ghost use Rattle.shelf.specs.Memory.{Shows, TellsTexts, TurnsTexts, moved, no_texts, refusal_of_text, text_in, texts_of, with_text, with_texts};
+ghost use Rattle.shelf.specs.Memory.{Shows, TellsTexts, ChangesTexts, moved, no_texts, refusal_of_text, text_in, texts_of, with_text, with_texts};
 
 use crate::faults::{Entry, ShelfFault};
 use std::alloc::Global;
@@ -44,7 +44,7 @@ impl Stickers {
     /// Keeps a text under the target and the name, in place of the one it had.
     pub fn set(&mut self, target: &str, name: &str, value: &str) -> Result<(), ShelfFault>
         ensures answers { Answers ⊥ no_refusal result }
-        ensures turns { TurnsTexts self.old self.new (is_ok result) (with_text target.now name.now (Some value.now)) }
+        ensures changes { ChangesTexts self.old self.new (is_ok result) (with_text target.now name.now (Some value.now)) }
     {
         let name = String::from_str(self.alloc, name)?;
         let value = String::from_str(self.alloc, value)?;
@@ -62,7 +62,7 @@ impl Stickers {
     /// Takes a sticker away. Refused: `NoSticker`.
     pub fn delete(&mut self, target: &str, name: &str) -> Result<(), ShelfFault>
         ensures answers { Answers ⊥ (refusal_of_text (texts_of self.old target.now name.now)) result }
-        ensures turns { TurnsTexts self.old self.new (is_ok result) (with_text target.now name.now None) }
+        ensures changes { ChangesTexts self.old self.new (is_ok result) (with_text target.now name.now None) }
     {
         let Some(names) = self.targets.get_mut(target) else {
             return Err(ShelfFault::NoSticker);
@@ -76,7 +76,7 @@ impl Stickers {
     /// Takes all stickers of a target away. Refused: `NoSticker`, where it has none.
     pub fn delete_all(&mut self, target: &str) -> Result<(), ShelfFault>
         ensures answers { AnswersAll ⊥ no_refusal (texts_of self.old target.now) result }
-        ensures turns { TurnsTexts self.old self.new (is_ok result) (with_texts target.now no_stickers) }
+        ensures changes { ChangesTexts self.old self.new (is_ok result) (with_texts target.now no_stickers) }
         ensures gone { Shows self.new (with_texts target.now no_stickers (texts_of self.old)) }
     {
         let Some(names) = self.targets.remove(target) else {
@@ -92,7 +92,7 @@ impl Stickers {
     pub fn move_to(&mut self, target: &str, new_target: &str) -> Result<(), ShelfFault>
         requires { target.now ≢ new_target.now }
         ensures answers { Answers ⊥ no_refusal result }
-        ensures turns { TurnsTexts self.old self.new (is_ok result) (moved target.now new_target.now) }
+        ensures changes { ChangesTexts self.old self.new (is_ok result) (moved target.now new_target.now) }
     {
         let key = String::from_str(self.alloc, new_target)?;
         self.targets.insert(key, BTreeMap::new(self.alloc))?;

@@ -2,7 +2,7 @@
 
 ghost use Rattle.shelf.specs.Maps.{Standing};
 ghost use Rattle.shelf.specs.Calls.{Call, Lists, ListOf, Put, Create, Rename, Remove, StickerOf, SetSticker, DeleteSticker, DeleteStickers, StickersOf, FindStickers};
-ghost use Rattle.shelf.specs.Shelf.{IsAnswerTo, LeavesWhatItShows, TellsEntries, TellsNames, TellsText, TellsUris, TurnsBy, texts_by_name, texts_by_target};
+ghost use Rattle.shelf.specs.Shelf.{IsAnswerTo, LeavesWhatItShows, TellsEntries, TellsNames, TellsText, TellsUris, ChangesBy, texts_by_name, texts_by_target};
 
 use crate::faults::{Entry, ShelfFault};
 use crate::kinds::StickerKind;
@@ -25,41 +25,41 @@ pub trait Shelf {
     fn lists(&mut self) -> Result<Vec<String>, ShelfFault>
         ensures answers { IsAnswerTo standing failed self.old self.new Lists result }
         ensures names { TellsNames (standing self.old) (standing self.new) result }
-        ensures turns { TurnsBy standing self.old self.new Lists result };
+        ensures changes { ChangesBy standing self.old self.new Lists result };
 
     /// The URIs of a stored playlist. Refused: `NoSuchList`.
     fn list(&mut self, name: &str) -> Result<UriList, ShelfFault>
         ensures answers { IsAnswerTo standing failed self.old self.new (ListOf name.now) result }
         ensures uris { TellsUris (standing self.old) (standing self.new) name.now result }
-        ensures turns { TurnsBy standing self.old self.new (ListOf name.now) result };
+        ensures changes { ChangesBy standing self.old self.new (ListOf name.now) result };
 
     /// Keeps the URIs under the name, in place of those it had. Refused: `BadName`.
     fn put(&mut self, name: &str, uris: &UriList) -> Result<(), ShelfFault>
         ensures answers { IsAnswerTo standing failed self.old self.new (Put name.now uris.now) result }
-        ensures turns { TurnsBy standing self.old self.new (Put name.now uris.now) result };
+        ensures changes { ChangesBy standing self.old self.new (Put name.now uris.now) result };
 
     /// Keeps the URIs under a name that no list has. Refused, in this order: `Exists`, `BadName`.
     fn create(&mut self, name: &str, uris: &UriList) -> Result<(), ShelfFault>
         ensures answers { IsAnswerTo standing failed self.old self.new (Create name.now uris.now) result }
-        ensures turns { TurnsBy standing self.old self.new (Create name.now uris.now) result };
+        ensures changes { ChangesBy standing self.old self.new (Create name.now uris.now) result };
 
     /// Gives a stored playlist another name, and its stickers with it. Refused, in this order: `NoSuchList`,
     /// `Exists` (also for its own name), `BadName`.
     fn rename(&mut self, name: &str, new_name: &str) -> Result<(), ShelfFault>
         ensures answers { IsAnswerTo standing failed self.old self.new (Rename name.now new_name.now) result }
-        ensures turns { TurnsBy standing self.old self.new (Rename name.now new_name.now) result };
+        ensures changes { ChangesBy standing self.old self.new (Rename name.now new_name.now) result };
 
     /// Takes a stored playlist away, and its stickers with it. Refused: `NoSuchList`.
     fn remove(&mut self, name: &str) -> Result<(), ShelfFault>
         ensures answers { IsAnswerTo standing failed self.old self.new (Remove name.now) result }
-        ensures turns { TurnsBy standing self.old self.new (Remove name.now) result };
+        ensures changes { ChangesBy standing self.old self.new (Remove name.now) result };
 
     /// The text of a sticker. Refused, in this order: `NoSuchList` where it is a stored playlist's that is
     /// not there, `NoSticker`.
     fn sticker(&mut self, kind: StickerKind, target: &str, name: &str) -> Result<String, ShelfFault>
         ensures answers { IsAnswerTo standing failed self.old self.new (StickerOf kind target.now name.now) result }
         ensures value { TellsText (standing self.old) (standing self.new) kind target.now name.now result }
-        ensures turns { TurnsBy standing self.old self.new (StickerOf kind target.now name.now) result };
+        ensures changes { ChangesBy standing self.old self.new (StickerOf kind target.now name.now) result };
 
     /// Keeps a text under the target and the name, in place of the one it had. Refused, in this order:
     /// `NoSuchList` where the target is a stored playlist that is not there, `BadName`.
@@ -71,7 +71,7 @@ pub trait Shelf {
         text: &str,
     ) -> Result<(), ShelfFault>
         ensures answers { IsAnswerTo standing failed self.old self.new (SetSticker kind target.now name.now text.now) result }
-        ensures turns { TurnsBy standing self.old self.new (SetSticker kind target.now name.now text.now) result };
+        ensures changes { ChangesBy standing self.old self.new (SetSticker kind target.now name.now text.now) result };
 
     /// Takes a sticker away. Refused, in this order: `NoSuchList` where it is a stored playlist's that is
     /// not there, `NoSticker`.
@@ -82,26 +82,26 @@ pub trait Shelf {
         name: &str,
     ) -> Result<(), ShelfFault>
         ensures answers { IsAnswerTo standing failed self.old self.new (DeleteSticker kind target.now name.now) result }
-        ensures turns { TurnsBy standing self.old self.new (DeleteSticker kind target.now name.now) result };
+        ensures changes { ChangesBy standing self.old self.new (DeleteSticker kind target.now name.now) result };
 
     /// Takes all stickers of a target away. Refused, in this order: `NoSuchList` where the target is a stored
     /// playlist that is not there, `NoSticker` where it has none.
     fn delete_stickers(&mut self, kind: StickerKind, target: &str) -> Result<(), ShelfFault>
         ensures answers { IsAnswerTo standing failed self.old self.new (DeleteStickers kind target.now) result }
-        ensures turns { TurnsBy standing self.old self.new (DeleteStickers kind target.now) result };
+        ensures changes { ChangesBy standing self.old self.new (DeleteStickers kind target.now) result };
 
     /// The names and texts of a target's stickers, by rising bytes of the names. Refused: `NoSuchList` where
     /// the target is a stored playlist that is not there.
     fn stickers_of(&mut self, kind: StickerKind, target: &str) -> Result<Vec<Entry>, ShelfFault>
         ensures answers { IsAnswerTo standing failed self.old self.new (StickersOf kind target.now) result }
         ensures entries { TellsEntries (standing self.old) (standing self.new) (texts_by_name kind target.now) result }
-        ensures turns { TurnsBy standing self.old self.new (StickersOf kind target.now) result };
+        ensures changes { ChangesBy standing self.old self.new (StickersOf kind target.now) result };
 
     /// The targets of a kind that have a sticker of the name, with its text, by rising bytes of the targets.
     fn find_stickers(&mut self, kind: StickerKind, name: &str) -> Result<Vec<Entry>, ShelfFault>
         ensures answers { IsAnswerTo standing failed self.old self.new (FindStickers kind name.now) result }
         ensures entries { TellsEntries (standing self.old) (standing self.new) (texts_by_target kind name.now) result }
-        ensures turns { TurnsBy standing self.old self.new (FindStickers kind name.now) result };
+        ensures changes { ChangesBy standing self.old self.new (FindStickers kind name.now) result };
 
     /// While the store is open, a stop leaves the maps that it shows.
     ghost settled: { (s : Self) → LeavesWhatItShows (standing s) };

@@ -114,7 +114,7 @@ fn end_of_lines(text: &str) -> usize
     ensures lines { lines_of (take result text.now) ≡ lines_of text.now }
 {
     match text.rfind('\n') {
-        Some(place) => place + 1,
+        Some(offset) => offset + 1,
         None => 0,
     }
 }

@@ -20,20 +20,20 @@ pub song_more : {X Y : Type 0} (h : X → Option Y) (songs : List Y) (lines more
 song_more h songs lines more x left is some =
     rw (is, take_first left x more some) (append_assoc songs (option_to_list (h x)) (filter_map h (take (left - 1) more)) ∙ ap (λ end. songs ++ end) (sym (cons_is (h x) (filter_map h (take (left - 1) more)))))
 
-pub mapped_more : {X Y : Type 0} (f : X → Y) (xs : List X) (place : ℕ) (x : X) → slice_get xs place ≡ Some x → map f (take (suc place) xs) ≡ map f (take place xs) ++ f x ∷ []
-mapped_more f [] place x known = absurd (cc)
+pub mapped_more : {X Y : Type 0} (f : X → Y) (xs : List X) (index : ℕ) (x : X) → slice_get xs index ≡ Some x → map f (take (suc index) xs) ≡ map f (take index xs) ++ f x ∷ []
+mapped_more f [] index x known = absurd (cc)
 mapped_more f (y ∷ xs) zero x known = let same : y ≡ x = cc in ap (λ z. f z ∷ []) same
-mapped_more f (y ∷ xs) (suc place) x known = ap (λ more. f y ∷ more) (mapped_more f xs place x known)
+mapped_more f (y ∷ xs) (suc index) x known = ap (λ more. f y ∷ more) (mapped_more f xs index x known)
 
-pub none_past : {X : Type 0} (xs : List X) (place : ℕ) → slice_get xs place ≡ None → length xs ≤ place
-none_past [] place none = omega arith
+pub none_past : {X : Type 0} (xs : List X) (index : ℕ) → slice_get xs index ≡ None → length xs ≤ index
+none_past [] index none = omega arith
 none_past (x ∷ xs) zero none = absurd (cc)
-none_past (x ∷ xs) (suc place) none = omega (arith, none_past xs place none)
+none_past (x ∷ xs) (suc index) none = omega (arith, none_past xs index none)
 
-pub one_more : {X : Type 0} (xs : List X) (place : ℕ) → drop 1 (drop place xs) ≡ drop (suc place) xs
+pub one_more : {X : Type 0} (xs : List X) (index : ℕ) → drop 1 (drop index xs) ≡ drop (suc index) xs
 one_more xs zero = refl
-one_more [] (suc place) = refl
-one_more (x ∷ xs) (suc place) = one_more xs place
+one_more [] (suc index) = refl
+one_more (x ∷ xs) (suc index) = one_more xs index
 
 -- some more elements
 pub mapped_part : {X Y : Type 0} (f : X → Y) (xs : List X) (at count : ℕ) → map f (take (at + count) xs) ≡ map f (take at xs) ++ map f (slice_range xs at (at + count))

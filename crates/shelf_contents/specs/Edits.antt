@@ -14,7 +14,7 @@ uris_in queue = map (λ (entry : Entry). entry.song.uri) queue
 abbrev pub uris_of : List SongData → List (List ℕ)
 uris_of songs = map (λ (song : SongData). song.uri) songs
 
--- the entry at a place taken out, and put into the rest at another
+-- the entry at a position taken out, and put into the rest at another
 abbrev pub moved : List (List ℕ) → ℕ → ℕ → List (List ℕ)
 moved uris from to = insert (remove uris from) to (slice_index_or uris from [])
 

@@ -48,18 +48,18 @@ pub fn with_songs(list: &UriList, songs: &[SharedSong]) -> Result<UriList, Alloc
     Ok(longer)
 }
 
-/// The list without the entry at a place.
-pub fn without(alloc: Global, list: &UriList, place: usize) -> Result<UriList, AllocError>
-    requires { place < length list.now }
-    ensures { IfOk result (λ rest. rest ≡ remove list.now place) }
+/// The list without the entry at a position.
+pub fn without(alloc: Global, list: &UriList, position: usize) -> Result<UriList, AllocError>
+    requires { position < length list.now }
+    ensures { IfOk result (λ rest. rest ≡ remove list.now position) }
 {
     let mut rest = UriList::new(alloc);
-    push_first(&mut rest, list.text(), place)?;
-    push_all(&mut rest, behind_first(behind(list.text(), place)))?;
+    push_first(&mut rest, list.text(), position)?;
+    push_all(&mut rest, behind_first(behind(list.text(), position)))?;
     Ok(rest)
 }
 
-/// The list with the entry at one place taken out, and put into the rest at another.
+/// The list with the entry at one position taken out, and put into the rest at another.
 pub fn moved(alloc: Global, list: &UriList, from: usize, to: usize) -> Result<UriList, AllocError>
     requires from_within { from < length list.now }
     requires to_within { to < length list.now }
@@ -72,14 +72,19 @@ pub fn moved(alloc: Global, list: &UriList, from: usize, to: usize) -> Result<Ur
     }
 }
 
-/// The list with a URI put in at a place.
-fn with_uri(alloc: Global, list: &UriList, place: usize, uri: &str) -> Result<UriList, AllocError>
+/// The list with a URI put in at a position.
+fn with_uri(
+    alloc: Global,
+    list: &UriList,
+    position: usize,
+    uri: &str,
+) -> Result<UriList, AllocError>
     requires { HasNoNewline uri.now }
-    ensures { IfOk result (λ longer. longer ≡ insert list.now place uri.now) }
+    ensures { IfOk result (λ longer. longer ≡ insert list.now position uri.now) }
 {
     let mut longer = UriList::new(alloc);
-    push_first(&mut longer, list.text(), place)?;
+    push_first(&mut longer, list.text(), position)?;
     longer.push(uri)?;
-    push_all(&mut longer, behind(list.text(), place))?;
+    push_all(&mut longer, behind(list.text(), position))?;
     Ok(longer)
 }

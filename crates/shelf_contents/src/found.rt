@@ -31,9 +31,9 @@ pub fn found_lines(
     let mut answer = Answer::new(alloc);
     for entry in entries {
         let key = entry.key.as_str();
-        let is_wanted = is_asked(is_song, uri, front.as_str(), key)
+        let is_asked_for = is_asked(is_song, uri, front.as_str(), key)
             && meets(test, entry.value.as_str());
-        if is_wanted && db.get(key).is_some() {
+        if is_asked_for && db.get(key).is_some() {
             push_found(alloc, &mut answer, name, entry)?;
         }
     }

@@ -9,7 +9,7 @@ use Rattle.sqlite.specs.Query.{IsAnswer}
 use Rattle.sqlite.specs.Program.{overlay}
 use Rattle.sqlite.specs.Command.{Command}
 use Rattle.sqlite.specs.State.{State, HasCleanDisk, Survives, Shown, Executes, CommitsBy, CommitsShowing}
-use Rattle.shelf.specs.Maps.{Maps, Turns, Trusted, Answers, AnswersAll}
+use Rattle.shelf.specs.Maps.{Maps, Changes, Trusted, Answers, AnswersAll}
 use Rattle.shelf.specs.declared.faults.ShelfFault.{ShelfFault}
 use Rattle.shelf.specs.declared.faults.ShelfFault.TheVariants.{NoMemory, StoreFault}
 use Rattle.shelf_database.specs.Asks.{IsFor, IsRefused, IsTextless, Refuses, Ran}
@@ -18,7 +18,7 @@ use Rattle.shelf_database.specs.Tables.{IsReady, Reads, database_standing}
 use Rattle.shelf_database.proofs.Statements.{Writing}
 use Rattle.shelf_database.proofs.LacksLemmas.{first_lacks}
 use Rattle.shelf_database.proofs.QueryLemmas.{answer_of, leaves_same, shown_same, failed_before, query_failed}
-use Rattle.shelf_database.proofs.WriteLemmas.{IsAsBefore, unchanged_is, IsChange, DoesSo, write_turns}
+use Rattle.shelf_database.proofs.WriteLemmas.{IsAsBefore, unchanged_is, IsChange, DoesSo, write_changes}
 use Rattle.shelf_database.proofs.WriteBlame.{RefusedFor, write_blamed}
 use Rattle.shelf_database.proofs.BlameLemmas.{Question, IsWhole}
 
@@ -81,7 +81,7 @@ module _ (text : List ℕ) (params : Row) (q : Question text params) (old new : 
   pub text_refuses : (reason : Type 0) (fault : ShelfFault) → ((rows : List Row) → IsAnswer q.query (overlay old.now.trees []) params rows → LacksText (0 ∷ []) (λ _. true) rows → reason)
       → (HasCleanDisk new → IsRefused text params old new fault ⊎ IsTextless text params old new fault) → Refuses old new (HasFailed old new ⊎ reason) fault
   text_refuses reason fault lacks refused = record {
-    turns = λ after. query_failed text q.query q.names q.reading params old new after (λ clean ready. before fault (refused clean) ready) survives;
+    changes = λ after. query_failed text q.query q.names q.reading params old new after (λ clean ready. before fault (refused clean) ready) survives;
     told = λ clean ready. elim (refused clean) [
       | inl h ↦ for_this (HasFailed old new) (HasFailed old new ⊎ reason) fault (λ failed. inl failed) (blamed_for fault ready h)
       | inr h ↦ for_this (LacksText (0 ∷ []) (λ _. true) h.0) (HasFailed old new ⊎ reason) fault (λ none. inr (lacks h.0 (asked_answer h.0 ready h.1) none)) h.2
@@ -90,7 +90,7 @@ module _ (text : List ℕ) (params : Row) (q : Question text params) (old new : 
 
   pub asked_refuses : (fault : ShelfFault) → (HasCleanDisk new → IsRefused text params old new fault) → Refuses old new (HasFailed old new) fault
   asked_refuses fault refused = record {
-    turns = λ after. query_failed text q.query q.names q.reading params old new after (λ clean ready. before fault (inl (refused clean)) ready) survives;
+    changes = λ after. query_failed text q.query q.names q.reading params old new after (λ clean ready. before fault (inl (refused clean)) ready) survives;
     told = λ clean ready. blamed_for fault ready (refused clean);
   }
 
@@ -117,8 +117,8 @@ ran_blames text params old new (Err fault) failed why h = for_this (h.0 ≢ Sqli
 
 module _ (text : List ℕ) (params : Row) (command : Command) (writing : Writing text command) (change : IsChange command) (old new : State) (r : Result (Unit {0}) ShelfFault)
     (ran : HasCleanDisk new → Ran text params old new r) where
-  pub change_turns : (after : Maps) → (IsReady old → DoesSo old text params command after) → Survives old new (CommitsBy text params old) → Turns (database_standing old) (database_standing new) (is_ok r) after
-  change_turns after does survives = write_turns old new text params command writing change after does (is_ok r) (λ clean. ran_as r (ran clean)) survives
+  pub statement_changes : (after : Maps) → (IsReady old → DoesSo old text params command after) → Survives old new (CommitsBy text params old) → Changes (database_standing old) (database_standing new) (is_ok r) after
+  statement_changes after does survives = write_changes old new text params command writing change after does (is_ok r) (λ clean. ran_as r (ran clean)) survives
     where
       ran_as : (r : Result (Unit {0}) ShelfFault) → Ran text params old new r → (q : Result ℕ Error) × (is_ok q ≡ is_ok r) × Executes text params old new q
       ran_as (Ok done) h = (Ok h.0, refl, h.1)

@@ -24,11 +24,11 @@ first_lacks rows row first lacks = (row, has_got rows 0 row first, refl, 0, inl 
 
 -- each of these columns shows one of those of the table
 abbrev Moves : Row → List Term → List ℕ → List ℕ → Type 0
-Moves params project columns wanted = (row : Row) (at : ℕ) → Has columns at → (place : ℕ) × Has wanted place × (column (eval_all project (params ∷ row ∷ [])) at ≡ column row place)
+Moves params project columns sources = (row : Row) (at : ℕ) → Has columns at → (index : ℕ) × Has sources index × (column (eval_all project (params ∷ row ∷ [])) at ≡ column row index)
 
-first_moves : (params : Row) (place : ℕ) → Moves params (col 1 place ∷ []) (0 ∷ []) (place ∷ [])
-first_moves params place row at (inl is) = (place, inl refl, ap (column (eval_all (col 1 place ∷ []) (params ∷ row ∷ []))) is)
-first_moves params place row at (inr never) = absurd never
+first_moves : (params : Row) (index : ℕ) → Moves params (col 1 index ∷ []) (0 ∷ []) (index ∷ [])
+first_moves params index row at (inl is) = (index, inl refl, ap (column (eval_all (col 1 index ∷ []) (params ∷ row ∷ []))) is)
+first_moves params index row at (inr never) = absurd never
 
 both_move : (params : Row) (a b : ℕ) → Moves params (col 1 a ∷ col 1 b ∷ []) (0 ∷ 1 ∷ []) (a ∷ b ∷ [])
 both_move params a b row at (inl is) = (a, inl refl, ap (column (eval_all (col 1 a ∷ col 1 b ∷ []) (params ∷ row ∷ []))) is)
@@ -36,9 +36,9 @@ both_move params a b row at (inr (inl is)) = (b, inr (inl refl), ap (column (eva
 both_move params a b row at (inr (inr never)) = absurd never
 
 module _ (params : Row) (tree : ℕ) (terms project : List Term) (order : List (Term × Key)) (test : Row → Bool) (tests : (row : Row) → list_all (holds (params ∷ row ∷ [])) terms ≡ test row) where
-  lacks_below : (columns wanted : List ℕ) → Moves params project columns wanted → (db : Trees) (rows : List Row) → IsAnswer (over tree terms project order) db params rows
-      → LacksText columns (λ _. true) rows → LacksText wanted test (db tree)
-  lacks_below columns wanted moves db rows answer lacks =
+  lacks_below : (columns sources : List ℕ) → Moves params project columns sources → (db : Trees) (rows : List Row) → IsAnswer (over tree terms project order) db params rows
+      → LacksText columns (λ _. true) rows → LacksText sources test (db tree)
+  lacks_below columns sources moves db rows answer lacks =
       let read = answer_is params tree terms project order test tests db rows answer in
       let from = shown_from params tree terms project order test tests (filter test (db tree)) rows read lacks.0 lacks.1 in
       let was = has_filtered test (db tree) from.0 from.1 in

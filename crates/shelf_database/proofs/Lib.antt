@@ -33,7 +33,7 @@ pub mod RemoveLemmas
 pub mod RenameBlame
 pub mod RenameEdit
 pub mod RenameLemmas
-pub mod RenameTurns
+pub mod RenameChanges
 pub mod ReplaceBlame
 pub mod RunLemmas
 pub mod ShownLemmas

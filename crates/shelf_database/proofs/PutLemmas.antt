@@ -1,4 +1,4 @@
--- What INSERT OR REPLACE leaves of a table: the row with this key is replaced, or put at a free place.
+-- What INSERT OR REPLACE leaves of a table: the row with this key is replaced, or put at a free rowid.
 use Rattle.std.proofs.Common.{◌≡◌, ◌≢◌, inl, inr, ℕ, ℤ, List, [], ◌∷◌, filter, Bool, true, false, not, ◌&&◌, ◌||◌, Some, None, Option, Ok, refl, sym, ap, subst, ◌∙◌, IsTrue}
 use Rattle.std.specs.List.{AllByRecursion}
 use Rattle.std.specs.Ordering.{is_eq}

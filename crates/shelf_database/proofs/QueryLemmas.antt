@@ -12,7 +12,7 @@ use Rattle.sqlite.specs.Effect.{Database}
 use Rattle.sqlite.specs.Listing.{understood}
 use Rattle.sqlite.specs.State.{State, HasCleanDisk, Survives, Shown, FailsToQuery, CommitsShowing, IsUnchanged}
 use Rattle.sqlite.proofs.Callers.{IsPlain, reads_as, never_commits}
-use Rattle.shelf.specs.Maps.{Maps, Same, Turns, Trusted}
+use Rattle.shelf.specs.Maps.{Maps, Same, Changes, Trusted}
 use Rattle.shelf_database.specs.Tables.{shelf_schema, note_maps, profile_number, IsShelf, IsReady, IsOwn, HoldsTexts, Reads, database_standing}
 use Rattle.shelf_database.specs.Settled.{same_maps}
 use Rattle.shelf_database.proofs.Statements.{Reading, ReadingIn}
@@ -70,7 +70,7 @@ module _ (text : List ℕ) (query : Query) (names : List (List ℕ)) (reading : 
   pub failed_before : IsReady old → (e : Error) → FailsToQuery text params old new e → IsAsBefore old new
   failed_before ready = failed_in shelf_schema text query names reading params old new ready.shelf.schema
 
-  pub query_failed : (after : Maps) → (HasCleanDisk new → IsReady old → IsAsBefore old new) → Survives old new (CommitsShowing text params old) → Turns (database_standing old) (database_standing new) false after
+  pub query_failed : (after : Maps) → (HasCleanDisk new → IsReady old → IsAsBefore old new) → Survives old new (CommitsShowing text params old) → Changes (database_standing old) (database_standing new) false after
   query_failed after before survives = record {
     clean = λ h. omega (arith, survives.clean);
     counts = survives.counts;
@@ -89,8 +89,8 @@ module _ (text : List ℕ) (query : Query) (names : List (List ℕ)) (reading : 
           let mode : new.in_transaction ≡ false = elim was.mode [ inl same ↦ same ∙ ready.autocommit | inr ended ↦ ended ] in
           (record { shelf = subst IsShelf (sym now) ready.shelf; settled = now ∙ ready.settled ∙ sym (was.committed opened); autocommit = mode }, now)
 
-pub read_turns : (old new : State) (is_done : Bool) → Reads old new → Turns (database_standing old) (database_standing new) is_done (note_maps old.now.trees)
-read_turns old new is_done reads = record {
+pub read_changes : (old new : State) (is_done : Bool) → Reads old new → Changes (database_standing old) (database_standing new) is_done (note_maps old.now.trees)
+read_changes old new is_done reads = record {
   clean = reads.clean;
   counts = reads.counts;
   stays_open = reads.stays_open;
@@ -108,29 +108,29 @@ open_through old mid new reads sooner up after clean opened = elim (reads.stays_
   | inr more ↦ inr (omega (arith, more, up))
 ]
 
-pub read_then : (old mid new : State) (is_done : Bool) (after : Maps) → Reads old mid → Turns (database_standing mid) (database_standing new) is_done after → Turns (database_standing old) (database_standing new) is_done after
-read_then old mid new is_done after reads turns = record {
-  clean = λ h. reads.clean (turns.clean h);
-  counts = let low = reads.counts in let up = turns.counts in omega (arith, low, up);
-  stays_open = open_through old mid new reads turns.clean turns.counts turns.stays_open;
-  ours = λ trusted. turns.ours (trust trusted);
-  done = λ trusted. turns.done (trust trusted);
-  kept = λ trusted is opened. subst (λ (d : Database). Same (note_maps d.trees) (note_maps new.now.trees)) (same trusted).0.now_is (turns.kept (trust trusted) is opened);
-  stop = λ trusted m left. elim (turns.stop (trust trusted) m left) [
-    | inl before ↦ inl (before.0, reads.leaves (turns.clean trusted.0) trusted.1.ready before.0 before.1, before.2)
+pub read_then : (old mid new : State) (is_done : Bool) (after : Maps) → Reads old mid → Changes (database_standing mid) (database_standing new) is_done after → Changes (database_standing old) (database_standing new) is_done after
+read_then old mid new is_done after reads changes = record {
+  clean = λ h. reads.clean (changes.clean h);
+  counts = let low = reads.counts in let up = changes.counts in omega (arith, low, up);
+  stays_open = open_through old mid new reads changes.clean changes.counts changes.stays_open;
+  ours = λ trusted. changes.ours (trust trusted);
+  done = λ trusted. changes.done (trust trusted);
+  kept = λ trusted is opened. subst (λ (d : Database). Same (note_maps d.trees) (note_maps new.now.trees)) (same trusted).0.now_is (changes.kept (trust trusted) is opened);
+  stop = λ trusted m left. elim (changes.stop (trust trusted) m left) [
+    | inl before ↦ inl (before.0, reads.leaves (changes.clean trusted.0) trusted.1.ready before.0 before.1, before.2)
     | inr done ↦ inr done
   ];
 }
   where
     same : Trusted (database_standing old) (database_standing new) → IsUnchanged old mid
-    same trusted = reads.same (turns.clean trusted.0) trusted.1.ready
+    same trusted = reads.same (changes.clean trusted.0) trusted.1.ready
 
     trust : Trusted (database_standing old) (database_standing new) → Trusted (database_standing mid) (database_standing new)
     trust trusted = (trusted.0, own_same old mid trusted.1 (same trusted))
 
 -- the same where what the write makes is told of the maps that it found
-pub read_then_by : (old mid new : State) (is_done : Bool) (f : Maps → Maps) → Reads old mid → Turns (database_standing mid) (database_standing new) is_done (f (note_maps mid.now.trees)) → Turns (database_standing old) (database_standing new) is_done (f (note_maps old.now.trees))
-read_then_by old mid new is_done f reads turns = let it = read_then old mid new is_done (f (note_maps mid.now.trees)) reads turns in record {
+pub read_then_by : (old mid new : State) (is_done : Bool) (f : Maps → Maps) → Reads old mid → Changes (database_standing mid) (database_standing new) is_done (f (note_maps mid.now.trees)) → Changes (database_standing old) (database_standing new) is_done (f (note_maps old.now.trees))
+read_then_by old mid new is_done f reads changes = let it = read_then old mid new is_done (f (note_maps mid.now.trees)) reads changes in record {
   clean = it.clean;
   counts = it.counts;
   stays_open = it.stays_open;
@@ -144,4 +144,4 @@ read_then_by old mid new is_done f reads turns = let it = read_then old mid new 
 }
   where
     same : Trusted (database_standing old) (database_standing new) → IsUnchanged old mid
-    same trusted = reads.same (turns.clean trusted.0) trusted.1.ready
+    same trusted = reads.same (changes.clean trusted.0) trusted.1.ready

@@ -71,7 +71,7 @@ module _ (db : Database) (is : IsShelf db) (params : Row) (at : ℕ) (terms : Li
       let project : List Term = col 1 at ∷ col 1 4 ∷ [] in
       let read = answer_is params 5 terms project (rising at) test tests (overlay db.trees []) rows answer in
       let o = in_order params 5 at terms project test tests (filter test (db.trees 5)) rows read in
-      let shown = λ (place : ℕ). ap (map (λ row. column row place)) o.2 ∙ map-map (λ row. column row place) (λ r. eval_all project (params ∷ r ∷ [])) o.0 in
+      let shown = λ (index : ℕ). ap (map (λ row. column row index)) o.2 ∙ map-map (λ row. column row index) (λ r. eval_all project (params ∷ r ∷ [])) o.0 in
       record {
         rising = entries_rise at test both same (db.trees 5) is.notes.rise once o.0 o.1.0 entries 4 (sym (shown 0) ∙ keys) (sym (shown 1) ∙ values) o.1.1;
         whole = entry_found at test both same (db.trees 5) is.notes.rise once o.0 o.1.0 entries 4 (sym (shown 0) ∙ keys) (sym (shown 1) ∙ values);

@@ -9,13 +9,13 @@ use Rattle.shelf.specs.declared.faults.ShelfFault.TheVariants.{NoSuchList, Store
 use Rattle.shelf.specs.declared.kinds.StickerKind.{StickerKind}
 use Rattle.shelf.specs.Calls.{Call, DeleteStickers}
 use Rattle.shelf.specs.Shelf.{maps_once_done}
-use Rattle.shelf.specs.Maps.{Maps, Turns, Trusted, Answers, AnswersAll, first_of}
+use Rattle.shelf.specs.Maps.{Maps, Changes, Trusted, Answers, AnswersAll, first_of}
 use Rattle.shelf_database.specs.Tables.{note_maps, IsReady, Reads, database_standing}
 use Rattle.shelf_database.specs.Faults.{CannotDo, StoreFailed}
-use Rattle.shelf_database.specs.Notes.{AnswersThere, AnswersAllThere, TurnsThere}
+use Rattle.shelf_database.specs.Notes.{AnswersThere, AnswersAllThere, ChangesThere}
 use Rattle.shelf_database.specs.Settled.{same_maps}
 use Rattle.shelf_database.proofs.FaultLemmas.{answers_for, failed_after}
-use Rattle.shelf_database.proofs.QueryLemmas.{own_same, read_turns, read_then_by}
+use Rattle.shelf_database.proofs.QueryLemmas.{own_same, read_changes, read_then_by}
 
 -- no refusal of the target lets that of the sticker speak
 later_refusal : (first later : Option ShelfFault) → first ≡ None → first_of first later ≡ later
@@ -49,8 +49,8 @@ all_answers_for weak failed first named (Err StoreFault) none why h = why h
 all_answers_for weak failed first named (Err NoMemory) none why h = h
 
 -- a query changes nothing, whatever the call was to make
-undone_turns : (old new : State) (after : Maps) → Reads old new → Turns (database_standing old) (database_standing new) false after
-undone_turns old new after reads = let it = read_turns old new false reads in record {
+undone_changes : (old new : State) (after : Maps) → Reads old new → Changes (database_standing old) (database_standing new) false after
+undone_changes old new after reads = let it = read_changes old new false reads in record {
   clean = it.clean;
   counts = it.counts;
   stays_open = it.stays_open;
@@ -61,8 +61,8 @@ undone_turns old new after reads = let it = read_turns old new false reads in re
 }
 
 -- a call that does nothing
-pub idle_turns : (s : State) (after : Maps) → Turns (database_standing s) (database_standing s) false after
-idle_turns s after = record {
+pub idle_changes : (s : State) (after : Maps) → Changes (database_standing s) (database_standing s) false after
+idle_changes s after = record {
   clean = λ clean. clean;
   counts = omega arith;
   stays_open = λ clean opened. inl opened;
@@ -74,23 +74,23 @@ idle_turns s after = record {
 
 module _ {S : Type 0} (g : Ghosts S) (held mid : Held S) (reads : (mid ≡ held) ⊎ Reads (state g held) (state g mid)) where
   -- what comes after it was looked whether the target is there
-  pub turns_there : {X : Type 0} (new : State) (call : Call) (r : Result X ShelfFault) → TurnsThere (state g mid) new call r → TurnsThere (state g held) new call r
-  turns_there new call r turns = elim reads [
-    | inl same ↦ subst (λ h. TurnsThere (state g h) new call r) same turns
-    | inr read ↦ read_then_by (state g held) (state g mid) new (is_ok r) (maps_once_done call) read turns
+  pub changes_there : {X : Type 0} (new : State) (call : Call) (r : Result X ShelfFault) → ChangesThere (state g mid) new call r → ChangesThere (state g held) new call r
+  changes_there new call r changes = elim reads [
+    | inl same ↦ subst (λ h. ChangesThere (state g h) new call r) same changes
+    | inr read ↦ read_then_by (state g held) (state g mid) new (is_ok r) (maps_once_done call) read changes
   ]
 
-  pub idle_there : (after : Maps) → Turns (database_standing (state g held)) (database_standing (state g mid)) false after
+  pub idle_there : (after : Maps) → Changes (database_standing (state g held)) (database_standing (state g mid)) false after
   idle_there after = elim reads [
-    | inl same ↦ subst (λ h. Turns (database_standing (state g held)) (database_standing (state g h)) false after) (sym same) (idle_turns (state g held) after)
-    | inr read ↦ undone_turns (state g held) (state g mid) after read
+    | inl same ↦ subst (λ h. Changes (database_standing (state g held)) (database_standing (state g h)) false after) (sym same) (idle_changes (state g held) after)
+    | inr read ↦ undone_changes (state g held) (state g mid) after read
   ]
 
-  pub answers_there : {X : Type 0} (new : State) (call : Call) (r : Result X ShelfFault) (first : Option ShelfFault) (refusal : Maps → Option ShelfFault) → TurnsThere (state g mid) new call r
+  pub answers_there : {X : Type 0} (new : State) (call : Call) (r : Result X ShelfFault) (first : Option ShelfFault) (refusal : Maps → Option ShelfFault) → ChangesThere (state g mid) new call r
       → (HasCleanDisk (state g mid) → IsReady (state g held) → first ≡ None) → AnswersThere (state g mid) new call refusal r → Trusted (database_standing (state g held)) (database_standing new)
       → Answers (StoreFailed (state g held) new call) (first_of first (refusal (note_maps (state g held).now.trees))) r
-  answers_there new call r first refusal turns found answers trusted =
-      let clean = turns.clean trusted.0 in
+  answers_there new call r first refusal changes found answers trusted =
+      let clean = changes.clean trusted.0 in
       let none = found clean trusted.1.ready in
       elim reads [
         | inl same ↦
@@ -99,11 +99,11 @@ module _ {S : Type 0} (g : Ghosts S) (held mid : Held S) (reads : (mid ≡ held)
         | inr read ↦ answers_then (state g held) (state g mid) new call read clean trusted r first refusal none answers
       ]
 
-  pub all_answers_there : {X : Type 0} (new : State) (kind : StickerKind) (target : List ℕ) (r : Result X ShelfFault) (first : Option ShelfFault) → TurnsThere (state g mid) new (DeleteStickers kind target) r
+  pub all_answers_there : {X : Type 0} (new : State) (kind : StickerKind) (target : List ℕ) (r : Result X ShelfFault) (first : Option ShelfFault) → ChangesThere (state g mid) new (DeleteStickers kind target) r
       → (HasCleanDisk (state g mid) → IsReady (state g held) → first ≡ None) → AnswersAllThere (state g mid) new kind target r → Trusted (database_standing (state g held)) (database_standing new)
       → AnswersAll (StoreFailed (state g held) new (DeleteStickers kind target)) first ((note_maps (state g held).now.trees).stickers kind target) r
-  all_answers_there new kind target r first turns found answers trusted =
-      let clean = turns.clean trusted.0 in
+  all_answers_there new kind target r first changes found answers trusted =
+      let clean = changes.clean trusted.0 in
       let none = found clean trusted.1.ready in
       elim reads [
         | inl same ↦ all_answers_for (StoreFailed (state g held) new (DeleteStickers kind target)) (StoreFailed (state g held) new (DeleteStickers kind target)) first _ r none (λ why. why)

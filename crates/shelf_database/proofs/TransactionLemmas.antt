@@ -10,7 +10,7 @@ use Rattle.sqlite.specs.Store.{Ghosts}
 use Rattle.sqlite.specs.Held.{Held, state}
 use Rattle.sqlite.specs.State.{State, HasCleanDisk, Survives, Shows, KeepsCounts, IsRolledBack}
 use Rattle.sqlite.specs.Steps.{FailsToCommit}
-use Rattle.shelf.specs.Maps.{Maps, Same, Turns}
+use Rattle.shelf.specs.Maps.{Maps, Same, Changes}
 use Rattle.shelf_database.specs.Settled.{same_maps, noted}
 use Rattle.shelf_database.specs.Tables.{note_maps, number_of, profile_number, IsShelf, IsReady, IsOwn, HoldsTexts, database_standing}
 use Rattle.shelf_database.specs.Faults.{HasFailed}
@@ -45,8 +45,8 @@ module _ {S : Type 0} (g : Ghosts S) (held begun : Held S) (begins : begun ≡ r
   own_ended true same clean own opened = own_done clean own (sym same)
   own_ended false same clean own opened = own_kept clean own (sym same) opened
 
-  pub ended_turns : Turns (database_standing (state g held)) (database_standing new) is_done after
-  ended_turns = record {
+  pub ended_changes : Changes (database_standing (state g held)) (database_standing new) is_done after
+  ended_changes = record {
     clean = λ clean. omega (arith, clean, ending.clean, (filled_first g held begun begins filled new filling Ends ending).clean);
     counts = made_counts g held begun begins filled new filling Ends ending;
     stays_open = made_stays_open g held begun begins filled new filling Ends ending;
@@ -105,8 +105,8 @@ module _ {S : Type 0} (g : Ghosts S) (held begun : Held S) (begins : begun ≡ r
   back_there (Err e) (inl h) is inside = h.3
   back_there (Err e) (inr h) is inside = absurd (true≢false (sym inside ∙ h.1))
 
-  pub committed_turns : Turns (database_standing (state g held)) (database_standing new) (is_ok r) after
-  committed_turns = ended_turns g held begun begins filled new leads.survives (λ trees. trees ≡ filled.now.trees) ending after (is_ok r)
+  pub committed_changes : Changes (database_standing (state g held)) (database_standing new) (is_ok r) after
+  committed_changes = ended_changes g held begun begins filled new leads.survives (λ trees. trees ≡ filled.now.trees) ending after (is_ok r)
       (λ clean own is.
       let shows = done_there r (ok clean) is in
       (shows.is_open, ended, shows.now_is ∙ sym shows.committed_is, subst (Carries after (state g held).now) (sym shows.now_is) (carried clean own.ready)))
@@ -131,8 +131,8 @@ module _ {S : Type 0} (g : Ghosts S) (held begun : Held S) (begins : begun ≡ r
   clean_filled : HasCleanDisk new → HasCleanDisk filled
   clean_filled clean = omega (arith, clean, ending.clean)
 
-  pub dropped_turns : Turns (database_standing (state g held)) (database_standing new) false after
-  dropped_turns = ended_turns g held begun begins filled new leads.survives (λ _. ⊥) ending after false
+  pub dropped_changes : Changes (database_standing (state g held)) (database_standing new) false after
+  dropped_changes = ended_changes g held begun begins filled new leads.survives (λ _. ⊥) ending after false
       (λ clean own is. absurd (cc))
       (λ clean own is opened. rolled_back g held begun begins filled new Before Made false leads (clean_filled clean) (undone clean) own.ready.settled opened)
       (λ clean own trees never. absurd never)

@@ -12,7 +12,7 @@ use Rattle.sqlite.specs.Listing.{understood}
 use Rattle.sqlite.specs.State.{State, HasCleanDisk, Survives, Executes, ExecutesIn, CommitsBy, Runs, Writes, IsUnchanged, Fails, IsNotRun, MayCommit, MayWrite, shows_rows, text_of, mode_of}
 use Rattle.sqlite.specs.Does.{Tally, Does}
 use Rattle.sqlite.proofs.Callers.{IsPlain, command_of, statement_of, runs_as}
-use Rattle.shelf.specs.Maps.{Maps, Same, Turns}
+use Rattle.shelf.specs.Maps.{Maps, Same, Changes}
 use Rattle.shelf_database.specs.Tables.{shelf_schema, note_maps, number_of, profile_number, IsShelf, IsReady, HoldsTexts, database_standing}
 use Rattle.shelf_database.specs.Settled.{same_maps, noted}
 use Rattle.shelf_database.proofs.Statements.{Writing}
@@ -115,9 +115,9 @@ module _ (old new : State) (text : List ℕ) (params : Row) (command : Command) 
   when_refused (Ok count) is ready h opened = absurd (cc)
   when_refused (Err e) is ready h opened = same_maps _ _ (ap (λ (d : Database). note_maps d.trees) (sym (ready_before e ready h opened).1))
 
-  pub write_turns : (is_done : Bool) → (HasCleanDisk new → (r : Result ℕ Error) × (is_ok r ≡ is_done) × Executes text params old new r) → Survives old new (CommitsBy text params old)
-      → Turns (database_standing old) (database_standing new) is_done after
-  write_turns is_done ran survives = record {
+  pub write_changes : (is_done : Bool) → (HasCleanDisk new → (r : Result ℕ Error) × (is_ok r ≡ is_done) × Executes text params old new r) → Survives old new (CommitsBy text params old)
+      → Changes (database_standing old) (database_standing new) is_done after
+  write_changes is_done ran survives = record {
     clean = λ clean. omega (arith, survives.clean);
     counts = survives.counts;
     stays_open = survives.closes;

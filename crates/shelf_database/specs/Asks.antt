@@ -12,7 +12,7 @@ use Rattle.sqlite.specs.Held.{Held, state}
 use Rattle.sqlite.specs.State.{State, HasCleanDisk, Shown, FailsToQuery, Executes, Survives, CommitsBy, CommitsShowing}
 use Rattle.shelf.specs.declared.faults.ShelfFault.{ShelfFault}
 use Rattle.shelf.specs.declared.faults.ShelfFault.TheVariants.{StoreFault, NoMemory}
-use Rattle.shelf.specs.Maps.{Maps, Turns}
+use Rattle.shelf.specs.Maps.{Maps, Changes}
 use Rattle.shelf_database.specs.Tables.{IsReady, database_standing}
 use Rattle.shelf_database.specs.Faults.{LacksText}
 
@@ -53,7 +53,7 @@ Ran text params old new (Err fault) = (e : Error) × Executes text params old ne
 -- A query that was refused leaves the maps, whatever the call was to do. The store is blamed for this reason
 -- alone.
 pub record Refuses (old new : State) (reason : Type 0) (fault : ShelfFault) : Type 0 where
-  pub turns : (after : Maps) → Turns (database_standing old) (database_standing new) false after
+  pub changes : (after : Maps) → Changes (database_standing old) (database_standing new) false after
   pub told : HasCleanDisk new → IsReady old → IsFor reason fault
 
 -- what a statement on a connection showed or made, from before it to after it

@@ -13,7 +13,7 @@ use Rattle.sqlite_rules.specs.Lists.{Has}
 use Rattle.shelf.specs.declared.faults.ShelfFault.{ShelfFault}
 use Rattle.shelf.specs.declared.kinds.StickerKind.TheVariants.{Playlist}
 use Rattle.shelf.specs.Calls.{Rename, Remove}
-use Rattle.shelf.specs.Maps.{Maps, Same, Turns, with_list, with_stickers, with_renamed, with_removed, no_stickers}
+use Rattle.shelf.specs.Maps.{Maps, Same, Changes, with_list, with_stickers, with_renamed, with_removed, no_stickers}
 use Rattle.shelf_database.specs.Tables.{note_maps, of_target, IsShelf, IsReady, HoldsTexts, database_standing}
 use Rattle.shelf_database.specs.Asks.{IsFor}
 use Rattle.shelf_database.specs.Faults.{StoreFailed, CannotCopy, KeepsItsRow, KeepsItsSticker}
@@ -89,7 +89,7 @@ module _ {S : Type 0} (store : Ghosts S) (old new : Held S) where
   -- the list is taken away with its stickers, or nothing is changed
   abbrev pub Removes : {X E : Type 0} → List ℕ → Result X E → Type 0
   Removes name result =
-      Turns (database_standing (state store old)) (database_standing (state store new)) (is_ok result)
+      Changes (database_standing (state store old)) (database_standing (state store new)) (is_ok result)
       (with_removed (note_maps (state store old).now.trees) name)
 
   -- where the disk is clean, over a shelf's tables, the store alone refuses
@@ -115,7 +115,7 @@ module _ {S : Type 0} (store : Ghosts S) (old new : Held S) where
   abbrev pub Renames : {X E : Type 0} → List ℕ → List ℕ → Result X E → Type 0
   Renames name other result =
       CanRename name other
-      → Turns (database_standing (state store old)) (database_standing (state store new)) (is_ok result)
+      → Changes (database_standing (state store old)) (database_standing (state store new)) (is_ok result)
       (with_renamed (note_maps (state store old).now.trees) name other)
 
   abbrev pub BlamesRename : List ℕ → List ℕ → Result (Unit {0}) ShelfFault → Type 0

@@ -10,7 +10,7 @@ use Rattle.shelf.specs.declared.faults.ShelfFault.{ShelfFault}
 use Rattle.shelf.specs.declared.faults.ShelfFault.TheVariants.{NoSticker, BadName}
 use Rattle.shelf.specs.declared.kinds.StickerKind.{StickerKind}
 use Rattle.shelf.specs.Calls.{Call, StickerOf, SetSticker, DeleteSticker, DeleteStickers, StickersOf}
-use Rattle.shelf.specs.Maps.{Maps, Turns, Trusted, Answers, AnswersAll, no_refusal, is_sticker_name}
+use Rattle.shelf.specs.Maps.{Maps, Changes, Trusted, Answers, AnswersAll, no_refusal, is_sticker_name}
 use Rattle.shelf.specs.Shelf.{maps_once_done, TellsText, TellsEntries}
 use Rattle.shelf_database.specs.Tables.{note_maps, database_standing}
 use Rattle.shelf_database.specs.Faults.{StoreFailed}
@@ -37,9 +37,9 @@ module _ (old new : State) where
       Trusted (database_standing old) (database_standing new)
       → AnswersAll (StoreFailed old new (DeleteStickers kind target)) no_refusal ((note_maps old.now.trees).stickers kind target) result
 
-  -- the call turns the maps into those of the call done, or changes nothing while the store is open
-  abbrev pub TurnsThere : {X : Type 0} → Call → Result X ShelfFault → Type 0
-  TurnsThere call result = Turns (database_standing old) (database_standing new) (is_ok result) (maps_once_done call (note_maps old.now.trees))
+  -- the call changes the maps to those of the call done, or changes nothing while the store is open
+  abbrev pub ChangesThere : {X : Type 0} → Call → Result X ShelfFault → Type 0
+  ChangesThere call result = Changes (database_standing old) (database_standing new) (is_ok result) (maps_once_done call (note_maps old.now.trees))
 
 -- what a call on stickers answers and leaves, from the connection before it to the one after it
 module _ {S : Type 0} (store : Ghosts S) (old new : Held S) where
@@ -54,9 +54,9 @@ module _ {S : Type 0} (store : Ghosts S) (old new : Held S) where
   TellsSticker kind target name result =
       TellsText (database_standing (state store old)) (database_standing (state store new)) kind target name result
 
-  abbrev pub TurnsSticker : {X : Type 0} → StickerKind → List ℕ → List ℕ → Result X ShelfFault → Type 0
-  TurnsSticker kind target name result =
-      TurnsThere (state store old) (state store new) (StickerOf kind target name) result
+  abbrev pub ChangesSticker : {X : Type 0} → StickerKind → List ℕ → List ℕ → Result X ShelfFault → Type 0
+  ChangesSticker kind target name result =
+      ChangesThere (state store old) (state store new) (StickerOf kind target name) result
 
   -- a sticker is set
   abbrev pub AnswersSetting : {X : Type 0} → StickerKind → List ℕ → List ℕ → List ℕ → Result X ShelfFault → Type 0
@@ -64,9 +64,9 @@ module _ {S : Type 0} (store : Ghosts S) (old new : Held S) where
       AnswersThere (state store old) (state store new) (SetSticker kind target name value)
       (refusal_of_note_name name) result
 
-  abbrev pub TurnsSetting : {X : Type 0} → StickerKind → List ℕ → List ℕ → List ℕ → Result X ShelfFault → Type 0
-  TurnsSetting kind target name value result =
-      TurnsThere (state store old) (state store new) (SetSticker kind target name value) result
+  abbrev pub ChangesSetting : {X : Type 0} → StickerKind → List ℕ → List ℕ → List ℕ → Result X ShelfFault → Type 0
+  ChangesSetting kind target name value result =
+      ChangesThere (state store old) (state store new) (SetSticker kind target name value) result
 
   -- a sticker is taken away
   abbrev pub AnswersDeleteSticker : {X : Type 0} → StickerKind → List ℕ → List ℕ → Result X ShelfFault → Type 0
@@ -74,18 +74,18 @@ module _ {S : Type 0} (store : Ghosts S) (old new : Held S) where
       AnswersThere (state store old) (state store new) (DeleteSticker kind target name)
       (refusal_of_note kind target name) result
 
-  abbrev pub TurnsDeleteSticker : {X : Type 0} → StickerKind → List ℕ → List ℕ → Result X ShelfFault → Type 0
-  TurnsDeleteSticker kind target name result =
-      TurnsThere (state store old) (state store new) (DeleteSticker kind target name) result
+  abbrev pub ChangesDeleteSticker : {X : Type 0} → StickerKind → List ℕ → List ℕ → Result X ShelfFault → Type 0
+  ChangesDeleteSticker kind target name result =
+      ChangesThere (state store old) (state store new) (DeleteSticker kind target name) result
 
   -- all stickers of a target are taken away
   abbrev pub AnswersDeleteStickers : {X : Type 0} → StickerKind → List ℕ → Result X ShelfFault → Type 0
   AnswersDeleteStickers kind target result =
       AnswersAllThere (state store old) (state store new) kind target result
 
-  abbrev pub TurnsDeleteStickers : {X : Type 0} → StickerKind → List ℕ → Result X ShelfFault → Type 0
-  TurnsDeleteStickers kind target result =
-      TurnsThere (state store old) (state store new) (DeleteStickers kind target) result
+  abbrev pub ChangesDeleteStickers : {X : Type 0} → StickerKind → List ℕ → Result X ShelfFault → Type 0
+  ChangesDeleteStickers kind target result =
+      ChangesThere (state store old) (state store new) (DeleteStickers kind target) result
 
   -- the stickers of a target are asked for
   abbrev pub AnswersStickersOf : {X : Type 0} → StickerKind → List ℕ → Result X ShelfFault → Type 0
@@ -98,5 +98,5 @@ module _ {S : Type 0} (store : Ghosts S) (old new : Held S) where
       TellsEntries (database_standing (state store old)) (database_standing (state store new))
       (λ m. m.stickers kind target) result
 
-  abbrev pub TurnsStickersOf : {X : Type 0} → StickerKind → List ℕ → Result X ShelfFault → Type 0
-  TurnsStickersOf kind target result = TurnsThere (state store old) (state store new) (StickersOf kind target) result
+  abbrev pub ChangesStickersOf : {X : Type 0} → StickerKind → List ℕ → Result X ShelfFault → Type 0
+  ChangesStickersOf kind target result = ChangesThere (state store old) (state store new) (StickersOf kind target) result

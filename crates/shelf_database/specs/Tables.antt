@@ -121,7 +121,7 @@ placed_note = record note_table { tree = 5 }
 abbrev pub is_keyed : List ℕ → List ℕ → Table → Bool
 is_keyed name primary table = bytes_eq table.name name && bytes_eq table.primary primary
 
--- the column at this place, counted from 0, has this name
+-- the column at this index, counted from 0, has this name
 abbrev pub has_column : Table → ℕ → List ℕ → Bool
 has_column table at name = unwrap_or (option_map (λ c. bytes_eq c.name name) (slice_get table.columns at)) false
 
@@ -212,7 +212,7 @@ abbrev pub int_in : Value → Option ℤ
 int_in (Int n) = Some n
 int_in _ = None
 
--- the integer at this place of the one row
+-- the integer at this index of the one row
 abbrev pub number_of : ℕ → List Row → Option ℤ
 number_of at [] = None
 number_of at (row ∷ []) = int_in (column row at)

@@ -17,7 +17,7 @@ pub(crate) fn rename_list<S: Alter>(
     name: &str,
     new_name: &str,
 ) -> Result<(), ShelfFault>
-    ensures turns { Renames S.Store connection.old connection.new name.now new_name.now result }
+    ensures changes { Renames S.Store connection.old connection.new name.now new_name.now result }
     ensures survives { IsLaterThan (state S.Store connection.old) (state S.Store connection.new) }
     ensures blamed { BlamesRename S.Store connection.old connection.new name.now new_name.now result }
 {
@@ -32,7 +32,7 @@ fn rename_in_one<S: Alter>(
     name: &str,
     new_name: &str,
 ) -> Result<(), Error>
-    ensures turns { Renames S.Store connection.old connection.new name.now new_name.now result }
+    ensures changes { Renames S.Store connection.old connection.new name.now new_name.now result }
     ensures survives { IsLaterThan (state S.Store connection.old) (state S.Store connection.new) }
     ensures blamed { StopsRename S.Store connection.old connection.new name.now new_name.now result }
 {
@@ -108,7 +108,7 @@ pub(crate) fn remove_list<S: Alter>(
     connection: &mut Connection<S>,
     name: &str,
 ) -> Result<(), ShelfFault>
-    ensures turns { Removes S.Store connection.old connection.new name.now result }
+    ensures changes { Removes S.Store connection.old connection.new name.now result }
     ensures blamed { BlamesRemove S.Store connection.old connection.new name.now result }
 {
     match remove_in_one(connection, name) {
@@ -118,7 +118,7 @@ pub(crate) fn remove_list<S: Alter>(
 }
 
 fn remove_in_one<S: Alter>(connection: &mut Connection<S>, name: &str) -> Result<(), Error>
-    ensures turns { Removes S.Store connection.old connection.new name.now result }
+    ensures changes { Removes S.Store connection.old connection.new name.now result }
     ensures blamed { StopsRemove S.Store connection.old connection.new name.now result }
 {
     if !connection.is_autocommit() {

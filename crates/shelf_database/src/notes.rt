@@ -4,7 +4,7 @@ ghost use Rattle.std.specs.Prelude.{◌≡◌, OnOk, IfErr};
 ghost use Rattle.sqlite.specs.Held.{state};
 ghost use Rattle.shelf_database.specs.Tables.{Reads, kind_text as text_of_kind};
 ghost use Rattle.shelf_database.specs.Finds.{FailsToName, FindsNote, FindsNotes, FindsTarget, MissesNotes, ReadsAtMost, RefusesAsFailed};
-ghost use Rattle.shelf_database.specs.Notes.{AnswersDeleteSticker, AnswersDeleteStickers, AnswersSetting, AnswersSticker, AnswersStickersOf, TellsSticker, TellsStickersOf, TurnsDeleteSticker, TurnsDeleteStickers, TurnsSetting, TurnsSticker, TurnsStickersOf};
+ghost use Rattle.shelf_database.specs.Notes.{AnswersDeleteSticker, AnswersDeleteStickers, AnswersSetting, AnswersSticker, AnswersStickersOf, TellsSticker, TellsStickersOf, ChangesDeleteSticker, ChangesDeleteStickers, ChangesSetting, ChangesSticker, ChangesStickersOf};
 
 use crate::asks::{ask, change, first_text};
 use crate::lists::has_list;
@@ -84,7 +84,7 @@ pub(crate) fn note<S: Alter>(
 ) -> Result<String, ShelfFault>
     ensures answers { AnswersSticker S.Store connection.old connection.new kind target.now name.now result }
     ensures value { TellsSticker S.Store connection.old connection.new kind target.now name.now result }
-    ensures turns { TurnsSticker S.Store connection.old connection.new kind target.now name.now result }
+    ensures changes { ChangesSticker S.Store connection.old connection.new kind target.now name.now result }
 {
     let find = "SELECT value FROM note WHERE kind = ?1 AND target = ?2 AND name = ?3";
     let word = kind_text(kind);
@@ -103,7 +103,7 @@ pub(crate) fn set_note<S: Alter>(
     value: &str,
 ) -> Result<(), ShelfFault>
     ensures answers { AnswersSetting S.Store connection.old connection.new kind target.now name.now value.now result }
-    ensures turns { TurnsSetting S.Store connection.old connection.new kind target.now name.now value.now result }
+    ensures changes { ChangesSetting S.Store connection.old connection.new kind target.now name.now value.now result }
 {
     if !is_sticker_name(name) {
         return Err(ShelfFault::BadName);
@@ -121,7 +121,7 @@ pub(crate) fn delete_note<S: Alter>(
     name: &str,
 ) -> Result<(), ShelfFault>
     ensures answers { AnswersDeleteSticker S.Store connection.old connection.new kind target.now name.now result }
-    ensures turns { TurnsDeleteSticker S.Store connection.old connection.new kind target.now name.now result }
+    ensures changes { ChangesDeleteSticker S.Store connection.old connection.new kind target.now name.now result }
 {
     if !has_note(connection, kind, target, name)? {
         return Err(ShelfFault::NoSticker);
@@ -138,7 +138,7 @@ pub(crate) fn delete_notes<S: Alter>(
     target: &str,
 ) -> Result<(), ShelfFault>
     ensures answers { AnswersDeleteStickers S.Store connection.old connection.new kind target.now result }
-    ensures turns { TurnsDeleteStickers S.Store connection.old connection.new kind target.now result }
+    ensures changes { ChangesDeleteStickers S.Store connection.old connection.new kind target.now result }
 {
     if !has_notes(connection, kind, target)? {
         return Err(ShelfFault::NoSticker);
@@ -157,7 +157,7 @@ pub(crate) fn notes_of<S: Alter>(
 ) -> Result<Vec<Entry>, ShelfFault>
     ensures answers { AnswersStickersOf S.Store connection.old connection.new kind target.now result }
     ensures entries { TellsStickersOf S.Store connection.old connection.new kind target.now result }
-    ensures turns { TurnsStickersOf S.Store connection.old connection.new kind target.now result }
+    ensures changes { ChangesStickersOf S.Store connection.old connection.new kind target.now result }
 {
     let find = "SELECT name, value FROM note WHERE kind = ?1 AND target = ?2 ORDER BY name";
     let word = kind_text(kind);

@@ -79,7 +79,7 @@ fn is_keyed(table: &Table, name: &str, primary: &[usize]) -> bool
     table.name.as_slice() == name.as_bytes() && table.primary.as_slice() == primary
 }
 
-/// Whether the column at the place, counted from 0, has the name.
+/// Whether the column at the index, counted from 0, has the name.
 fn has_column(table: &Table, at: usize, name: &str) -> bool
     ensures { result ≡ column_named table.now at name.now }
 {

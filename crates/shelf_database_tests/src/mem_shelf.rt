@@ -5,7 +5,7 @@ use shelf_tests::calls::{add_uris, uri_list};
 use shelf_tests::cases::{CASES, look_at};
 use std::alloc::{AllocError, Global};
 use std::test::Fail;
-use test_texts::{Told, wants};
+use test_texts::{Recorder, wants};
 
 /// Looks at an empty shelf in each case. Here alone it is proved that this is a shelf: once, and not in each
 /// test.
@@ -68,15 +68,15 @@ fn list_of(alloc: Global, text: &str) -> Result<UriList, AllocError> {
     Ok(UriList::of_text(String::from_str(alloc, text)?))
 }
 
-fn add_pushed(told: &mut Told, alloc: Global) {
+fn add_pushed(recorder: &mut Recorder, alloc: Global) {
     let mut uris = UriList::new(alloc);
     let was_empty = uris.is_empty();
     if uris.push("é b.wav").is_err() || uris.push("").is_err() {
-        told.fail();
+        recorder.fail();
     }
-    add_uris(told, &uris, '|');
+    add_uris(recorder, &uris, '|');
     let (len, is_empty) = (uris.len(), uris.is_empty());
-    told.add(format_args!(" {len} {was_empty} {is_empty}"));
+    recorder.add(format_args!(" {len} {was_empty} {is_empty}"));
 }
 
 fn are_same(alloc: Global, text: &str, other: &str) -> Result<bool, AllocError> {
@@ -84,31 +84,31 @@ fn are_same(alloc: Global, text: &str, other: &str) -> Result<bool, AllocError> 
     Ok(uris.is_same(&list_of(alloc, other)?))
 }
 
-fn add_first(told: &mut Told, text: &str) {
+fn add_first(recorder: &mut Recorder, text: &str) {
     match next_uri(text) {
-        Some((uri, more)) => told.add(format_args!("{uri}|{more}")),
-        None => told.add("none"),
+        Some((uri, more)) => recorder.add(format_args!("{uri}|{more}")),
+        None => recorder.add("none"),
     }
 }
 
 fn answer(alloc: Global, ask: Ask<'_>) -> Result<String, AllocError> {
-    let mut told = Told::new(alloc);
+    let mut recorder = Recorder::new(alloc);
     match ask {
-        Ask::ListName(name) => told.add(is_list_name(name)),
-        Ask::StickerName(name) => told.add(is_sticker_name(name)),
-        Ask::TextOf(uris) => told.add(uri_list(alloc, uris)?.text()),
-        Ask::UrisIn(text) => add_uris(&mut told, &list_of(alloc, text)?, '|'),
-        Ask::Pushed => add_pushed(&mut told, alloc),
-        Ask::AreSame(text, other) => told.add(are_same(alloc, text, other)?),
-        Ask::First(text) => add_first(&mut told, text),
+        Ask::ListName(name) => recorder.add(is_list_name(name)),
+        Ask::StickerName(name) => recorder.add(is_sticker_name(name)),
+        Ask::TextOf(uris) => recorder.add(uri_list(alloc, uris)?.text()),
+        Ask::UrisIn(text) => add_uris(&mut recorder, &list_of(alloc, text)?, '|'),
+        Ask::Pushed => add_pushed(&mut recorder, alloc),
+        Ask::AreSame(text, other) => recorder.add(are_same(alloc, text, other)?),
+        Ask::First(text) => add_first(&mut recorder, text),
     }
-    told.into_text()
+    recorder.into_text()
 }
 
 #[test]
 fn names_and_lists_of_uris(rt: HostRuntime) -> Result<(), Fail> {
-    for (ask, wanted) in ASKED {
-        wants(answer(rt.alloc(), *ask), wanted)?;
+    for (ask, expected) in ASKED {
+        wants(answer(rt.alloc(), *ask), expected)?;
     }
     Ok(())
 }

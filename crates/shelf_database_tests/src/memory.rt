@@ -6,7 +6,7 @@ use shelf_tests::cases::{CASES, Case, look_at};
 use sqlite::{Connection, MemStore, params};
 use std::alloc::Global;
 use std::test::Fail;
-use test_texts::{Told, wants};
+use test_texts::{Recorder, wants};
 
 pub(crate) fn over(
     alloc: Global,
@@ -151,11 +151,11 @@ fn number_of(connection: &mut Connection<MemStore>, query: &str) -> Option<i64> 
 }
 
 /// Adds the number that each query shows, with an end of line after it.
-fn add_numbers(told: &mut Told, connection: &mut Connection<MemStore>, queries: &[&str]) {
+fn add_numbers(recorder: &mut Recorder, connection: &mut Connection<MemStore>, queries: &[&str]) {
     for query in queries {
         match number_of(connection, query) {
-            Some(number) => told.add(format_args!("{number}\n")),
-            None => told.fail(),
+            Some(number) => recorder.add(format_args!("{number}\n")),
+            None => recorder.fail(),
         }
     }
 }
@@ -180,15 +180,15 @@ fn add_stickers(alloc: Global, connection: &mut Connection<MemStore>, count: u32
 
 /// Fails where queries show other numbers of a store of profile 1 that was moved, with so many stickers more of
 /// one name.
-fn look_at_moved(alloc: Global, more: u32, queries: &[&str], wanted: &str) -> Result<(), Fail> {
-    let mut told = Told::new(alloc);
+fn look_at_moved(alloc: Global, more: u32, queries: &[&str], expected: &str) -> Result<(), Fail> {
+    let mut recorder = Recorder::new(alloc);
     let mut connection = after(alloc, false, FIRST_PROFILE)?;
     if !add_stickers(alloc, &mut connection, more) {
-        told.fail();
+        recorder.fail();
     }
     let mut connection = over(alloc, connection)?.into_connection();
-    add_numbers(&mut told, &mut connection, queries);
-    wants(told.into_text(), wanted)
+    add_numbers(&mut recorder, &mut connection, queries);
+    wants(recorder.into_text(), expected)
 }
 
 /// The profile is 2, the old table is empty, the sticker is in the new one, and the list stays.

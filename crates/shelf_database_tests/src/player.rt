@@ -8,7 +8,7 @@ use shelf::Shelf;
 use std::alloc::{AllocError, Global};
 use test_players::{library, list_answer, player, requests};
 use test_songs::song;
-use test_texts::Told;
+use test_texts::Recorder;
 use transitions::Stand;
 
 /// A player over a song of one second and one of four frames, without outputs, whose window has at most two events.
@@ -20,55 +20,60 @@ fn opened(alloc: Global) -> Result<Partition, AllocError> {
 }
 
 /// Applies an event, and adds what the client hears of it.
-fn happens<S: Shelf>(told: &mut Told, player: &mut Partition, shelf: &mut S, event: Event) {
+fn happens<S: Shelf>(recorder: &mut Recorder, player: &mut Partition, shelf: &mut S, event: Event) {
     match player.apply(3, shelf, event) {
-        Ok(outcome) => told.add(outcome.reply().text()),
-        Err(_) => told.add("not applied\n"),
+        Ok(outcome) => recorder.add(outcome.reply().text()),
+        Err(_) => recorder.add("not applied\n"),
     }
 }
 
 /// Says a line that is no list, and adds what the client hears.
 fn says<S: Shelf>(
-    told: &mut Told,
+    recorder: &mut Recorder,
     alloc: Global,
     player: &mut Partition,
     shelf: &mut S,
     line: &str,
 ) {
     match Request::of_line(alloc, line, CommandSet::base()) {
-        Ok(request) => happens(told, player, shelf, Event::line(1, Stand::Alone, request)),
-        Err(_) => told.fail(),
+        Ok(request) => happens(
+            recorder,
+            player,
+            shelf,
+            Event::line(1, Stand::Alone, request),
+        ),
+        Err(_) => recorder.fail(),
     }
 }
 
 /// Runs a list of the commands between semicolons, and adds what the client hears before its end.
 fn lists<S: Shelf>(
-    told: &mut Told,
+    recorder: &mut Recorder,
     alloc: Global,
     player: &mut Partition,
     shelf: &mut S,
     commands: &str,
 ) {
     let Ok(requests) = requests(alloc, commands) else {
-        return told.fail();
+        return recorder.fail();
     };
     match player.run_list(3, shelf, 1, ListForm::ListOk, requests) {
-        Ok(outcome) => told.add_made(list_answer(alloc, &outcome)),
-        Err(_) => told.add("not run\n"),
+        Ok(outcome) => recorder.add_made(list_answer(alloc, &outcome)),
+        Err(_) => recorder.add("not run\n"),
     }
 }
 
 /// Adds what a client hears that comes to a new player and says these lines. A line with semicolons is a list.
-pub fn session<S: Shelf>(told: &mut Told, alloc: Global, shelf: &mut S, lines: &str) {
+pub fn session<S: Shelf>(recorder: &mut Recorder, alloc: Global, shelf: &mut S, lines: &str) {
     let Ok(mut player) = opened(alloc) else {
-        return told.fail();
+        return recorder.fail();
     };
-    happens(told, &mut player, shelf, Event::Connect(1));
+    happens(recorder, &mut player, shelf, Event::Connect(1));
     for line in lines.lines() {
         if line.contains(';') {
-            lists(told, alloc, &mut player, shelf, line);
+            lists(recorder, alloc, &mut player, shelf, line);
         } else {
-            says(told, alloc, &mut player, shelf, line);
+            says(recorder, alloc, &mut player, shelf, line);
         }
     }
 }

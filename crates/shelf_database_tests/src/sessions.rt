@@ -4,7 +4,7 @@ use crate::memory::{after, over};
 use crate::stops::{Call, Disks, Side, Step, Visit, disks_before, look_again, visited};
 use std::alloc::{AllocError, Global};
 use std::test::Fail;
-use test_texts::{Told, wants};
+use test_texts::{Recorder, wants};
 
 const LISTS: &str = "add s.wav
 save x
@@ -70,14 +70,14 @@ fn tell_in_memory(
     alloc: Global,
     is_shelf: bool,
     statements: &str,
-    (lines, wanted): (&str, &str),
+    (lines, expected): (&str, &str),
 ) -> Result<(), Fail> {
-    let mut told = Told::new(alloc);
+    let mut recorder = Recorder::new(alloc);
     let mut shelf = over(alloc, after(alloc, is_shelf, statements)?)?;
-    if !visited(alloc, &mut shelf, Visit::Say(lines), &mut told) {
-        told.add("not told\n");
+    if !visited(alloc, &mut shelf, Visit::Say(lines), &mut recorder) {
+        recorder.add("not told\n");
     }
-    wants(told.into_text(), wanted)
+    wants(recorder.into_text(), expected)
 }
 
 /// Lists and stickers are kept. A list that another wrote, and that is no text, is the store's fault and no
@@ -89,7 +89,7 @@ fn sessions_in_memory(rt: HostRuntime) -> Result<(), Fail> {
     tell_in_memory(rt.alloc(), true, no_text, (BROKEN, BROKEN_TELLS))
 }
 
-/// What is told of a session beside what the client hears: where no player was lent the shelf, and where the
+/// What is observed of a session beside what the client hears: where no player was lent the shelf, and where the
 /// session ended before its last line.
 fn words_of(step: Option<Step>) -> &'static str {
     match step {
@@ -102,10 +102,10 @@ fn words_of(step: Option<Step>) -> &'static str {
 
 /// What a session tells over a shelf on files.
 fn on_disks(alloc: Global, disks: &mut Disks, lines: &str) -> Result<String, AllocError> {
-    let mut told = Told::new(alloc);
-    let step = disks.run(alloc, Visit::Say(lines), &mut told);
-    told.add(words_of(step));
-    told.into_text()
+    let mut recorder = Recorder::new(alloc);
+    let step = disks.run(alloc, Visit::Say(lines), &mut recorder);
+    recorder.add(words_of(step));
+    recorder.into_text()
 }
 
 const AGAIN: &str = "listplaylists
@@ -161,8 +161,8 @@ const ON_FILES: [(&str, &str); 3] = [
 
 /// Fails where one of these sessions over the files tells something else.
 fn tell(alloc: Global, disks: &mut Disks) -> Result<(), Fail> {
-    for (lines, wanted) in ON_FILES.iter() {
-        wants(on_disks(alloc, disks, lines), wanted)?;
+    for (lines, expected) in ON_FILES.iter() {
+        wants(on_disks(alloc, disks, lines), expected)?;
     }
     Ok(())
 }
@@ -240,8 +240,8 @@ enum Run {
     Other,
 }
 
-fn run_of(told: &str) -> Run {
-    match told {
+fn run_of(observed: &str) -> Run {
+    match observed {
         "not opened\n" => Run::NotOpened,
         STORE_FAILS => Run::Fault,
         SAVED => Run::Saved,
@@ -251,45 +251,45 @@ fn run_of(told: &str) -> Run {
 
 /// What a session that saves a list told, where the files' log fails. What a shelf then shows is looked at
 /// where the files were opened; what the session told is added where it is none of the three that may be.
-fn saving(told: &mut Told, alloc: Global, disks: &mut Disks) -> Run {
+fn saving(recorder: &mut Recorder, alloc: Global, disks: &mut Disks) -> Run {
     let Ok(heard) = on_disks(alloc, disks, SAVING) else {
-        told.fail();
+        recorder.fail();
         return Run::Other;
     };
     let run = run_of(heard.as_str());
     match run {
         Run::NotOpened => {}
-        Run::Fault => look_again(told, alloc, disks, (BEFORE, AFTER)),
-        Run::Saved => look_again(told, alloc, disks, (AFTER, AFTER)),
-        Run::Other => told.add(heard.as_str()),
+        Run::Fault => look_again(recorder, alloc, disks, (BEFORE, AFTER)),
+        Run::Saved => look_again(recorder, alloc, disks, (AFTER, AFTER)),
+        Run::Other => recorder.add(heard.as_str()),
     }
     run
 }
 
 /// Adds how many calls of the log fail in the save, counting upwards until one comes after it.
-fn add_faults(told: &mut Told, alloc: Global) {
+fn add_faults(recorder: &mut Recorder, alloc: Global) {
     let Some(disks) = disks_before(alloc, Call::Put) else {
-        return told.add("the files are not filled");
+        return recorder.add("the files are not filled");
     };
     let mut faults = 0u32;
     for calls in 0..1_000u64 {
         let Some(mut copy) = disks.copied(alloc, Side::Log, calls) else {
-            return told.fail();
+            return recorder.fail();
         };
-        match saving(told, alloc, &mut copy) {
-            Run::Saved => return told.add(format_args!("{faults} faults")),
+        match saving(recorder, alloc, &mut copy) {
+            Run::Saved => return recorder.add(format_args!("{faults} faults")),
             Run::Fault => faults = faults.saturating_add(1),
             Run::NotOpened => {}
-            Run::Other => return told.add("not as a save may end"),
+            Run::Other => return recorder.add("not as a save may end"),
         }
     }
-    told.add("no run saved the list");
+    recorder.add("no run saved the list");
 }
 
 fn faults(alloc: Global) -> Result<String, AllocError> {
-    let mut told = Told::new(alloc);
-    add_faults(&mut told, alloc);
-    told.into_text()
+    let mut recorder = Recorder::new(alloc);
+    add_faults(&mut recorder, alloc);
+    recorder.into_text()
 }
 
 /// A commit makes six calls of the log, of which each fails in turn: see [`crate::stops`].

@@ -16,7 +16,7 @@ use sqlite_disk::{Crash, Disk, Fuse, Memory};
 use std::alloc::{AllocError, Global};
 use std::mem;
 use std::test::Fail;
-use test_texts::{Told, wants};
+use test_texts::{Recorder, wants};
 
 /// The log and the database, each with the count of calls after which it fails.
 ///
@@ -76,9 +76,9 @@ pub(crate) enum Visit<'a> {
     Make(Call),
     /// One list is put on the shelf, with a sticker of it and one of a song.
     Fill,
-    /// All that the shelf shows is told.
+    /// All that the shelf shows is recorded.
     Show,
-    /// What a client hears is told that comes to a new player and says these lines.
+    /// What a client hears is recorded that comes to a new player and says these lines.
     Say(&'a str),
 }
 
@@ -125,45 +125,50 @@ fn fill<S: Shelf>(alloc: Global, shelf: &mut S) -> bool {
 }
 
 /// Adds a list: its name, and each URI with a comma after it.
-fn show_list<S: Shelf>(told: &mut Told, shelf: &mut S, name: &str) {
+fn show_list<S: Shelf>(recorder: &mut Recorder, shelf: &mut S, name: &str) {
     let Ok(uris) = shelf.list(name) else {
-        return told.fail();
+        return recorder.fail();
     };
-    told.add(format_args!("{name}="));
-    add_uris(told, &uris, ',');
-    told.add(";");
+    recorder.add(format_args!("{name}="));
+    add_uris(recorder, &uris, ',');
+    recorder.add(";");
 }
 
 /// Adds the stickers of one name.
-fn show_stickers<S: Shelf>(told: &mut Told, shelf: &mut S, kind: StickerKind) {
+fn show_stickers<S: Shelf>(recorder: &mut Recorder, shelf: &mut S, kind: StickerKind) {
     let Ok(entries) = shelf.find_stickers(kind, "r") else {
-        return told.fail();
+        return recorder.fail();
     };
     for entry in &entries {
         let (key, value) = (entry.key.as_str(), entry.value.as_str());
-        told.add(format_args!("{key}:{value};"));
+        recorder.add(format_args!("{key}:{value};"));
     }
 }
 
 /// Adds all that the shelf shows, as one text: its lists, and the stickers of songs and then of playlists. A
 /// fault of the shelf is one of the test, since no shelf is shown over files that stop.
-fn show<S: Shelf>(told: &mut Told, shelf: &mut S) {
+fn show<S: Shelf>(recorder: &mut Recorder, shelf: &mut S) {
     let Ok(names) = shelf.lists() else {
-        return told.fail();
+        return recorder.fail();
     };
     for name in &names {
-        show_list(told, shelf, name.as_str());
+        show_list(recorder, shelf, name.as_str());
     }
-    show_stickers(told, shelf, StickerKind::Song);
-    show_stickers(told, shelf, StickerKind::Playlist);
+    show_stickers(recorder, shelf, StickerKind::Song);
+    show_stickers(recorder, shelf, StickerKind::Playlist);
 }
 
-fn run_visit<S: Shelf>(alloc: Global, shelf: &mut S, what: Visit<'_>, told: &mut Told) -> bool {
+fn run_visit<S: Shelf>(
+    alloc: Global,
+    shelf: &mut S,
+    what: Visit<'_>,
+    recorder: &mut Recorder,
+) -> bool {
     match what {
         Visit::Make(call) => return make(alloc, shelf, call),
         Visit::Fill => return fill(alloc, shelf),
-        Visit::Show => show(told, shelf),
-        Visit::Say(lines) => session(told, alloc, shelf, lines),
+        Visit::Show => show(recorder, shelf),
+        Visit::Say(lines) => session(recorder, alloc, shelf, lines),
     }
     true
 }
@@ -173,9 +178,9 @@ pub(crate) fn visited<S: Alter + Drop>(
     alloc: Global,
     shelf: &mut SqlShelf<S>,
     what: Visit<'_>,
-    told: &mut Told,
+    recorder: &mut Recorder,
 ) -> bool {
-    run_visit(alloc, shelf, what, told)
+    run_visit(alloc, shelf, what, recorder)
 }
 
 /// The connection after a visit that was not stopped, or else the step that was, and the store.
@@ -183,13 +188,13 @@ fn run_over<S: Alter + Drop>(
     alloc: Global,
     connection: Connection<S>,
     what: Visit<'_>,
-    told: &mut Told,
+    recorder: &mut Recorder,
 ) -> Result<Connection<S>, (Step, S)> {
     let mut shelf = match SqlShelf::over(alloc, connection) {
         Ok(shelf) => shelf,
         Err((_, connection)) => return Err((Step::Over, connection.into_store())),
     };
-    let is_visited = visited(alloc, &mut shelf, what, told);
+    let is_visited = visited(alloc, &mut shelf, what, recorder);
     let connection = shelf.into_connection();
     if is_visited {
         Ok(connection)
@@ -223,13 +228,13 @@ fn run<D: Disk + Drop>(
     alloc: Global,
     files: Files<D>,
     what: Visit<'_>,
-    told: &mut Told,
+    recorder: &mut Recorder,
 ) -> (Option<Step>, Files<D>) {
     let connection = match opened(alloc, files) {
         Ok(connection) => connection,
         Err(files) => return (Some(Step::Open), files),
     };
-    match run_over(alloc, connection, what, told) {
+    match run_over(alloc, connection, what, recorder) {
         Ok(connection) => closed(connection),
         Err((step, store)) => (Some(step), store.close()),
     }
@@ -285,9 +290,14 @@ impl Disks {
 
     /// Opens the files, visits the shelf and closes the files: the step that was stopped, if one was. Here
     /// alone it is proved that these are disks.
-    pub(crate) fn run(&mut self, alloc: Global, what: Visit<'_>, told: &mut Told) -> Option<Step> {
+    pub(crate) fn run(
+        &mut self,
+        alloc: Global,
+        what: Visit<'_>,
+        recorder: &mut Recorder,
+    ) -> Option<Step> {
         let files = mem::replace(&mut self.files, no_files(alloc));
-        let (step, left) = run(alloc, files, what, told);
+        let (step, left) = run(alloc, files, what, recorder);
         self.files = left;
         step
     }
@@ -314,7 +324,7 @@ pub(crate) fn disks_before(alloc: Global, call: Call) -> Option<Disks> {
         Call::Over => true,
         Call::Move => disks.execute(alloc, FIRST_PROFILE),
         _ => disks
-            .run(alloc, Visit::Fill, &mut Told::new(alloc))
+            .run(alloc, Visit::Fill, &mut Recorder::new(alloc))
             .is_none(),
     };
     if is_done { Some(disks) } else { None }
@@ -322,32 +332,43 @@ pub(crate) fn disks_before(alloc: Global, call: Call) -> Option<Disks> {
 
 /// What a shelf over files that do not stop shows.
 fn text_of(alloc: Global, disks: &mut Disks) -> Result<String, AllocError> {
-    let mut told = Told::new(alloc);
-    if disks.run(alloc, Visit::Show, &mut told).is_some() {
-        told.fail();
+    let mut recorder = Recorder::new(alloc);
+    if disks.run(alloc, Visit::Show, &mut recorder).is_some() {
+        recorder.fail();
     }
-    told.into_text()
+    recorder.into_text()
 }
 
 /// Adds what a shelf over the files shows, after the words, where it is neither of two texts.
-fn look_at(told: &mut Told, alloc: Global, disks: &mut Disks, texts: (&str, &str), words: &str) {
+fn look_at(
+    recorder: &mut Recorder,
+    alloc: Global,
+    disks: &mut Disks,
+    texts: (&str, &str),
+    words: &str,
+) {
     let Ok(text) = text_of(alloc, disks) else {
-        return told.fail();
+        return recorder.fail();
     };
     if text.as_str() != texts.0 && text.as_str() != texts.1 {
-        told.add(format_args!("{words}: {text}\n"));
+        recorder.add(format_args!("{words}: {text}\n"));
     }
 }
 
 /// Adds something where a shelf over the files, opened again, shows neither of two texts: with all that was
 /// written, or with what was synced alone.
-pub(crate) fn look_again(told: &mut Told, alloc: Global, disks: &mut Disks, texts: (&str, &str)) {
+pub(crate) fn look_again(
+    recorder: &mut Recorder,
+    alloc: Global,
+    disks: &mut Disks,
+    texts: (&str, &str),
+) {
     match disks.copied(alloc, Side::Log, u64::MAX) {
-        Some(mut written) => look_at(told, alloc, &mut written, texts, "what was written"),
-        None => told.fail(),
+        Some(mut written) => look_at(recorder, alloc, &mut written, texts, "what was written"),
+        None => recorder.fail(),
     }
     disks.crash();
-    look_at(told, alloc, disks, texts, "what was synced");
+    look_at(recorder, alloc, disks, texts, "what was synced");
 }
 
 /// The two texts of which the shelf may show either after a stop in the step.
@@ -370,17 +391,17 @@ fn count(stops: &mut Stops, step: Option<Step>) {
 }
 
 /// The step that was stopped, if one was. Something is added where the shelf does not show what it may after it.
-fn stopped(told: &mut Told, alloc: Global, disks: &mut Disks, call: Call) -> Option<Step> {
-    let step = disks.run(alloc, Visit::Make(call), told);
-    look_again(told, alloc, disks, texts_after(step, call));
+fn stopped(recorder: &mut Recorder, alloc: Global, disks: &mut Disks, call: Call) -> Option<Step> {
+    let step = disks.run(alloc, Visit::Make(call), recorder);
+    look_again(recorder, alloc, disks, texts_after(step, call));
     step
 }
 
 /// Stops at each call of the file, counting upwards until a run ends without a stop, and adds how many stops
 /// there were in each step.
-fn add_stops(told: &mut Told, alloc: Global, call: Call, side: Side) {
+fn add_stops(recorder: &mut Recorder, alloc: Global, call: Call, side: Side) {
     let Some(disks) = disks_before(alloc, call) else {
-        return told.add("the files are not filled");
+        return recorder.add("the files are not filled");
     };
     let mut stops = Stops {
         over: 0,
@@ -389,28 +410,28 @@ fn add_stops(told: &mut Told, alloc: Global, call: Call, side: Side) {
     };
     for calls in 0..1_000u64 {
         let Some(mut copy) = disks.copied(alloc, side, calls) else {
-            return told.fail();
+            return recorder.fail();
         };
-        let step = stopped(told, alloc, &mut copy, call);
+        let step = stopped(recorder, alloc, &mut copy, call);
         count(&mut stops, step);
         if step.is_none() {
             let (over, call, close) = (stops.over, stops.call, stops.close);
-            return told.add(format_args!("over {over}, call {call}, close {close}"));
+            return recorder.add(format_args!("over {over}, call {call}, close {close}"));
         }
     }
-    told.add("no run ended without a stop");
+    recorder.add("no run ended without a stop");
 }
 
-fn told_of_stops(alloc: Global, call: Call, side: Side) -> Result<String, AllocError> {
-    let mut told = Told::new(alloc);
-    add_stops(&mut told, alloc, call, side);
-    told.into_text()
+fn observed_of_stops(alloc: Global, call: Call, side: Side) -> Result<String, AllocError> {
+    let mut recorder = Recorder::new(alloc);
+    add_stops(&mut recorder, alloc, call, side);
+    recorder.into_text()
 }
 
 /// Each call of a run, and how many calls its steps make of the log and of the database, as the sources of the
 /// port's log say.
 ///
-/// A commit calls the log six times: zeros after the place of its frames, the frames before and after their
+/// A commit calls the log six times: zeros after the offset of its frames, the frames before and after their
 /// gate, a sync, the gate, a sync. It does not call the database. A close writes each page of the log, sets
 /// the length of the database and syncs it; of the log it tests each frame and reads it, shuts the header's
 /// gate and syncs, and then writes the header before and after the gate, syncs, writes the gate, syncs and
@@ -455,9 +476,9 @@ const CALLS: [(Call, &str, &str); 6] = [
 #[test]
 fn calls_stop_in_either_file(rt: HostRuntime) -> Result<(), Fail> {
     for (call, in_log, in_database) in CALLS.iter() {
-        wants(told_of_stops(rt.alloc(), *call, Side::Log), in_log)?;
+        wants(observed_of_stops(rt.alloc(), *call, Side::Log), in_log)?;
         wants(
-            told_of_stops(rt.alloc(), *call, Side::Database),
+            observed_of_stops(rt.alloc(), *call, Side::Database),
             in_database,
         )?;
     }

@@ -3,7 +3,7 @@
 use shelf::{Entry, Shelf, ShelfFault, StickerKind, UriList};
 use std::alloc::{AllocError, Global};
 use std::test::Fail;
-use test_texts::{Told, wants};
+use test_texts::{Recorder, wants};
 
 /// A call, with names, URIs and texts as the trait has them.
 #[derive(Clone, Copy)]
@@ -63,7 +63,7 @@ pub fn keep<S: Shelf>(
 
 /// The list of these URIs.
 pub fn uri_list(alloc: Global, uris: &[&str]) -> Result<UriList, AllocError> {
-    let mut text = Told::new(alloc);
+    let mut text = Recorder::new(alloc);
     for uri in uris {
         text.add(format_args!("{uri}\n"));
     }
@@ -71,62 +71,62 @@ pub fn uri_list(alloc: Global, uris: &[&str]) -> Result<UriList, AllocError> {
 }
 
 /// Adds the URIs of a list, with the character after each.
-pub fn add_uris(told: &mut Told, uris: &UriList, after: char) {
+pub fn add_uris(recorder: &mut Recorder, uris: &UriList, after: char) {
     for c in uris.text().chars() {
-        told.add(if c == '\n' { after } else { c });
+        recorder.add(if c == '\n' { after } else { c });
     }
 }
 
-fn add_list(told: &mut Told, answer: Result<UriList, ShelfFault>) {
+fn add_list(recorder: &mut Recorder, answer: Result<UriList, ShelfFault>) {
     match answer {
-        Ok(uris) => add_uris(told, &uris, '|'),
-        Err(fault) => told.add(fault_name(fault)),
+        Ok(uris) => add_uris(recorder, &uris, '|'),
+        Err(fault) => recorder.add(fault_name(fault)),
     }
 }
 
-fn add_lists(told: &mut Told, answer: Result<Vec<String>, ShelfFault>) {
+fn add_lists(recorder: &mut Recorder, answer: Result<Vec<String>, ShelfFault>) {
     match answer {
         Ok(names) => {
             for name in &names {
-                told.add(format_args!("{name}|"));
+                recorder.add(format_args!("{name}|"));
             }
         }
-        Err(fault) => told.add(fault_name(fault)),
+        Err(fault) => recorder.add(fault_name(fault)),
     }
 }
 
-fn add_sticker(told: &mut Told, answer: Result<String, ShelfFault>) {
+fn add_sticker(recorder: &mut Recorder, answer: Result<String, ShelfFault>) {
     match answer {
-        Ok(value) => told.add(format_args!("{value}|")),
-        Err(fault) => told.add(fault_name(fault)),
+        Ok(value) => recorder.add(format_args!("{value}|")),
+        Err(fault) => recorder.add(fault_name(fault)),
     }
 }
 
-fn add_entries(told: &mut Told, answer: Result<Vec<Entry>, ShelfFault>) {
+fn add_entries(recorder: &mut Recorder, answer: Result<Vec<Entry>, ShelfFault>) {
     match answer {
         Ok(entries) => {
             for entry in &entries {
                 let (key, value) = (entry.key.as_str(), entry.value.as_str());
-                told.add(format_args!("{key}={value}|"));
+                recorder.add(format_args!("{key}={value}|"));
             }
         }
-        Err(fault) => told.add(fault_name(fault)),
+        Err(fault) => recorder.add(fault_name(fault)),
     }
 }
 
 /// Adds what a call tells.
-fn add_answer<S: Shelf>(told: &mut Told, alloc: Global, shelf: &mut S, call: Call<'_>) {
+fn add_answer<S: Shelf>(recorder: &mut Recorder, alloc: Global, shelf: &mut S, call: Call<'_>) {
     let answer = match call {
-        Call::List(name) => return add_list(told, shelf.list(name)),
-        Call::Lists => return add_lists(told, shelf.lists()),
+        Call::List(name) => return add_list(recorder, shelf.list(name)),
+        Call::Lists => return add_lists(recorder, shelf.lists()),
         Call::Sticker(kind, target, name) => {
-            return add_sticker(told, shelf.sticker(kind, target, name));
+            return add_sticker(recorder, shelf.sticker(kind, target, name));
         }
         Call::FindStickers(kind, name) => {
-            return add_entries(told, shelf.find_stickers(kind, name));
+            return add_entries(recorder, shelf.find_stickers(kind, name));
         }
         Call::StickersOf(kind, target) => {
-            return add_entries(told, shelf.stickers_of(kind, target));
+            return add_entries(recorder, shelf.stickers_of(kind, target));
         }
         Call::Create(name, uris) => keep(alloc, shelf, name, uris, true),
         Call::Put(name, uris) => keep(alloc, shelf, name, uris, false),
@@ -136,20 +136,20 @@ fn add_answer<S: Shelf>(told: &mut Told, alloc: Global, shelf: &mut S, call: Cal
         Call::DeleteSticker(kind, target, name) => shelf.delete_sticker(kind, target, name),
         Call::DeleteStickers(kind, target) => shelf.delete_stickers(kind, target),
     };
-    told.add(done(answer));
+    recorder.add(done(answer));
 }
 
 /// What a call tells.
-fn told<S: Shelf>(alloc: Global, shelf: &mut S, call: Call<'_>) -> Result<String, AllocError> {
-    let mut told = Told::new(alloc);
-    add_answer(&mut told, alloc, shelf, call);
-    told.into_text()
+fn observed<S: Shelf>(alloc: Global, shelf: &mut S, call: Call<'_>) -> Result<String, AllocError> {
+    let mut observed = Recorder::new(alloc);
+    add_answer(&mut observed, alloc, shelf, call);
+    observed.into_text()
 }
 
 /// Makes the calls one after the other, and fails where one tells something else.
 pub fn follow<S: Shelf>(alloc: Global, shelf: &mut S, steps: &[Step<'_>]) -> Result<(), Fail> {
     for step in steps {
-        wants(told(alloc, shelf, step.0), step.1)?;
+        wants(observed(alloc, shelf, step.0), step.1)?;
     }
     Ok(())
 }

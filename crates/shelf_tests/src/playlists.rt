@@ -4,7 +4,7 @@ use crate::calls::{Call, Step, follow};
 use shelf::{Shelf, UriList};
 use std::alloc::{AllocError, Global};
 use std::test::Fail;
-use test_texts::{Told, wants};
+use test_texts::{Recorder, wants};
 
 /// A list is kept once, read, renamed, and then missed under its first name.
 pub const KEPT_AND_RENAMED: &[Step<'_>] = &[
@@ -44,7 +44,7 @@ pub const NAMES: &[Step<'_>] = &[
 /// So many URIs, told apart by a number of five digits before so many equal bytes.
 fn numbered(alloc: Global, count: u32, more: usize) -> Result<UriList, AllocError> {
     let rest = "u".repeat(alloc, more)?;
-    let mut text = Told::new(alloc);
+    let mut text = Recorder::new(alloc);
     for number in 0..count {
         text.add(format_args!("{number:05}{rest}\n"));
     }
@@ -118,7 +118,7 @@ fn come_back<S: Shelf>(shelf: &mut S, uris: &UriList) -> bool {
 
 /// How many URIs a numbered list has, of how many bytes with an end of line after each, and whether they come
 /// back.
-fn numbered_told<S: Shelf>(
+fn numbered_observed<S: Shelf>(
     alloc: Global,
     shelf: &mut S,
     count: u32,
@@ -132,12 +132,12 @@ fn numbered_told<S: Shelf>(
 
 /// A list of 16,384 URIs comes back.
 pub fn the_longest_list_is_kept<S: Shelf>(alloc: Global, shelf: &mut S) -> Result<(), Fail> {
-    let told = numbered_told(alloc, shelf, 16_384, 8);
-    wants(told, "16384 URIs, 229376 bytes, true")
+    let observed = numbered_observed(alloc, shelf, 16_384, 8);
+    wants(observed, "16384 URIs, 229376 bytes, true")
 }
 
 /// URIs of 1,024 bytes come back.
 pub fn long_uris_come_back<S: Shelf>(alloc: Global, shelf: &mut S) -> Result<(), Fail> {
-    let told = numbered_told(alloc, shelf, 300, 1_019);
-    wants(told, "300 URIs, 307500 bytes, true")
+    let observed = numbered_observed(alloc, shelf, 300, 1_019);
+    wants(observed, "300 URIs, 307500 bytes, true")
 }

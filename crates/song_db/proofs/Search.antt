@@ -47,14 +47,14 @@ answers-rise xs uri h i j d le within = elim (cases_eq i j) [
     rises a b less Greater is = let low : ordering_index (by_uri a (asked uri)) ≤ 2 = at_most (by_uri a (asked uri)) in omega arith
 
 -- a song of the URI is the one that the list has
-pub found-at : (xs : List SongData) (uri : List ℕ) (place : ℕ) → InByteOrder xs → place < length xs → ((d : SongData) → slice_cmp nat_cmp (get_or xs place d).uri uri ≡ Equal) → slice_get xs place ≡ song_of xs uri
-found-at [] uri place h within is = absurd (omega arith)
+pub found-at : (xs : List SongData) (uri : List ℕ) (index : ℕ) → InByteOrder xs → index < length xs → ((d : SongData) → slice_cmp nat_cmp (get_or xs index d).uri uri ≡ Equal) → slice_get xs index ≡ song_of xs uri
+found-at [] uri index h within is = absurd (omega arith)
 found-at (x ∷ xs) uri zero h within is = sym (cond-true _ _ _ (is-asked x uri ∙ ap is_eq (is x)))
-found-at (x ∷ xs) uri (suc place) h within is =
-    let low : place < length xs = omega arith in
-    let less : by_uri x (get_or xs place x) ≡ Less = head x xs h place x low in
-    let before : by_uri x (asked uri) ≡ Less = sym (alike_right order (get_or xs place x) (asked uri) x (is x)) ∙ less in
-    found-at xs uri place (tail x xs h) low is ∙ sym (cond-false _ _ _ (is-asked x uri ∙ ap is_eq before))
+found-at (x ∷ xs) uri (suc index) h within is =
+    let low : index < length xs = omega arith in
+    let less : by_uri x (get_or xs index x) ≡ Less = head x xs h index x low in
+    let before : by_uri x (asked uri) ≡ Less = sym (alike_right order (get_or xs index x) (asked uri) x (is x)) ∙ less in
+    found-at xs uri index (tail x xs h) low is ∙ sym (cond-false _ _ _ (is-asked x uri ∙ ap is_eq before))
 
 -- where no song answers that it is the URI's, the list has none
 pub found-none : (xs : List SongData) (uri : List ℕ) → All (λ (s : SongData). is_eq (slice_cmp nat_cmp s.uri uri) ≡ false) xs → song_of xs uri ≡ None
@@ -63,13 +63,13 @@ found-none (x ∷ xs) uri h = cond-false _ _ _ (is-asked x uri ∙ h 0 x (omega 
 
 -- what a binary search by URI answers
 pub found : (xs : List SongData) (uri : List ℕ) (r : Result ℕ ℕ) → InByteOrder xs → IsSearchInRange r (length xs) → IsBinarySearchResult (λ (s : SongData). slice_cmp nat_cmp s.uri uri) xs r
-    → IfSome (result_ok r) (λ place. slice_get xs place ≡ song_of xs uri)
-found xs uri (Ok place) h within is = found-at xs uri place h within is
-found xs uri (Err place) h within is = tt
+    → IfSome (result_ok r) (λ index. slice_get xs index ≡ song_of xs uri)
+found xs uri (Ok index) h within is = found-at xs uri index h within is
+found xs uri (Err index) h within is = tt
 
 pub missing : (xs : List SongData) (uri : List ℕ) (r : Result ℕ ℕ) → InByteOrder xs → IsSearchInRange r (length xs) → IsBinarySearchResult (λ (s : SongData). slice_cmp nat_cmp s.uri uri) xs r
     → IfNone (result_ok r) (song_of xs uri ≡ None)
-missing xs uri (Ok place) h within is = tt
-missing xs uri (Err place) h within is =
+missing xs uri (Ok index) h within is = tt
+missing xs uri (Err index) h within is =
     let parts = is (answers-rise xs uri h) in
-    found-none xs uri (λ k d l. elim (cases_lt k place) [ inl low ↦ ap is_eq (parts.0 k d (omega arith) low) | inr high ↦ ap is_eq (parts.1 k d high l) ])
+    found-none xs uri (λ k d l. elim (cases_lt k index) [ inl low ↦ ap is_eq (parts.0 k d (omega arith) low) | inr high ↦ ap is_eq (parts.1 k d high l) ])

@@ -84,24 +84,24 @@ impl Db {
     pub fn get(&self, uri: &str) -> Option<&Song>
         ensures { option_copied result ≡ song_of self.now uri.now }
     {
-        let place = place_of(&self.songs, uri)?;
-        Some(self.songs[place].song())
+        let index = index_of(&self.songs, uri)?;
+        Some(self.songs[index].song())
     }
 
     /// The library's own handle of the song with a URI.
     pub fn handle(&self, uri: &str) -> Option<&SharedSong>
         ensures { option_copied result ≡ song_of self.now uri.now }
     {
-        let place = place_of(&self.songs, uri)?;
-        Some(&self.songs[place])
+        let index = index_of(&self.songs, uri)?;
+        Some(&self.songs[index])
     }
 
     /// A handle of the song with a URI, for an owner that stays.
     pub fn share(&self, uri: &str) -> Result<Option<SharedSong>, AllocError>
         ensures { IfOk result (λ shared. shared ≡ song_of self.now uri.now) }
     {
-        match place_of(&self.songs, uri) {
-            Some(place) => Ok(Some(self.songs[place].clone()?)),
+        match index_of(&self.songs, uri) {
+            Some(index) => Ok(Some(self.songs[index].clone()?)),
             None => Ok(None),
         }
     }
@@ -134,11 +134,11 @@ fn copies(alloc: Global, songs: &[SharedSong]) -> Result<Vec<SharedSong>, AllocE
     Ok(copies)
 }
 
-/// The place of the song with a URI.
-fn place_of(songs: &[SharedSong], uri: &str) -> Option<usize>
+/// The index of the song with a URI.
+fn index_of(songs: &[SharedSong], uri: &str) -> Option<usize>
     requires { InByteOrder songs.now }
-    ensures found { IfSome result (λ place. slice_get songs.now place ≡ song_of songs.now uri.now) }
-    ensures within { IfSome result (λ place. place < length songs.now) }
+    ensures found { IfSome result (λ index. slice_get songs.now index ≡ song_of songs.now uri.now) }
+    ensures within { IfSome result (λ index. index < length songs.now) }
     ensures none { IfNone result (song_of songs.now uri.now ≡ None) }
 {
     songs

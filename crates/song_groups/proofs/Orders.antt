@@ -20,7 +20,7 @@ use Rattle.mpd_text.specs.declared.songs.song.TagName.{TagName}
 use Rattle.mpd_text.specs.Texts.{by_bytes}
 use Rattle.song_groups.specs.Order.{Key, Text, Number, by_keys, same_key, goes_by_number, text_key, number_key, sort_key, in_order, with_key, ascending_keys, ordered, ordered_by, IsStablyOrdered, IsStablyOrderedBy}
 use Rattle.song_groups.proofs.Once.{among, among-once, once-rises}
-use Rattle.song_groups.proofs.Rows.{each-behind, each_one, turned, rows, rows_same, each_text, each_among, rises_from, in_rows}
+use Rattle.song_groups.proofs.Rows.{each-behind, each_one, reversed, rows, rows_same, each_text, each_among, rises_from, in_rows}
 use Rattle.song_groups.proofs.References.{behind, filter-behind, filter_alike, sorted-behind, tied}
 
 pub bytes : IsTotalOrder by_bytes
@@ -31,11 +31,11 @@ bytes_apart = slice_cmp-IsAntisymmetric nat_cmp-IsAntisymmetric
 
 -- ---- keys have a total order
 
-turned_round : (a b : Key) → by_keys a b ≡ ordering_reverse (by_keys b a)
-turned_round (Text a) (Text b) = bytes.antisymm a b
-turned_round (Text a) (Number n) = refl
-turned_round (Number m) (Text b) = refl
-turned_round (Number m) (Number n) = nat_cmp_total.antisymm m n
+keys_antisymm : (a b : Key) → by_keys a b ≡ ordering_reverse (by_keys b a)
+keys_antisymm (Text a) (Text b) = bytes.antisymm a b
+keys_antisymm (Text a) (Number n) = refl
+keys_antisymm (Number m) (Text b) = refl
+keys_antisymm (Number m) (Number n) = nat_cmp_total.antisymm m n
 
 one_after_another : (a b c : Key) → by_keys a b ≡ Less → by_keys b c ≡ Less → by_keys a c ≡ Less
 one_after_another (Text a) (Text b) (Text c) h k = bytes.trans a b c h k
@@ -54,7 +54,7 @@ alike (Number m) (Number n) (Text c) h = refl
 alike (Number m) (Number n) (Number o) h = nat_cmp_total.congr m n o h
 
 all_keys : IsTotalOrder by_keys
-all_keys = record { antisymm = turned_round; trans = one_after_another; congr = alike }
+all_keys = record { antisymm = keys_antisymm; trans = one_after_another; congr = alike }
 
 keys_apart : IsAntisymmetric by_keys
 keys_apart (Text a) (Text b) e = ap Text (bytes_apart a b e)
@@ -142,7 +142,7 @@ one_order_by : (key : SongData → Key) (falling : Bool) (songs sorted : List So
 one_order_by key false songs sorted r =
     one_list key songs sorted all_keys keys_apart (ascending_keys (map key songs)) (ascending-rises (map key songs)) (ascending-has (map key songs)) r.permutation r.order r.ties
 one_order_by key true songs sorted r =
-    one_list key songs sorted falls falls_apart (reverse (ascending_keys (map key songs))) (turned by_keys (ascending_keys (map key songs)) (ascending-rises (map key songs))) (falling-has (map key songs)) r.permutation r.order r.ties
+    one_list key songs sorted falls falls_apart (reverse (ascending_keys (map key songs))) (reversed by_keys (ascending_keys (map key songs)) (ascending-rises (map key songs))) (falling-has (map key songs)) r.permutation r.order r.ties
 
 pub one_order : (by : Option TagName) (falling : Bool) (songs sorted : List SongData) → IsStablyOrdered by falling songs sorted → sorted ≡ ordered by falling songs
 one_order by falling songs sorted r = one_order_by (sort_key by) falling songs sorted r
@@ -171,10 +171,10 @@ tied_key : (key : SongData → Key) (falling : Bool) (song other : SongData) →
 tied_key key false song other =
     keys_tie (key other) (key song)
     ∙ (eq_by_cmp_equiv all_keys).symm (key other) (key song)
-    ∙ sym (tied (by_keys (key song) (key other)) (by_keys (key other) (key song)) (turned_round (key other) (key song)))
+    ∙ sym (tied (by_keys (key song) (key other)) (by_keys (key other) (key song)) (keys_antisymm (key other) (key song)))
 tied_key key true song other =
     keys_tie (key other) (key song)
-    ∙ sym (tied (by_keys (key other) (key song)) (by_keys (key song) (key other)) (turned_round (key song) (key other)))
+    ∙ sym (tied (by_keys (key other) (key song)) (by_keys (key song) (key other)) (keys_antisymm (key song) (key other)))
 
 pub stable_from : (key : SongData → Key) (falling : Bool) (old new : List (Bor SongData)) → IsPermutation old new → IsSortedBy (before key falling) new → IsStableBy (before key falling) old new → IsStablyOrderedBy key falling (behind old) (behind new)
 stable_from key falling old new moved up stable = record {

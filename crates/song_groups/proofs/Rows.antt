@@ -32,9 +32,9 @@ pub each_one : {A : Type 0} (P : A → Type 0) → ((a : A) → P a) → (xs : L
 each_one P f [] = tt
 each_one P f (x ∷ xs) = (f x, each_one P f xs)
 
-pub from_places : {A : Type 0} (P : A → Type 0) (xs : List A) → ((k : ℕ) (d : A) → k < length xs → P (get_or xs k d)) → AllByRecursion P xs
-from_places P [] h = tt
-from_places P (x ∷ xs) h = (h 0 x (omega arith), from_places P xs (λ k d l. h (suc k) d (omega arith)))
+pub from_indices : {A : Type 0} (P : A → Type 0) (xs : List A) → ((k : ℕ) (d : A) → k < length xs → P (get_or xs k d)) → AllByRecursion P xs
+from_indices P [] h = tt
+from_indices P (x ∷ xs) h = (h 0 x (omega arith), from_indices P xs (λ k d l. h (suc k) d (omega arith)))
 
 each-push : {A : Type 0} (P : A → Type 0) (xs : List A) (y : A) → AllByRecursion P xs → P y → AllByRecursion P (xs ++ y ∷ [])
 each-push P [] y h one = (one, tt)
@@ -55,12 +55,12 @@ unfolding IsStrictlySortedBy
 push_higher S [] y h low = (tt, tt)
 push_higher S (x ∷ xs) y h low = (each-push (λ z. S x z ≡ Less) xs y h.0 low.0, push_higher S xs y h.1 low.1)
 
-pub turned : {K : Type 0} (R : K → K → Ordering) (xs : List K) → IsStrictlySortedBy R xs → IsStrictlySortedBy (flip_args R) (reverse xs)
+pub reversed : {K : Type 0} (R : K → K → Ordering) (xs : List K) → IsStrictlySortedBy R xs → IsStrictlySortedBy (flip_args R) (reverse xs)
 unfolding IsStrictlySortedBy
-turned R [] h = tt
-turned R (x ∷ xs) h =
+reversed R [] h = tt
+reversed R (x ∷ xs) h =
     subst (IsStrictlySortedBy (flip_args R)) (sym (reverse_onto xs x []))
-    (push_higher (flip_args R) (reverse xs) x (turned R xs h.1) (each-reverse (λ y. R x y ≡ Less) xs h.0))
+    (push_higher (flip_args R) (reverse xs) x (reversed R xs h.1) (each-reverse (λ y. R x y ≡ Less) xs h.0))
 
 -- ---- rows
 
@@ -143,10 +143,10 @@ module _ {X K : Type 0} (key : X → K) (is_one : K → K → Bool) (decides : (
         or_later false b e = e
 
     -- an element that none of the others comes before stands before all rows of the others
-    place : (texts : List K) (y : X) (ys : List X) → IsStrictlySortedBy R texts → list_any (eq_by_cmp R (key y)) texts ≡ true → AllByRecursion (λ x. is_lt (R (key x) (key y)) ≡ false) ys → rows texts (y ∷ ys) ≡ y ∷ rows texts ys
+    stands_first : (texts : List K) (y : X) (ys : List X) → IsStrictlySortedBy R texts → list_any (eq_by_cmp R (key y)) texts ≡ true → AllByRecursion (λ x. is_lt (R (key x) (key y)) ≡ false) ys → rows texts (y ∷ ys) ≡ y ∷ rows texts ys
     unfolding IsStrictlySortedBy
-    place [] y ys up there above = cc
-    place (t ∷ ts) y ys up there above = elim (cases_Bool (has t y)) [
+    stands_first [] y ys up there above = cc
+    stands_first (t ∷ ts) y ys up there above = elim (cases_Bool (has t y)) [
       | inl e ↦
           let same : key y ≡ t = (decides (key y) t).0 e in
           ap (λ (b : Bool). cond b (y ∷ row t ys) (row t ys) ++ rows ts (y ∷ ys)) e
@@ -157,7 +157,7 @@ module _ {X K : Type 0} (key : X → K) (is_one : K → K → Bool) (decides : (
           let empty : row t ys ≡ [] = row-none t ys (each (λ x. is_lt (R (key x) (key y)) ≡ false) (λ x. key x ≡ t → ⊥) (λ x h k. not_less t (key x) (less_on t (key y) (key x) low h) (sym k)) ys above) in
           ap (λ (b : Bool). cond b (y ∷ row t ys) (row t ys) ++ rows ts (y ∷ ys)) e
           ∙ ap (λ (front : List X). front ++ rows ts (y ∷ ys)) empty
-          ∙ place ts y ys up.1 later above
+          ∙ stands_first ts y ys up.1 later above
           ∙ ap (λ (front : List X). y ∷ (front ++ rows ts ys)) (sym empty)
     ]
 
@@ -211,7 +211,7 @@ module _ {X K : Type 0} (key : X → K) (is_one : K → K → Bool) (decides : (
     pub rises_from : (xs : List X) → IsSortedBy (λ a b. is_lt (R (key a) (key b))) xs → Rises xs
     rises_from [] up = tt
     rises_from (y ∷ ys) up = (
-      from_places (λ x. is_lt (R (key x) (key y)) ≡ false) ys (λ k d l. sorted_far (λ a b. is_lt (R (key a) (key b))) (ranks_by order key) (y ∷ ys) up 0 (suc k) d (omega arith) (omega arith)),
+      from_indices (λ x. is_lt (R (key x) (key y)) ≡ false) ys (λ k d l. sorted_far (λ a b. is_lt (R (key a) (key b))) (ranks_by order key) (y ∷ ys) up 0 (suc k) d (omega arith) (omega arith)),
       rises_from ys (λ k d low high.
           let e : suc k + 1 ≡ suc (k + 1) = omega arith in
           subst (λ n. is_lt (R (key (get_or (y ∷ ys) n d)) (key (get_or ys k d))) ≡ false) e (up (suc k) d (omega arith) (omega arith))),
@@ -220,4 +220,4 @@ module _ {X K : Type 0} (key : X → K) (is_one : K → K → Bool) (decides : (
     -- a list that rises is its rows, in the order of all its texts
     pub in_rows : (texts : List K) (ys : List X) → IsStrictlySortedBy R texts → AllByRecursion (λ y. list_any (eq_by_cmp R (key y)) texts ≡ true) ys → Rises ys → rows texts ys ≡ ys
     in_rows ts [] up there rises = rows-none ts
-    in_rows ts (y ∷ ys) up there rises = place ts y ys up there.0 rises.0 ∙ ap (λ (rest : List X). y ∷ rest) (in_rows ts ys up there.1 rises.1)
+    in_rows ts (y ∷ ys) up there rises = stands_first ts y ys up there.0 rises.0 ∙ ap (λ (rest : List X). y ∷ rest) (in_rows ts ys up there.1 rises.1)

@@ -13,7 +13,7 @@ use Rattle.std.proofs.lemmas.List.Folds.{list_any-append}
 use Rattle.std.proofs.lemmas.List.MinMax.{ranks_by}
 use Rattle.std.proofs.lemmas.List.Sorted.{sorted_far}
 use Rattle.song_groups.proofs.Once.{once, among, same_once, once-is, once-rises, among-once}
-use Rattle.song_groups.proofs.Rows.{is_false, each, from_places, map_same, has, row, row-none, each_text, not_less, each_among}
+use Rattle.song_groups.proofs.Rows.{is_false, each, from_indices, map_same, has, row, row-none, each_text, not_less, each_among}
 
 module _ {X K : Type 0} (key : X → K) (is_one : K → K → Bool) (decides : (a b : K) → Decides (is_one a b) (a ≡ b)) {R : K → K → Ordering} (order : IsTotalOrder R) (apart : IsAntisymmetric R) where
   abbrev AllHave : K → List X → Type 0
@@ -107,12 +107,12 @@ module _ {X K : Type 0} (key : X → K) (is_one : K → K → Bool) (decides : (
       (decides (key (get_or (x ∷ xs) i d)) (key x)).1 (one_if (key (get_or (x ∷ xs) i d)) (key x) (far x xs i d up (omega arith)) low)
 
   own_front : (text : K) (xs : List X) (end : ℕ) → AllWithin (λ x. has key is_one decides text x ≡ true) xs 0 end → AllHave text (take end xs)
-  own_front text xs end h = from_places (λ x. has key is_one decides text x ≡ true) (take end xs) (λ k d l.
+  own_front text xs end h = from_indices (λ x. has key is_one decides text x ≡ true) (take end xs) (λ k d l.
       let short : length (take end xs) ≡ min end (length xs) = length-take end xs in
       ap (has key is_one decides text) (get_or-take end xs k d (omega arith)) ∙ h k d (omega arith) (omega arith))
 
   above_back : (x : X) (xs : List X) (end : ℕ) → IsInOrder (x ∷ xs) → AllWithin (λ y. has key is_one decides (key x) y ≡ false) (x ∷ xs) end (length (x ∷ xs)) → AreAbove (key x) (drop end (x ∷ xs))
-  above_back x xs end up h = from_places (λ y. R (key x) (key y) ≡ Less) (drop end (x ∷ xs)) (λ k d l.
+  above_back x xs end up h = from_indices (λ y. R (key x) (key y) ≡ Less) (drop end (x ∷ xs)) (λ k d l.
       let short : length (drop end (x ∷ xs)) ≡ length (x ∷ xs) - end = length-drop end (x ∷ xs) in
       let within : end + k < length (x ∷ xs) = omega arith in
       let other : has key is_one decides (key x) (get_or (x ∷ xs) (end + k) d) ≡ false = h (end + k) d (omega arith) within in

@@ -111,9 +111,9 @@ pub last_of : (columns : List (Option TagName)) (column : Option TagName) (song 
 last_of [] column song e = cc
 last_of (c ∷ []) column song e = let same : column ≡ c = cc in filled (length (text_in column song)) ∙ ap (λ k. nat_lt 0 (length (text_in k song))) same
 last_of (c ∷ d ∷ cs) column song e =
-    let place : length (c ∷ d ∷ cs) - 1 ≡ suc (length cs) = omega arith in
+    let index : length (c ∷ d ∷ cs) - 1 ≡ suc (length cs) = omega arith in
     let before : length (d ∷ cs) - 1 ≡ length cs = omega arith in
-    last_of (d ∷ cs) column song (e ∙ ap (slice_get (c ∷ d ∷ cs)) place ∙ sym (ap (slice_get (d ∷ cs)) before))
+    last_of (d ∷ cs) column song (e ∙ ap (slice_get (c ∷ d ∷ cs)) index ∙ sym (ap (slice_get (d ∷ cs)) before))
 
 -- ---- lines
 
@@ -230,8 +230,8 @@ listed-last columns (first ∷ songs) song =
 pub listed_more : (columns : List (Option TagName)) (songs : List (Bor SongData)) (n : ℕ) (song : Bor SongData) → n < length songs → song ≡ get_or songs n song
     → listed_tuples columns (map (λ s. s.now) (take (n + 1) songs)) ≡ listed_tuples columns (map (λ s. s.now) (take n songs)) ++ cond (has_last (tuple_of columns song.now)) (tuple_of columns song.now ∷ []) []
 listed_more columns songs n song within is =
-    let place : n + 1 ≡ suc n = omega arith in
-    ap (λ k. listed_tuples columns (map (λ s. s.now) (take k songs))) place
+    let index : n + 1 ≡ suc n = omega arith in
+    ap (λ k. listed_tuples columns (map (λ s. s.now) (take k songs))) index
     ∙ ap (λ (ss : List (Bor SongData)). listed_tuples columns (map (λ s. s.now) ss)) (take-suc songs n song within ∙ ap (λ (s : Bor SongData). take n songs ++ s ∷ []) (sym is))
     ∙ ap (listed_tuples columns) (map-append (λ (s : Bor SongData). s.now) (take n songs) (song ∷ []))
     ∙ listed-last columns (map (λ s. s.now) (take n songs)) song.now

@@ -68,13 +68,13 @@ unfoldable pub ascending_keys : List Key → List Key
 ascending_keys given = keys (from_entries {R = by_keys} (map entry_of given))
 
 -- keys in the order in which they come, where they rise or fall
-abbrev pub in_turn : Bool → List Key → List Key
-in_turn false keys = keys
-in_turn true keys = reverse keys
+abbrev pub in_direction : Bool → List Key → List Key
+in_direction false keys = keys
+in_direction true keys = reverse keys
 
 -- the songs of the first key, those of the next, and so on: of each key in the order that they have
 abbrev pub ordered_by : (SongData → Key) → Bool → List SongData → List SongData
-ordered_by key falling songs = flat_map (λ its. with_key key its songs) (in_turn falling (ascending_keys (map key songs)))
+ordered_by key falling songs = flat_map (λ its. with_key key its songs) (in_direction falling (ascending_keys (map key songs)))
 
 -- the same, where the keys are those of a tag
 abbrev pub ordered : Option TagName → Bool → List SongData → List SongData

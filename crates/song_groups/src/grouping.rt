@@ -155,8 +155,8 @@ fn push_tuple(
 fn unchanged(before: &[&str], tuple: &[&str]) -> usize
     ensures { result ≡ unchanged_lem (values_now before.now) (values_now tuple.now) }
 {
-    let places = tuple.len().saturating_sub(1);
-    shared(before, tuple).min(places)
+    let last_column = tuple.len().saturating_sub(1);
+    shared(before, tuple).min(last_column)
 }
 
 /// How many texts from the left two tuples share.
@@ -173,7 +173,7 @@ fn shared(before: &[&str], tuple: &[&str]) -> usize
     shared
 }
 
-/// The texts from a place on; none where there are not so many.
+/// The texts from an index on; none where there are not so many.
 fn texts_from<'a>(texts: &'a [&'a str], start: usize) -> &'a [&'a str]
     ensures { result.now ≡ drop start texts.now }
 {

@@ -90,7 +90,7 @@ edited-is q left v w ss slots is_v is_w is_old other is_slots =
     let is_all : slots ≡ restamped (next_version q) (wraps q) q.slots (left (queue_of q)) = is_slots ∙ (λ i. restamped (is_v i) (is_w i) (is_old i) (left (entries_of (is_old i)))) in
     (λ i. record { slots = is_all i; version = is_v i; greatest_id = q.greatest_id; max_len = q.max_len; max_version = q.max_version; max_id = q.max_id; parity = not q.parity }) ∙ sym (edited-changed q (left (queue_of q)) other)
 
--- an edit that keeps what is before a place, and gives each later slot another id
+-- an edit that keeps what is before a position, and gives each later slot another id
 pub stepped-joined : (q : QueueState) (at : ℕ) (es : List Entry)
     → ((i : ℕ) (s : Slot) (e : Entry) → i < length (drop at q.slots) → i < length es → (get_or (drop at q.slots) i s).entry.id ≢ (get_or es i e).id)
     → restamped (next_version q) (wraps q) q.slots (take at (queue_of q) ++ es) ≡ map (kept (wraps q)) (take at q.slots) ++ map (written (next_version q) (wraps q)) es
@@ -233,7 +233,7 @@ module _ (q : QueueState) (is : IsQueue q) (at : ℕ) (songs : List SongData) (w
       (All-append B (take at es) (news ++ drop at es) (All-take B at es low) (All-append B news (drop at es) (AtMost-entries_for (g + 1) (g + length songs) songs (omega arith)) (All-drop B at es low)))
       Distinct-after ids)
 
-  -- each slot from the place on gets another id
+  -- each slot from the position on gets another id
   inserted-others : 0 < length songs → (i : ℕ) (s : Slot) (e : Entry) → i < length (drop at q.slots) → i < length (news ++ drop at es) → (get_or (drop at q.slots) i s).entry.id ≢ (get_or (news ++ drop at es) i e).id
   inserted-others some i s e l m same =
       let id : Entry → ℕ = λ x. x.id in
@@ -346,12 +346,12 @@ module _ (q : QueueState) (is : IsQueue q) (start end : ℕ) (order : start ≤ 
 pub removed-nothing : (q : QueueState) (start : ℕ) → removed q start start ≡ q
 removed-nothing q start = edited-same q (take start (queue_of q) ++ drop start (queue_of q)) (sym (take-append-drop start (queue_of q)))
 
--- the places of rows
+-- the positions of rows
 pub map-rows : (xs : List (ℕ × Slot)) → map (λ (p : ℕ × Entry). p.0) (map (λ (p : ℕ × Slot). (p.0, p.1.entry)) xs) ≡ map (λ (p : ℕ × Slot). p.0) xs
 map-rows [] = refl
 map-rows (x ∷ xs) = λ i. x.0 ∷ map-rows xs i
 
--- the rows at the places of the changed slots are the changed slots
+-- the rows at the positions of the changed slots are the changed slots
 module _ (q : QueueState) (v : ℕ) where
   abbrev shown : ℕ → List Slot → List (ℕ × Slot)
   shown n ss = filter (λ (p : ℕ × Slot). is_changed q v p.1) (enumerate_from n ss)

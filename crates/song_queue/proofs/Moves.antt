@@ -18,7 +18,7 @@ use Rattle.song_queue.proofs.Edits.{Distinct, IsQueue-stays, edited-same}
 use Rattle.song_queue.proofs.Swaps.{Distinct-swap, Distinct-apart, one, some}
 use Rattle.song_queue.proofs.Restamps.{restamped-append, restamped-others, restamped-middle}
 
--- a move brings no entry in, wherever its places are
+-- a move brings no entry in, wherever its positions are
 pub All-moved_to : (P : Entry → Type 0) (es : List Entry) (start end to : ℕ) → All P es → All P (moved_to es start end to)
 All-moved_to P es start end to all =
     let rest : List Entry = take start es ++ drop end es in
@@ -27,7 +27,7 @@ All-moved_to P es start end to all =
     (All-append P (take to rest) (slice_range es start end) (All-take P to rest others) (All-take P (end - start) (drop start es) (All-drop P start es all)))
     (All-drop P to rest others)
 
--- the first two of three parts in each other's place
+-- the first two of three parts in each other's position
 IsPermutation-parts : (xs ys zs : List Entry) → IsPermutation ((xs ++ ys) ++ zs) ((ys ++ xs) ++ zs)
 IsPermutation-parts xs ys zs = IsPermutation-append_left zs (xs ++ ys) (ys ++ xs) (IsPermutation-append_comm xs ys)
 
@@ -48,16 +48,16 @@ pub Distinct-moved_to : (es : List Entry) (start end to : ℕ) → start ≤ end
 Distinct-moved_to es start end to order distinct =
     IsPermutation-keeps es Distinct distinct (λ l i j li lj d. Distinct-swap l i j li lj d) (moved_to es start end to) (IsPermutation-moved_to es start end to order)
 
--- the entries from low up to middle and those from there up to high in each other's place
-abbrev pub turned : List Entry → ℕ → ℕ → ℕ → List Entry
-turned es low middle high = take low es ++ (slice_range es middle high ++ slice_range es low middle) ++ drop high es
+-- the entries from low up to middle and those from there up to high in each other's position
+abbrev pub rotated : List Entry → ℕ → ℕ → ℕ → List Entry
+rotated es low middle high = take low es ++ (slice_range es middle high ++ slice_range es low middle) ++ drop high es
 
 -- a part put between two others
 put_between : (xs ys zs : List Entry) (to : ℕ) → length xs ≡ to → take to (xs ++ ys) ++ zs ++ drop to (xs ++ ys) ≡ xs ++ zs ++ ys
 put_between xs ys zs to size = λ i. take_at xs ys to size i ++ zs ++ drop_at xs ys to size i
 
--- a move to a place before
-pub moved_to-back : (es : List Entry) (start end to : ℕ) → to ≤ start → start ≤ length es → moved_to es start end to ≡ turned es to start end
+-- a move to a position before
+pub moved_to-back : (es : List Entry) (start end to : ℕ) → to ≤ start → start ≤ length es → moved_to es start end to ≡ rotated es to start end
 moved_to-back es start end to back within =
     let first : List Entry = take to es in
     let part : List Entry = slice_range es start end in
@@ -68,8 +68,8 @@ moved_to-back es start end to back within =
     ap (λ x. take to x ++ part ++ drop to x) rest ∙ put_between first (between ++ last) part to (length-take-le to es (omega arith))
     ∙ sym (append_assoc (first ++ part) between last) ∙ ap (λ x. x ++ last) (append_assoc first part between)
 
--- a move to a later place
-pub moved_to-ahead : (es : List Entry) (start end to : ℕ) → start ≤ end → start ≤ to → to + (end - start) ≤ length es → moved_to es start end to ≡ turned es start end (to + (end - start))
+-- a move to a later position
+pub moved_to-ahead : (es : List Entry) (start end to : ℕ) → start ≤ end → start ≤ to → to + (end - start) ≤ length es → moved_to es start end to ≡ rotated es start end (to + (end - start))
 moved_to-ahead es start end to order ahead within =
     let high : ℕ = to + (end - start) in
     let first : List Entry = take start es in
@@ -97,7 +97,7 @@ module _ (ss : List Slot) (distinct : Distinct (entries_of ss)) (low middle high
       let c = length-between es low middle (omega (arith, length-es)) in
       omega arith
 
-  -- each place in the parts gets another id
+  -- each position in the parts gets another id
   apart : (i : ℕ) (d : Entry) → i < length parts → (get_or es (low + i) d).id ≢ (get_or parts i d).id
   apart i d inside same =
       let id : Entry → ℕ = λ e. e.id in
@@ -118,25 +118,25 @@ module _ (ss : List Slot) (distinct : Distinct (entries_of ss)) (low middle high
       let part : (a b : ℕ) → entries_of (slice_range ss a b) ≡ slice_range es a b = λ a b. sym (ap (take (b - a)) (drop-map entry a ss) ∙ take-map entry (b - a) (drop a ss)) in
       map-append entry (slice_range ss middle high) (slice_range ss low middle) ∙ (λ i. part middle high i ++ part low middle i)
 
-  pub turned-other : es ≢ turned es low middle high
-  turned-other same = elim (some es (omega (arith, length-es))) as (λ _. ⊥) [
+  pub rotated-other : es ≢ rotated es low middle high
+  rotated-other same = elim (some es (omega (arith, length-es))) as (λ _. ⊥) [
     | one d ↦
         let before : length (take low es) ≡ low = length-take-le low es (omega (arith, length-es)) in
         let long : length (take low es ++ parts) ≡ length (take low es) + length parts = length-append (take low es) parts in
-        let at : get_or (turned es low middle high) (low + 0) d ≡ get_or parts (low + 0 - low) d =
+        let at : get_or (rotated es low middle high) (low + 0) d ≡ get_or parts (low + 0 - low) d =
         get_or_append_left (take low es ++ parts) (drop high es) d (low + 0) (omega (arith, length-parts)) ∙ get_or-append_right (take low es) parts low (low + 0) d before (omega arith) in
         let none : low + 0 - low ≡ 0 = omega arith in
         apart 0 d (omega (arith, length-parts)) (ap (λ x. (get_or x (low + 0) d).id) same ∙ ap (λ (e : Entry). e.id) (at ∙ ap (λ k. get_or parts k d) none))
   ]
 
-  pub restamped-turned : (v : ℕ) (w : Bool) → restamped v w ss (turned es low middle high) ≡ map (kept w) (take low ss) ++ map (written v w) parts ++ map (kept w) (drop high ss)
-  restamped-turned v w =
+  pub restamped-rotated : (v : ℕ) (w : Bool) → restamped v w ss (rotated es low middle high) ≡ map (kept w) (take low ss) ++ map (written v w) parts ++ map (kept w) (drop high ss)
+  restamped-rotated v w =
       let entry : Slot → Entry = λ s. s.entry in
       let front : List Slot = take low ss in
       let span : List Slot = slice_range ss low high in
       let back : List Slot = drop high ss in
       let size : length span ≡ high - low = length-between ss low high within in
-      let new : turned es low middle high ≡ entries_of front ++ (parts ++ entries_of back) =
+      let new : rotated es low middle high ≡ entries_of front ++ (parts ++ entries_of back) =
       append_assoc (take low es) parts (drop high es) ∙ (λ i. take-map entry low ss i ++ (parts ++ drop-map entry high ss i)) in
       let others : (i : ℕ) (s : Slot) (e : Entry) → i < length span → i < length parts → (get_or span i s).entry.id ≢ (get_or parts i e).id =
       λ i s e l m same. apart i e m (ap (λ (x : Entry). x.id) (get_or-map entry ss (low + i) s e (omega arith)) ∙ ap (λ (x : Slot). x.entry.id) (sym (get_or-between ss low high i s (omega arith))) ∙ same) in
@@ -148,8 +148,8 @@ pub moved_to-other : (ss : List Slot) → Distinct (entries_of ss) → (start en
 moved_to-other ss distinct start end to some elsewhere within room same =
     let size : length (entries_of ss) ≡ length ss = length-map ss (λ (s : Slot). s.entry) in
     elim (cases_lt to start) [
-      | inl back ↦ turned-other ss distinct to start end back some within (same ∙ moved_to-back (entries_of ss) start end to (omega arith) (omega arith))
-      | inr ahead ↦ turned-other ss distinct start end (to + (end - start)) some (omega arith) room (same ∙ moved_to-ahead (entries_of ss) start end to (omega arith) ahead (omega arith))
+      | inl back ↦ rotated-other ss distinct to start end back some within (same ∙ moved_to-back (entries_of ss) start end to (omega arith) (omega arith))
+      | inr ahead ↦ rotated-other ss distinct start end (to + (end - start)) some (omega arith) room (same ∙ moved_to-ahead (entries_of ss) start end to (omega arith) ahead (omega arith))
     ]
 
 -- a move to where the entries are, and a move of none
@@ -188,8 +188,8 @@ module _ (queue : List Entry) (start end to : ℕ) (order : start ≤ end) (insi
   moved_to-parts : moved_to queue start end to ≡ take to rest ++ (part ++ drop to rest)
   moved_to-parts = append_assoc (take to rest) part (drop to rest)
 
-  moved_to-places : slice_range (moved_to queue start end to) to (to + (end - start)) ≡ part
-  moved_to-places =
+  moved_to-positions : slice_range (moved_to queue start end to) to (to + (end - start)) ≡ part
+  moved_to-positions =
       let count : length part ≡ to + (end - start) - to = length-between queue start end inside ∙ (let e : end - start ≡ to + (end - start) - to = omega arith in e) in
       ap (λ x. take (to + (end - start) - to) x) (ap (drop to) moved_to-parts ∙ drop_at (take to rest) (part ++ drop to rest) to size) ∙ take_at part (drop to rest) (to + (end - start) - to) count
 
@@ -199,4 +199,4 @@ module _ (queue : List Entry) (start end to : ℕ) (order : start ≤ end) (insi
       (λ i. (ap (take to) moved_to-parts ∙ take_at (take to rest) (part ++ drop to rest) to size) i ++ drop_at (take to rest ++ part) (drop to rest) (to + (end - start)) both i) ∙ take-append-drop to rest
 
 pub moves_keep_entries : MovesKeepEntries
-moves_keep_entries = record { permutes = IsPermutation-moved_to; places = moved_to-places; others = moved_to-others }
+moves_keep_entries = record { permutes = IsPermutation-moved_to; positions = moved_to-positions; others = moved_to-others }

@@ -122,7 +122,7 @@ module _ (q : QueueState) (is : IsQueue q) (start end : ℕ) (words : List ℕ) 
   ids_after : slot_ids (shuffled S start end words) ≡ slot_ids front ++ (slot_ids moved ++ slot_ids back)
   ids_after = ap slot_ids shuffled-parts ∙ slot_ids-parts front moved back
 
-  -- where each entry of the part is at its place again
+  -- where each entry of the part is at its position again
   pub part-same : slot_ids moved ≡ slot_ids part → q ≡ shuffled_state q start end words
   part-same same = shuffled-same q is start end words within (ids_after ∙ ap (λ l. slot_ids front ++ (l ++ slot_ids back)) same ∙ sym ids_before)
 

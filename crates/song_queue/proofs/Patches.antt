@@ -110,10 +110,10 @@ patch-changed max_len k max_id newer older then few =
     let done = patch-rows k past s v 0 [] (present past) then refl unchanged in
     ap (λ x. take (length (present past)) x) done.1 ∙ take_at (present past) done.0 _ refl
 
--- the same of the places that a queue answers
-pub patches-earlier : (q : QueueState) (version : ℕ) (places : List ℕ) → places ≡ map (λ (p : ℕ × Entry). p.0) (changed q version) → PatchesEarlier q version places
-patches-earlier q version places are newer older known is few asked =
+-- the same of the positions that a queue answers
+pub patches-earlier : (q : QueueState) (version : ℕ) (positions : List ℕ) → positions ≡ map (λ (p : ℕ × Entry). p.0) (changed q version) → PatchesEarlier q version positions
+patches-earlier q version positions are newer older known is few asked =
     let past : List (List Entry) = newer ++ known ∷ older in
-    let rows : rows_at (queue_of q) places ≡ changed (state_of q.max_len q.max_version q.max_id past) (version_of q.max_version (number (known ∷ older))) =
+    let rows : rows_at (queue_of q) positions ≡ changed (state_of q.max_len q.max_version q.max_id past) (version_of q.max_version (number (known ∷ older))) =
     ap (λ x. rows_at (queue_of q) x) are ∙ rows-changed q version ∙ (λ i. changed (is i) (asked i)) in
     ap (λ x. patch known x (length (present past))) rows ∙ patch-changed q.max_len q.max_version q.max_id newer older known few

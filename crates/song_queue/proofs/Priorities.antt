@@ -14,7 +14,7 @@ use Rattle.song_queue.specs.State.{QueueState, IsQueue, restamped, kept, written
 use Rattle.song_queue.proofs.Same.{same_entry-refl, same_song-refl}
 use Rattle.song_queue.proofs.Edits.{Distinct, IsQueue-stays, edited-same}
 
--- where a name of a place decides which of two values it has
+-- where a name of a position decides which of two values it has
 abbrev pub named : {X : Type 0} → (X → X) → List (Range ℕ) → ℕ → List X → List X
 named {X} f ranges n xs = map (λ (p : ℕ × X). cond (is_named ranges p.0) (f p.1) p.1) (enumerate_from n xs)
 
@@ -98,7 +98,7 @@ named-append f ranges n (x ∷ xs) ys =
     let e : n + 1 + length xs ≡ n + suc (length xs) = omega arith in
     λ i. cond (is_named ranges n) (f x) x ∷ (named-append f ranges (n + 1) xs ys ∙ ap (λ m. named f ranges (n + 1) xs ++ named f ranges m ys) e) i
 
--- where all places are named, or none
+-- where all positions are named, or none
 named-alike : {X : Type 0} (f : X → X) (ranges : List (Range ℕ)) (b : Bool) (n : ℕ) (xs : List X) → ((k : ℕ) → k < length xs → is_named ranges (n + k) ≡ b) → named f ranges n xs ≡ map (λ x. cond b (f x) x) xs
 named-alike f ranges b n [] alike = refl
 named-alike f ranges b n (x ∷ xs) alike =
@@ -159,8 +159,8 @@ module _ (priority : ℕ) (ranges : List (Range ℕ)) (ss : List Slot) (i : ℕ)
             let low : r.start ≤ k = leb-true _ _ p.0 in
             let high : k < r.end = ltb-true _ _ p.1 in
             let size : length (slice_range ss r.start r.end) ≡ r.end - r.start = length-between ss r.start r.end fits in
-            let place : r.start + (k - r.start) ≡ k = omega arith in
-            ap (λ n. (get_or ss n d).entry.priority) (sym place) ∙ ap (λ (s : Slot). s.entry.priority) (sym (get_or-between ss r.start r.end (k - r.start) d (omega arith))) ∙ part (k - r.start) d (omega arith)
+            let position : r.start + (k - r.start) ≡ k = omega arith in
+            ap (λ n. (get_or ss n d).entry.priority) (sym position) ∙ ap (λ (s : Slot). s.entry.priority) (sym (get_or-between ss r.start r.end (k - r.start) d (omega arith))) ∙ part (k - r.start) d (omega arith)
       ]
 
   pub part-same : r.end ≤ length ss → entries_of ss ≡ with_priority (entries_of ss) ranges priority → Part

@@ -17,7 +17,7 @@ use Rattle.song_queue.proofs.Same.{same_entry-refl, same_entry-other}
 use Rattle.song_queue.proofs.Edits.{Distinct, IsQueue-stays, edited-same, edited-is}
 use Rattle.song_queue.proofs.Swaps.{All-swap, Distinct-swap, Distinct-apart}
 
--- a range of one place or none has nothing to shuffle
+-- a range of one position or none has nothing to shuffle
 pub shuffled-few : {X : Type 0} (xs : List X) (start end : ℕ) (words : List ℕ) → end ≤ start + 1 → shuffled xs start end words ≡ xs
 shuffled-few xs start end [] few = refl
 shuffled-few xs start end (word ∷ words) few = cond-false _ _ _ (le-ltb start (end - 1) (omega arith))
@@ -52,7 +52,7 @@ pub Distinct-shuffled : (es : List Entry) (start end : ℕ) (words : List ℕ) �
 Distinct-shuffled es start end words within distinct =
     IsPermutation-keeps es Distinct distinct (λ l i j li lj d. Distinct-swap l i j li lj d) (shuffled es start end words) (IsPermutation-shuffled es start end words within)
 
--- a swap leaves what is before its places and after them
+-- a swap leaves what is before its positions and after them
 take-swap : {X : Type 0} (n : ℕ) (xs : List X) (i j : ℕ) → n ≤ i → n ≤ j → take n (swap xs i j) ≡ take n xs
 take-swap n [] i j li lj = refl
 take-swap n (x ∷ xs) i j li lj = take-set-le n (set (x ∷ xs) i (get_or (x ∷ xs) j x)) j (get_or (x ∷ xs) i x) lj ∙ take-set-le n (x ∷ xs) i (get_or (x ∷ xs) j x) li
@@ -100,7 +100,7 @@ stamped_by-more v w (id ∷ ids) [] i d li ls = absurd (omega arith)
 stamped_by-more v w (id ∷ ids) (s ∷ ss) zero d li ls = refl
 stamped_by-more v w (id ∷ ids) (s ∷ ss) (suc i) d li ls = λ n. stamped_slot v w id s ∷ stamped_by-more v w ids ss i d (omega arith) (omega arith) n
 
--- a slot is at a place as before where its id is
+-- a slot is at a position as before where its id is
 abbrev pub Returns : List Slot → List Slot → Type 0
 Returns old new = (k : ℕ) (d : Slot) → k < length old → (get_or old k d).entry.id ≡ (get_or new k d).entry.id → get_or old k d ≡ get_or new k d
 
@@ -140,7 +140,7 @@ module _ (ss : List Slot) (distinct : Distinct (entries_of ss)) (start end : ℕ
             (ap (λ (e : Entry). e.id) (read-map entry ss k d d.entry inside) ∙ same ∙ ap (λ (s : Slot). s.entry.id) was ∙ ap (λ (e : Entry). e.id) (sym (read-map entry ss stood.0 d d.entry there))))
       ]
 
-  -- what the code leaves where some id is at another place
+  -- what the code leaves where some id is at another position
   pub shuffled-slots : (v : ℕ) (w : Bool) → stamped_by v w (slot_ids ss) new ≡ restamped v w ss (shuffled (entries_of ss) start end words)
   shuffled-slots v w = stamped-restamped v w ss new (sym length-new) returns-new ∙ ap (restamped v w ss) (map-shuffled (λ (s : Slot). s.entry) ss start end words)
 
@@ -168,7 +168,7 @@ module _ (q : QueueState) (is : IsQueue q) (start end : ℕ) (words : List ℕ) 
   abbrev after : List Slot
   after = shuffled q.slots start end words
 
-  -- where each entry is at its place again
+  -- where each entry is at its position again
   pub shuffled-same : slot_ids after ≡ slot_ids q.slots → q ≡ shuffled_state q start end words
   shuffled-same same =
       let back : after ≡ q.slots = shuffled-back q.slots is.distinct start end words within same in

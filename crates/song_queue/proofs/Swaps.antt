@@ -1,4 +1,4 @@
--- Two entries that change places.
+-- Two entries that change positions.
 use Rattle.std.proofs.Common.{◌≡◌, ◌≢◌, ◌⊎◌, ℕ, zero, suc, ◌<◌, ◌≤◌, Bool, true, false, cond, not, List, [], ◌∷◌, length, map, get_or, set, refl, ap, sym, subst, ◌∙◌, inl, inr, arith}
 use Rattle.std.specs.Prelude.{All, swap}
 use Rattle.std.proofs.lemmas.Bool.{cond-true, cond-false, cases_eq, cases_lt}
@@ -13,7 +13,7 @@ use Rattle.queue_slots.proofs.Exchanges.{length-write_at}
 use Rattle.song_queue.proofs.Same.{same_entry-refl, same_entry-other}
 use Rattle.song_queue.proofs.Edits.{Distinct, IsQueue-stays, edited-changed, edited-same}
 
--- a swap brings no entry in, wherever its places are
+-- a swap brings no entry in, wherever its positions are
 pub All-swap : {X : Type 0} (P : X → Type 0) (es : List X) (a b : ℕ) → All P es → All P (swap es a b)
 All-swap P [] a b all = all
 All-swap P (e ∷ es) a b all =
@@ -58,7 +58,7 @@ pub some : (es : List Entry) → 0 < length es → One
 some [] l = absurd (omega arith)
 some (e ∷ es) l = one e
 
--- entries at two places are two
+-- entries at two positions are two
 pub Distinct-apart : (es : List Entry) → Distinct es → (i j : ℕ) (d : Entry) → i < length es → j < length es → i ≢ j → (get_or es i d).id ≢ (get_or es j d).id
 Distinct-apart es h i j d li lj ne same = elim (cases_lt i j) [
   | inl below ↦ h i j d below lj same
@@ -66,7 +66,7 @@ Distinct-apart es h i j d li lj ne same = elim (cases_lt i j) [
 ]
 
 module _ (es : List Entry) (a b : ℕ) (la : a < length es) (lb : b < length es) where
-  -- where the entry at a place was before
+  -- where the entry at a position was before
   before : (k : ℕ) (d : Entry) → (m : ℕ) × (get_or (swap es a b) k d ≡ get_or es m d) × (((k ≡ a) × (m ≡ b)) ⊎ (((k ≡ b) × (m ≡ a)) ⊎ ((k ≢ a) × (k ≢ b) × (m ≡ k))))
   before k d =
       let s = swapped_from_swap es (swap es a b) a b d la lb refl in
@@ -126,17 +126,17 @@ module _ (q : QueueState) (is : IsQueue q) (a b : ℕ) (la : a < length q.slots)
   abbrev kepts : List Slot
   kepts = map (kept w) ss
 
-  abbrev turned : List Slot
-  turned = swap kepts a b
+  abbrev exchanged : List Slot
+  exchanged = swap kepts a b
 
   abbrev first : List Slot
-  first = write_at v w turned a
+  first = write_at v w exchanged a
 
-  length-turned : length turned ≡ length ss
-  length-turned = length-swap kepts a b ∙ length-map ss (kept w)
+  length-exchanged : length exchanged ≡ length ss
+  length-exchanged = length-swap kepts a b ∙ length-map ss (kept w)
 
   length-first : length first ≡ length ss
-  length-first = length-write_at v w turned a ∙ length-turned
+  length-first = length-write_at v w exchanged a ∙ length-exchanged
 
   length-after : length after ≡ length ss
   length-after = length-swap es a b ∙ length-es
@@ -158,29 +158,29 @@ module _ (q : QueueState) (is : IsQueue q) (a b : ℕ) (la : a < length q.slots)
       same_lists (write_at v w first b) (restamped v w ss after) (omega (arith, length-first, length-after)) (λ k d l.
       let lk : k < length ss = omega (arith, length-first) in
       let f : Entry = d.entry in
-      let t = swapped_from_swap kepts turned a b d (omega (arith, length-map ss (kept w))) (omega (arith, length-map ss (kept w))) refl in
+      let t = swapped_from_swap kepts exchanged a b d (omega (arith, length-map ss (kept w))) (omega (arith, length-map ss (kept w))) refl in
       let s = swapped_from_swap es after a b f (omega (arith, length-es)) (omega (arith, length-es)) refl in
       let at_kepts : (i : ℕ) → i < length ss → get_or kepts i d ≡ kept w (get_or ss i d) = λ i li. get_or-map (kept w) ss i d d li in
       elim (cases_eq k b) [
         | inl e ↦
             let old : get_or (write_at v w first b) b d ≡ written v w (get_or ss a d).entry =
-            get_or-write_at_same v w first b d (omega (arith, length-first)) ∙ ap (λ (x : Slot). written v w x.entry) (get_or-write_at_other v w turned a b d (λ x. ne (sym x)) ∙ t.1 ∙ at_kepts a la) in
+            get_or-write_at_same v w first b d (omega (arith, length-first)) ∙ ap (λ (x : Slot). written v w x.entry) (get_or-write_at_other v w exchanged a b d (λ x. ne (sym x)) ∙ t.1 ∙ at_kepts a la) in
             ap (λ x. get_or (write_at v w first b) x d) e ∙ old ∙ sym (ap (λ x. get_or (restamped v w ss after) x d) e ∙ restamped-moved b a d lb la (λ x. ne (sym x)) s.1)
         | inr nb ↦ elim (cases_eq k a) [
           | inl e ↦
               let old : get_or (write_at v w first b) a d ≡ written v w (get_or ss b d).entry =
-              get_or-write_at_other v w first b a d ne ∙ get_or-write_at_same v w turned a d (omega (arith, length-turned)) ∙ ap (λ (x : Slot). written v w x.entry) (t.0 ∙ at_kepts b lb) in
+              get_or-write_at_other v w first b a d ne ∙ get_or-write_at_same v w exchanged a d (omega (arith, length-exchanged)) ∙ ap (λ (x : Slot). written v w x.entry) (t.0 ∙ at_kepts b lb) in
               ap (λ x. get_or (write_at v w first b) x d) e ∙ old ∙ sym (ap (λ x. get_or (restamped v w ss after) x d) e ∙ restamped-moved a b d la lb ne s.0)
           | inr na ↦
               let old : get_or (write_at v w first b) k d ≡ kept w (get_or ss k d) =
-              get_or-write_at_other v w first b k d nb ∙ get_or-write_at_other v w turned a k d na ∙ t.2 k na nb ∙ at_kepts k lk in
+              get_or-write_at_other v w first b k d nb ∙ get_or-write_at_other v w exchanged a k d na ∙ t.2 k na nb ∙ at_kepts k lk in
               let now : get_or after k f ≡ (get_or ss k d).entry = s.2 k na nb ∙ get_or-map (λ (x : Slot). x.entry) ss k d f lk in
               let same : same_entry (get_or ss k d).entry (get_or after k f) ≡ true = ap (same_entry (get_or ss k d).entry) now ∙ same_entry-refl (get_or ss k d).entry in
               old ∙ sym (get_or-restamped v w ss after k d f lk (omega (arith, length-after)) ∙ cond-true _ _ _ same)
         ]
       ])
 
-  -- an exchange of two places changes the queue
+  -- an exchange of two positions changes the queue
   swapped-other : a ≢ b → es ≢ after
   swapped-other ne same = elim (some es (omega (arith, length-es))) as (λ _. ⊥) [
     | one d ↦
@@ -198,7 +198,7 @@ module _ (q : QueueState) (is : IsQueue q) (a b : ℕ) (la : a < length q.slots)
   pub swapped-same : a ≡ b → swapped q a b ≡ q
   swapped-same e = edited-same q after (swap-same es a b (omega (arith, length-es)) (omega (arith, length-es)) e)
 
--- a swap of two places is one of the lower and the higher of them
+-- a swap of two positions is one of the lower and the higher of them
 pub swap-either : {X : Type 0} (xs : List X) (a b low high : ℕ) → a < length xs → b < length xs → a ≢ b → ((low ≡ a) × (high ≡ b)) ⊎ ((low ≡ b) × (high ≡ a)) → swap xs low high ≡ swap xs a b
 swap-either [] a b low high la lb ne e = refl
 swap-either (x ∷ xs) a b low high la lb ne (inl e) = λ i. swap (x ∷ xs) (e.0 i) (e.1 i)

@@ -34,16 +34,16 @@ same_slot (Some a) None = false
 abbrev pub entries_for : ℕ → List SongData → List Entry
 entries_for first songs = map (λ p. record { id = p.0; song = p.1; priority = 0 }) (enumerate_from first songs)
 
--- the entries from start up to end taken out, and put back so that the first of them is at a place of what is
+-- the entries from start up to end taken out, and put back so that the first of them is at a position of what is
 -- left
 abbrev pub moved_to : List Entry → ℕ → ℕ → ℕ → List Entry
 moved_to queue start end to = let rest = take start queue ++ drop end queue in take to rest ++ slice_range queue start end ++ drop to rest
 
--- whether a place is in one of the ranges
+-- whether a position is in one of the ranges
 abbrev pub is_named : List (Range ℕ) → ℕ → Bool
-is_named ranges place = list_any (λ r. nat_le r.start place && nat_lt place r.end) ranges
+is_named ranges position = list_any (λ r. nat_le r.start position && nat_lt position r.end) ranges
 
--- the queue with a priority for each entry whose place is in one of the ranges
+-- the queue with a priority for each entry whose position is in one of the ranges
 abbrev pub with_priority : List Entry → List (Range ℕ) → ℕ → List Entry
 with_priority queue ranges priority = map (λ p. if is_named ranges p.0 then record p.1 { priority = priority } else p.1) (enumerate_from 0 queue)
 
@@ -57,10 +57,10 @@ patch queue rows len = take len (fold patch_row queue rows)
 
 -- the row of an entry, if there is one
 abbrev pub row_of : ℕ → Option Entry → List (ℕ × Entry)
-row_of place None = []
-row_of place (Some entry) = (place, entry) ∷ []
+row_of position None = []
+row_of position (Some entry) = (position, entry) ∷ []
 
--- the rows of places in a queue
+-- the rows of positions in a queue
 abbrev pub rows_at : List Entry → List ℕ → List (ℕ × Entry)
 rows_at queue [] = []
-rows_at queue (place ∷ places) = row_of place (slice_get queue place) ++ rows_at queue places
+rows_at queue (position ∷ positions) = row_of position (slice_get queue position) ++ rows_at queue positions

@@ -38,7 +38,7 @@ abbrev pub state_after : QueueState → List Edit → QueueState
 state_after q [] = q
 state_after q (edit ∷ edits) = state_after (state_after_edit q edit) edits
 
--- the places of an edit lie in the queue
+-- the positions of an edit lie in the queue
 abbrev pub FitsIn : List Entry → Edit → Type 0
 FitsIn queue (Insert at songs) = at ≤ length queue
 FitsIn queue (Remove start end) = (start ≤ end) × (end ≤ length queue)
@@ -47,7 +47,7 @@ FitsIn queue (Prioritize ranges priority) = All (λ r. (r.start ≤ r.end) × (r
 FitsIn queue (Swap a b) = (a < length queue) × (b < length queue)
 FitsIn queue (Shuffle start end words) = (start ≤ end) × (end ≤ length queue)
 
--- the queue can take the edit: its places lie in it, and what is put in finds room and ids
+-- the queue can take the edit: its positions lie in it, and what is put in finds room and ids
 abbrev pub Takes : QueueState → Edit → Type 0
 Takes q (Insert at songs) = (at ≤ length (queue_of q)) × (length (queue_of q) + length songs ≤ q.max_len) × (q.greatest_id + length songs ≤ q.max_id)
 Takes q (Remove start end) = (start ≤ end) × (end ≤ length (queue_of q))
@@ -56,7 +56,7 @@ Takes q (Prioritize ranges priority) = All (λ r. (r.start ≤ r.end) × (r.end 
 Takes q (Swap a b) = (a < length (queue_of q)) × (b < length (queue_of q))
 Takes q (Shuffle start end words) = (start ≤ end) × (end ≤ length (queue_of q))
 
--- each edit's places lie in the queue that it finds
+-- each edit's positions lie in the queue that it finds
 abbrev pub AllFitIn : List (List Entry) → List Edit → Type 0
 AllFitIn past [] = Unit {0}
 AllFitIn past (edit ∷ edits) = FitsIn (present past) edit × AllFitIn (after_event past (queue_after past edit)) edits
@@ -91,28 +91,28 @@ PatchesGivePresent = (max_len max_version max_id : ℕ) (newer older : List (Lis
     → let past = newer ++ known ∷ older in
     number past < max_version → patch known (changed (state_of max_len max_version max_id past) (version_of max_version (number (known ∷ older)))) (length (present past)) ≡ present past
 
--- the same of the places that a queue answers: with its entries at these places, each earlier queue of the
+-- the same of the positions that a queue answers: with its entries at these positions, each earlier queue of the
 -- version that was asked is patched to the present one
 abbrev pub PatchesEarlier : QueueState → ℕ → List ℕ → Type 0
-PatchesEarlier q version places = (newer older : List (List Entry)) (known : List Entry)
+PatchesEarlier q version positions = (newer older : List (List Entry)) (known : List Entry)
     → let past = newer ++ known ∷ older in
     q ≡ state_of q.max_len q.max_version q.max_id past → number past < q.max_version → version ≡ version_of q.max_version (number (known ∷ older))
-    → patch known (rows_at (queue_of q) places) (length (present past)) ≡ present past
+    → patch known (rows_at (queue_of q) positions) (length (present past)) ≡ present past
 
 -- after any edits the ids of the present queue are distinct
 abbrev pub IdsAreDistinct : Type 0
 IdsAreDistinct = (edits : List Edit) → AllFitIn ([] ∷ []) edits → AllPairs (λ a b. a.id ≢ b.id) (present (past_after ([] ∷ []) edits))
 
--- a move keeps each entry: the moved ones are at the place in their order, and the others follow one another
+-- a move keeps each entry: the moved ones are at the position in their order, and the others follow one another
 -- as before
 pub record MovesKeepEntries : Type 0 where
   pub permutes : (queue : List Entry) (start end to : ℕ) → start ≤ end → IsPermutation queue (moved_to queue start end to)
-  pub places : (queue : List Entry) (start end to : ℕ) → start ≤ end → end ≤ length queue → to + (end - start) ≤ length queue
+  pub positions : (queue : List Entry) (start end to : ℕ) → start ≤ end → end ≤ length queue → to + (end - start) ≤ length queue
       → slice_range (moved_to queue start end to) to (to + (end - start)) ≡ slice_range queue start end
   pub others : (queue : List Entry) (start end to : ℕ) → start ≤ end → end ≤ length queue → to + (end - start) ≤ length queue
       → take to (moved_to queue start end to) ++ drop (to + (end - start)) (moved_to queue start end to) ≡ take start queue ++ drop end queue
 
--- a shuffle keeps each entry, and those outside of its range stay at their places
+-- a shuffle keeps each entry, and those outside of its range stay at their positions
 pub record ShufflesPermute : Type 0 where
   pub permutes : (queue : List Entry) (start end : ℕ) (words : List ℕ) → end ≤ length queue → IsPermutation queue (shuffled queue start end words)
   pub before : (queue : List Entry) (start end : ℕ) (words : List ℕ) → take start (shuffled queue start end words) ≡ take start queue

@@ -51,7 +51,7 @@ one_version = refl
 abbrev swaps : List Edit
 swaps = Insert 0 (song 1 ∷ []) ∷ Insert 1 (song 2 ∷ []) ∷ Swap 0 1 ∷ Swap 0 1 ∷ []
 
--- two songs that change places and back are both shown to a client of version 3, by the state and by the past
+-- two songs that change positions and back are both shown to a client of version 3, by the state and by the past
 swapped_back : ids (changed (state_after (opened 10 100 100) swaps) 3) ≡ (0, 1) ∷ (1, 2) ∷ []
 swapped_back = refl
 
@@ -62,7 +62,7 @@ swapped_back_past = refl
 ahead : ids (changed (state_of 10 100 100 (past_of swaps)) 99) ≡ (0, 1) ∷ (1, 2) ∷ []
 ahead = refl
 
--- one change: a swap of a place with itself adds none
+-- one change: a swap of a position with itself adds none
 odd : (state_after (opened 10 4 100) (Insert 0 (song 1 ∷ []) ∷ Swap 0 0 ∷ [])).parity ≡ true
 odd = refl
 
@@ -106,16 +106,16 @@ overlapping = refl
 again_the_same : (state_after (opened 10 100 100) (four ++ Prioritize first 7 ∷ Prioritize first 7 ∷ Prioritize [] 9 ∷ [])).version ≡ 6
 again_the_same = refl
 
--- four songs shuffled: the fourth changes places with the second, the third with the first, and the second
+-- four songs shuffled: the fourth changes positions with the second, the third with the first, and the second
 -- stays
 shuffled_four : map (λ e. e.id) (queue_of (state_after (opened 10 100 100) (four ++ Shuffle 0 4 (5 ∷ 3 ∷ 1 ∷ []) ∷ []))) ≡ 3 ∷ 4 ∷ 1 ∷ 2 ∷ []
 shuffled_four = refl
 
--- the last three alone: places are counted from the first of them, and a word left over is not taken
+-- the last three alone: positions are counted from the first of them, and a word left over is not taken
 shuffled_behind : map (λ e. e.id) (queue_of (state_after (opened 10 100 100) (four ++ Shuffle 1 4 (4 ∷ 2 ∷ 7 ∷ []) ∷ []))) ≡ 1 ∷ 4 ∷ 2 ∷ 3 ∷ []
 shuffled_behind = refl
 
--- words that end early leave the places before as they are then
+-- words that end early leave the positions before as they are then
 shuffled_early : map (λ e. e.id) (queue_of (state_after (opened 10 100 100) (four ++ Shuffle 0 4 (0 ∷ []) ∷ []))) ≡ 4 ∷ 2 ∷ 3 ∷ 1 ∷ []
 shuffled_early = refl
 
@@ -126,6 +126,6 @@ shuffled_shown = refl
 shuffled_part_shown : ids (changed (state_of 10 100 100 (past_of (four ++ Shuffle 0 4 (0 ∷ 2 ∷ 1 ∷ []) ∷ []))) 5) ≡ (0, 4) ∷ (3, 1) ∷ []
 shuffled_part_shown = refl
 
--- each song at its place again: no change
+-- each song at its position again: no change
 shuffled_nowhere : (state_after (opened 10 100 100) (four ++ Shuffle 0 4 (3 ∷ 2 ∷ 1 ∷ []) ∷ Shuffle 2 3 [] ∷ [])).version ≡ 5
 shuffled_nowhere = refl

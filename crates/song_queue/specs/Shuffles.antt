@@ -1,8 +1,8 @@
 -- Lists shuffled by words, as Fisher and Yates shuffle (which words the swaps take is this profile's).
 use Rattle.std.specs.Prelude.{ℕ, ◌+◌, ◌-◌, ◌%◌, nat_lt, if◌then◌else◌, List, [], ◌∷◌, swap}
 
--- the elements from start up to end shuffled: from the last place down to the second, the element there
--- changes places with the one that the next word picks among those from start up to it. Words left over are
+-- the elements from start up to end shuffled: from the last position down to the second, the element there
+-- changes positions with the one that the next word picks among those from start up to it. Words left over are
 -- not taken
 abbrev pub shuffled : {X : Type 0} → List X → ℕ → ℕ → List ℕ → List X
 shuffled xs start end [] = xs

@@ -52,7 +52,7 @@ next_version q = if wraps q then 1 else q.version + 1
 abbrev pub edited : QueueState → List Entry → QueueState
 edited q entries = if same_queue (queue_of q) entries then q else record q { slots = restamped (next_version q) (wraps q) q.slots entries; version = next_version q; parity = not q.parity }
 
--- songs are put in before the entry at a place
+-- songs are put in before the entry at a position
 abbrev pub inserted : QueueState → ℕ → List SongData → QueueState
 inserted q at songs =
     record (edited q (take at (queue_of q) ++ entries_for (q.greatest_id + 1) songs ++ drop at (queue_of q))) { greatest_id = q.greatest_id + length songs }
@@ -61,16 +61,16 @@ inserted q at songs =
 abbrev pub removed : QueueState → ℕ → ℕ → QueueState
 removed q start end = edited q (take start (queue_of q) ++ drop end (queue_of q))
 
--- the entries from start up to end are taken out, and put back so that the first of them is at a place of
+-- the entries from start up to end are taken out, and put back so that the first of them is at a position of
 -- what is left
 abbrev pub moved : QueueState → ℕ → ℕ → ℕ → QueueState
 moved q start end to = edited q (moved_to (queue_of q) start end to)
 
--- each entry whose place is in one of the ranges gets a priority
+-- each entry whose position is in one of the ranges gets a priority
 abbrev pub prioritized : QueueState → List (Range ℕ) → ℕ → QueueState
 prioritized q ranges priority = edited q (with_priority (queue_of q) ranges priority)
 
--- the entries at two places change places
+-- the entries at two positions change positions
 abbrev pub swapped : QueueState → ℕ → ℕ → QueueState
 swapped q a b = edited q (swap (queue_of q) a b)
 
@@ -78,13 +78,13 @@ swapped q a b = edited q (swap (queue_of q) a b)
 abbrev pub shuffled_state : QueueState → ℕ → ℕ → List ℕ → QueueState
 shuffled_state q start end words = edited q (shuffled (queue_of q) start end words)
 
--- the place of the entry with an id
+-- the position of the entry with an id
 abbrev pub position_of : QueueState → ℕ → Option ℕ
 position_of q id = position (λ s. s.entry.id == id) q.slots
 
--- the queue has an entry at the place, and the place after it is a number of 64 bits
-abbrev pub HasPlace : QueueState → ℕ → Type 0
-HasPlace q place = (place < length (queue_of q)) × (place < 18446744073709551615)
+-- the queue has an entry at the position, and the position after it is a number of 64 bits
+abbrev pub HasPosition : QueueState → ℕ → Type 0
+HasPosition q position = (position < length (queue_of q)) × (position < 18446744073709551615)
 
 -- whether a slot of a queue is shown to a client that knows a version
 abbrev pub is_changed : QueueState → ℕ → Slot → Bool

@@ -11,15 +11,15 @@ use std::ops::Range;
 /// An edit of the queue.
 #[derive(Drop)]
 pub enum Edit {
-    /// Songs are put in before the entry at a place, or at the end.
+    /// Songs are put in before the entry at a position, or at the end.
     Insert(usize, Sequence<SharedSong>),
     /// The entries from a start up to an end are taken out.
     Remove(usize, usize),
-    /// The entries from a start up to an end are put back at a place of the queue without them.
+    /// The entries from a start up to an end are put back at a position of the queue without them.
     Move(usize, usize, usize),
     /// The entries in some ranges get a priority.
     Prioritize(Sequence<Range<usize>>, u8),
-    /// The entries at two places change round.
+    /// The entries at two positions change round.
     Swap(usize, usize),
     /// The entries from a start up to an end are shuffled by words.
     Shuffle(usize, usize, Sequence<u32>),

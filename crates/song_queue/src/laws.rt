@@ -37,7 +37,7 @@ pub fn moves_keep_entries()
     ensures { MovesKeepEntries }
 {}
 
-/// A shuffle keeps each entry, and leaves those outside of its range at their places.
+/// A shuffle keeps each entry, and leaves those outside of its range at their positions.
 pub fn shuffles_permute()
     ensures { ShufflesPermute }
 {}

@@ -3,7 +3,7 @@ ghost use Rattle.std.specs.Prelude.{◌≡◌, ◌↔◌, ◌+◌, ◌<◌, ◌�
 ghost use Rattle.std.specs.List.{slice_range};
 ghost use Rattle.std.specs.Option.{option_copied};
 ghost use Rattle.std.specs.Bool.{OnTrue, OnFalse};
-ghost use Rattle.song_queue.specs.State.{QueueState, IsQueue, HasPlace, entries_of, queue_of, position_of, inserted, removed, moved, prioritized, swapped, shuffled_state, changed, opened};
+ghost use Rattle.song_queue.specs.State.{QueueState, IsQueue, HasPosition, entries_of, queue_of, position_of, inserted, removed, moved, prioritized, swapped, shuffled_state, changed, opened};
 ghost use Rattle.song_queue.specs.Refusals.{IsPastEnd, LiesOutside, CannotMove, HasNoRoom, HasNoIds};
 ghost use Rattle.song_queue.specs.Laws.{PatchesEarlier};
 
@@ -23,7 +23,7 @@ use std::ops::Range;
 pub enum QueueFault {
     /// No entry has the id.
     NoSuchSong,
-    /// A place is not in the queue.
+    /// A position is not in the queue.
     BadIndex,
     /// The queue would have more entries than it may.
     Full,
@@ -148,14 +148,14 @@ impl Queue {
         self.parity
     }
 
-    /// The entry at a place.
-    pub fn get(&self, place: usize) -> Option<&Entry>
-        ensures { option_copied result ≡ slice_get (queue_of self.now) place }
+    /// The entry at a position.
+    pub fn get(&self, position: usize) -> Option<&Entry>
+        ensures { option_copied result ≡ slice_get (queue_of self.now) position }
     {
-        self.slots.get(place)
+        self.slots.get(position)
     }
 
-    /// The entries from a place up to another, or to the end of its block where that comes first, for loops
+    /// The entries from a position up to another, or to the end of its block where that comes first, for loops
     /// over the queue: each slot has its entry. What else a slot has is not what the queue shows of it.
     pub fn run(&self, from: usize, end: usize) -> &[Slot]
         requires order { from < end }
@@ -169,25 +169,25 @@ impl Queue {
         &run[..count]
     }
 
-    /// The place of the entry with an id.
+    /// The position of the entry with an id.
     pub fn position_of(&self, id: u32) -> Option<usize>
-        ensures place { result ≡ position_of self.now id }
-        ensures within { IfSome result (HasPlace self.now) }
+        ensures position { result ≡ position_of self.now id }
+        ensures within { IfSome result (HasPosition self.now) }
     {
         self.slots.position_of(id)
     }
 
-    /// The places that a client has to learn that knows the queue of a version, rising (MPD protocol
+    /// The positions that a client has to learn that knows the queue of a version, rising (MPD protocol
     /// reference, `plchanges`).
     pub fn changed_since(&self, version: u32) -> Result<Vec<usize>, AllocError>
-        ensures places { IfOk result (λ places. places.items ≡ map (λ row. row.0) (changed self.now version)) }
-        ensures patches { IfOk result (λ places. PatchesEarlier self.now version places.items) }
+        ensures positions { IfOk result (λ positions. positions.items ≡ map (λ row. row.0) (changed self.now version)) }
+        ensures patches { IfOk result (λ positions. PatchesEarlier self.now version positions.items) }
     {
-        let places = self.slots.changed_places(version, self.version)?;
-        Ok(places)
+        let positions = self.slots.changed_positions(version, self.version)?;
+        Ok(positions)
     }
 
-    /// Puts songs in before the entry at a place, or at the end; the songs of a refused call are dropped.
+    /// Puts songs in before the entry at a position, or at the end; the songs of a refused call are dropped.
     pub fn insert(&mut self, at: usize, songs: Vec<SharedSong>) -> Result<(), QueueFault>
         ensures ok { OnOk result (self.new ≡ inserted self.old at songs.items) }
         ensures no_such_song { IsErrOf result QueueFault.NoSuchSong → ⊥ }
@@ -241,8 +241,8 @@ impl Queue {
         Ok(())
     }
 
-    /// Takes the entries of a range out, and puts them back so that the first of them is at a place of what
-    /// is left. An empty range changes nothing, whatever the place. It takes no memory.
+    /// Takes the entries of a range out, and puts them back so that the first of them is at a position of what
+    /// is left. An empty range changes nothing, whatever the position. It takes no memory.
     pub fn move_range(&mut self, range: Range<usize>, to: usize) -> Result<(), QueueFault>
         ensures ok { OnOk result (self.new ≡ moved self.old range.start range.end to) }
         ensures bad_index { IsErrOf result QueueFault.BadIndex ↔ CannotMove self.old range to }
@@ -270,7 +270,7 @@ impl Queue {
         Ok(())
     }
 
-    /// Gives each entry whose place is in one of the ranges a priority. Ranges may be empty and may overlap.
+    /// Gives each entry whose position is in one of the ranges a priority. Ranges may be empty and may overlap.
     /// It takes no memory.
     pub fn set_prio(&mut self, ranges: &[Range<usize>], priority: u8) -> Result<(), QueueFault>
         ensures ok { OnOk result (self.new ≡ prioritized self.old ranges.now priority) }
@@ -291,7 +291,7 @@ impl Queue {
         Ok(())
     }
 
-    /// Lets the entries at two places change places; a place with itself changes nothing. It takes no memory.
+    /// Lets the entries at two positions change positions; a position with itself changes nothing. It takes no memory.
     pub fn swap(&mut self, a: usize, b: usize) -> Result<(), QueueFault>
         ensures ok { OnOk result (self.new ≡ swapped self.old a b) }
         ensures bad_index { IsErrOf result QueueFault.BadIndex ↔ (IsPastEnd self.old a ⊎ IsPastEnd self.old b) }
@@ -312,9 +312,9 @@ impl Queue {
         Ok(())
     }
 
-    /// Shuffles the entries of a range. From its last place down to its second, each takes a word; where
-    /// words end early, the places before stay as they are then. It is one change, or none where each entry
-    /// is at its place again.
+    /// Shuffles the entries of a range. From its last position down to its second, each takes a word; where
+    /// words end early, the positions before stay as they are then. It is one change, or none where each entry
+    /// is at its position again.
     pub fn shuffle(&mut self, range: Range<usize>, words: &[u32]) -> Result<(), QueueFault>
         ensures ok { OnOk result (self.new ≡ shuffled_state self.old range.start range.end words.now) }
         ensures bad_index { IsErrOf result QueueFault.BadIndex ↔ LiesOutside self.old range }

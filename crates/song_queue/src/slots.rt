@@ -48,7 +48,7 @@ pub fn new_slots(
     Ok(slots)
 }
 
-/// Takes the entries from `start` up to `end` out, and puts them back so that the first of them is at a place
+/// Takes the entries from `start` up to `end` out, and puts them back so that the first of them is at a position
 /// of what is left. Slots whose entry changes are written, and the others kept.
 pub fn move_part(slots: &mut Blocks, start: usize, end: usize, to: usize, version: u32, wraps: bool)
     requires some { start < end }
@@ -59,11 +59,11 @@ pub fn move_part(slots: &mut Blocks, start: usize, end: usize, to: usize, versio
     ensures { slots.new ≡ restamped version wraps slots.old (moved_to (entries_of slots.old) start end to) }
 {
     if to < start {
-        slots.turn(to, start, end, version, wraps);
+        slots.rotate(to, start, end, version, wraps);
     } else {
-        // No place is above the length, which is a number of 64 bits.
+        // No position is above the length, which is a number of 64 bits.
         let _ = slots.len();
-        slots.turn(start, end, to + (end - start), version, wraps);
+        slots.rotate(start, end, to + (end - start), version, wraps);
     }
 }
 
@@ -124,21 +124,21 @@ pub fn have_ids(slots: &[Slot], ids: &[u32]) -> bool
     requires { length ids.now ≡ length slots.now }
     ensures { IsTrue result ↔ (map (λ s. s.entry.id) slots.now ≡ ids.now) }
 {
-    for (place, id) in ids.iter().enumerate() {
-        if slots[place].entry.id != *id {
+    for (position, id) in ids.iter().enumerate() {
+        if slots[position].entry.id != *id {
             return false;
         }
     }
     true
 }
 
-/// Writes the slots whose entry has another id than these, place by place, and keeps the others.
+/// Writes the slots whose entry has another id than these, position by position, and keeps the others.
 pub fn stamp_others(slots: &mut [Slot], ids: &[u32], version: u32, wraps: bool)
     requires { length ids.now ≡ length slots.old }
     ensures { slots.new ≡ stamped_by version wraps ids.now slots.old }
 {
-    for (place, id) in ids.iter().enumerate() {
-        stamp_other(&mut slots[place], *id, version, wraps);
+    for (position, id) in ids.iter().enumerate() {
+        stamp_other(&mut slots[position], *id, version, wraps);
     }
 }
 

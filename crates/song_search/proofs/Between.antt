@@ -24,12 +24,12 @@ order = nat_list_cmp_total
 
 -- which text is first is told by their first bytes, or after them
 head_less : (x y : ℕ) (o : Ordering) → ordering_then (nat_cmp x y) o ≡ Less → (x < y) ⊎ ((x ≡ y) × (o ≡ Less))
-head_less x y o h = told (nat_cmp x y) (ranks x y) h
+head_less x y o h = by_case (nat_cmp x y) (ranks x y) h
   where
-    told : (r : Ordering) → MatchOrdering r (x < y) (x ≡ y) (y < x) → ordering_then r o ≡ Less → (x < y) ⊎ ((x ≡ y) × (o ≡ Less))
-    told Less m h = inl m
-    told Equal m h = inr (m, h)
-    told Greater m h = cc
+    by_case : (r : Ordering) → MatchOrdering r (x < y) (x ≡ y) (y < x) → ordering_then r o ≡ Less → (x < y) ⊎ ((x ≡ y) × (o ≡ Less))
+    by_case Less m h = inl m
+    by_case Equal m h = inr (m, h)
+    by_case Greater m h = cc
 
 -- what stands between two texts with one front has that front
 between : (p ra rc b : List ℕ) → by_bytes (p ++ ra) b ≡ Less → by_bytes b (p ++ rc) ≡ Less → (rb : List ℕ) × (b ≡ p ++ rb)
@@ -56,12 +56,12 @@ is-less Greater h = cc
 
 -- with a front, and neither the front's own text's nor a later text's fault
 from_front : (p b rc : List ℕ) → is_lt (by_bytes b p) ≡ false → by_bytes b (p ++ rc) ≡ Less → (rb : List ℕ) × (b ≡ p ++ rb)
-from_front p b rc low high = told (by_bytes b p) refl low
+from_front p b rc low high = by_case (by_bytes b p) refl low
   where
-    told : (o : Ordering) → by_bytes b p ≡ o → is_lt o ≡ false → (rb : List ℕ) × (b ≡ p ++ rb)
-    told Less e h = cc
-    told Equal e h = ([], slice_cmp-IsAntisymmetric nat_cmp-IsAntisymmetric b p e ∙ sym (append-nil p))
-    told Greater e h = between p [] rc b (subst (λ (t : List ℕ). by_bytes t b ≡ Less) (sym (append-nil p)) (order.antisymm p b ∙ ap ordering_reverse e)) high
+    by_case : (o : Ordering) → by_bytes b p ≡ o → is_lt o ≡ false → (rb : List ℕ) × (b ≡ p ++ rb)
+    by_case Less e h = cc
+    by_case Equal e h = ([], slice_cmp-IsAntisymmetric nat_cmp-IsAntisymmetric b p e ∙ sym (append-nil p))
+    by_case Greater e h = between p [] rc b (subst (λ (t : List ℕ). by_bytes t b ≡ Less) (sym (append-nil p)) (order.antisymm p b ∙ ap ordering_reverse e)) high
 
 module _ (p : SongData → Bool) where
   -- where those that pass stand before those that do not
@@ -141,21 +141,21 @@ under_is folder xs rest start end h is low high first second =
     ∙ ap (filter (λ (s : SongData). is_under folder s.uri)) (sym is) ∙ filter_front (λ (s : SongData). is_under folder s.uri) rest end high two.0 two.1)
 
 -- whether a text is before a folder's, told by what stands after the folder
-slash_told : (rest : List ℕ) → 0 < length rest → nat_lt (get_or rest 0 0) 47 ≡ is_lt (by_bytes rest (47 ∷ []))
-slash_told [] some = absurd (omega arith)
-slash_told (x ∷ xs) some = told (nat_cmp x 47) (ranks x 47)
+slash_decides : (rest : List ℕ) → 0 < length rest → nat_lt (get_or rest 0 0) 47 ≡ is_lt (by_bytes rest (47 ∷ []))
+slash_decides [] some = absurd (omega arith)
+slash_decides (x ∷ xs) some = by_case (nat_cmp x 47) (ranks x 47)
   where
     last : (ys : List ℕ) → is_lt (by_bytes ys []) ≡ false
     last [] = refl
     last (y ∷ ys) = refl
 
-    told : (r : Ordering) → MatchOrdering r (x < 47) (x ≡ 47) (47 < x) → nat_lt x 47 ≡ is_lt (ordering_then r (by_bytes xs []))
-    told Less m = lt-ltb x 47 m
-    told Equal m = le-ltb x 47 (omega arith) ∙ sym (last xs)
-    told Greater m = le-ltb x 47 (omega arith)
+    by_case : (r : Ordering) → MatchOrdering r (x < 47) (x ≡ 47) (47 < x) → nat_lt x 47 ≡ is_lt (ordering_then r (by_bytes xs []))
+    by_case Less m = lt-ltb x 47 m
+    by_case Equal m = le-ltb x 47 (omega arith) ∙ sym (last xs)
+    by_case Greater m = le-ltb x 47 (omega arith)
 
 pub before_slash : (rest : List ℕ) → 0 < length rest → nat_lt (get_or rest 0 0) 47 ≡ is_lt (by_bytes rest (47 ∷ []))
-before_slash = slash_told
+before_slash = slash_decides
 
 itself : (x : ℕ) → nat_cmp x x ≡ Equal
 itself x = tied_itself nat_cmp_total x
@@ -167,12 +167,12 @@ behind_front (x ∷ p) a b = ap (λ o. ordering_then o (by_bytes (p ++ a) (p ++ 
 pub apart_before : (p b more : List ℕ) → ((rest : List ℕ) → b ≡ p ++ rest → ⊥) → is_lt (by_bytes b p) ≡ is_lt (by_bytes b (p ++ more))
 apart_before [] b more apart = absurd (apart b refl)
 apart_before (x ∷ p) [] more apart = refl
-apart_before (x ∷ p) (y ∷ b) more apart = told (nat_cmp y x) (ranks y x) (λ same. apart_before p b more (λ rest e. apart rest (λ i. same i ∷ e i)))
+apart_before (x ∷ p) (y ∷ b) more apart = by_case (nat_cmp y x) (ranks y x) (λ same. apart_before p b more (λ rest e. apart rest (λ i. same i ∷ e i)))
   where
-    told : (r : Ordering) → MatchOrdering r (y < x) (y ≡ x) (x < y) → (y ≡ x → is_lt (by_bytes b p) ≡ is_lt (by_bytes b (p ++ more))) → is_lt (ordering_then r (by_bytes b p)) ≡ is_lt (ordering_then r (by_bytes b (p ++ more)))
-    told Less m deeper = refl
-    told Equal m deeper = deeper m
-    told Greater m deeper = refl
+    by_case : (r : Ordering) → MatchOrdering r (y < x) (y ≡ x) (x < y) → (y ≡ x → is_lt (by_bytes b p) ≡ is_lt (by_bytes b (p ++ more))) → is_lt (ordering_then r (by_bytes b p)) ≡ is_lt (ordering_then r (by_bytes b (p ++ more)))
+    by_case Less m deeper = refl
+    by_case Equal m deeper = deeper m
+    by_case Greater m deeper = refl
 
 pub front_empty : (folder : List ℕ) → length folder ≡ 0 → front_of folder ≡ []
 front_empty [] e = refl

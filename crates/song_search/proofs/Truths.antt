@@ -25,25 +25,25 @@ tail : List ℕ → List ℕ
 tail [] = []
 tail (x ∷ xs) = xs
 
-includes-Decides : (wanted text : List ℕ) → Decides (includes wanted text) (HasSubslice text wanted)
+includes-Decides : (value text : List ℕ) → Decides (includes value text) (HasSubslice text value)
 unfolding tail
-includes-Decides wanted [] =
-    ((λ h. ([], _, begins_rest [] wanted h)), (λ s. inside s.0 s.1 s.2))
+includes-Decides value [] =
+    ((λ h. ([], _, begins_rest [] value h)), (λ s. inside s.0 s.1 s.2))
   where
-    inside : (a b : List ℕ) → [] ≡ a ++ (wanted ++ b) → starts_with nat_eq [] wanted ≡ true
-    inside [] b e = begins_from [] wanted b e
+    inside : (a b : List ℕ) → [] ≡ a ++ (value ++ b) → starts_with nat_eq [] value ≡ true
+    inside [] b e = begins_from [] value b e
     inside (x ∷ a) b e = cc
-includes-Decides wanted (c ∷ cs) = (
-  (λ h. elim (or_cases (starts_with nat_eq (c ∷ cs) wanted) (includes wanted cs) h) [
-    | inl here ↦ ([], _, begins_rest (c ∷ cs) wanted here)
-    | inr later ↦ let rest = (includes-Decides wanted cs).0 later in (c ∷ rest.0, rest.1, ap (λ (t : List ℕ). c ∷ t) rest.2)
+includes-Decides value (c ∷ cs) = (
+  (λ h. elim (or_cases (starts_with nat_eq (c ∷ cs) value) (includes value cs) h) [
+    | inl here ↦ ([], _, begins_rest (c ∷ cs) value here)
+    | inr later ↦ let rest = (includes-Decides value cs).0 later in (c ∷ rest.0, rest.1, ap (λ (t : List ℕ). c ∷ t) rest.2)
   ]),
-  (λ s. inside (includes-Decides wanted cs).1 s.0 s.1 s.2),
+  (λ s. inside (includes-Decides value cs).1 s.0 s.1 s.2),
 )
   where
-    inside : (HasSubslice cs wanted → includes wanted cs ≡ true) → (a b : List ℕ) → c ∷ cs ≡ a ++ (wanted ++ b) → includes wanted (c ∷ cs) ≡ true
-    inside deeper [] b e = or_left (starts_with nat_eq (c ∷ cs) wanted) (includes wanted cs) (begins_from (c ∷ cs) wanted b e)
-    inside deeper (x ∷ a) b e = or_right (starts_with nat_eq (c ∷ cs) wanted) (includes wanted cs) (deeper (a, b, ap tail e))
+    inside : (HasSubslice cs value → includes value cs ≡ true) → (a b : List ℕ) → c ∷ cs ≡ a ++ (value ++ b) → includes value (c ∷ cs) ≡ true
+    inside deeper [] b e = or_left (starts_with nat_eq (c ∷ cs) value) (includes value cs) (begins_from (c ∷ cs) value b e)
+    inside deeper (x ∷ a) b e = or_right (starts_with nat_eq (c ∷ cs) value) (includes value cs) (deeper (a, b, ap tail e))
 
 module _ (passes : List ℕ → Bool) (P : List ℕ → Type 0) (each : (text : List ℕ) → Decides (passes text) (P text)) where
   some-Decides : (names : List TagName) (tags : List TagData) → Decides (list_any (λ name. passes (text_of_tag name tags)) names) (SomeTag P names tags)
@@ -57,20 +57,20 @@ module _ (passes : List ℕ → Bool) (P : List ℕ → Type 0) (each : (text : 
   has-Decides Any song = some-Decides base_tag_names song.tags
   has-Decides AnyKnown song = some-Decides tag_names song.tags
 
-same-Decides : (case : Case) (wanted text : List ℕ) → Decides (pointwise nat_eq (folded case text) (folded case wanted)) (folded case text ≡ folded case wanted)
-same-Decides case wanted text = bytes_decides (folded case text) (folded case wanted)
+same-Decides : (case : Case) (value text : List ℕ) → Decides (pointwise nat_eq (folded case text) (folded case value)) (folded case text ≡ folded case value)
+same-Decides case value text = bytes_decides (folded case text) (folded case value)
 
-compares-Decides : (case : Case) (test : Test) (wanted : List ℕ) (field : Field) (song : SongData) → Decides (compares case test wanted field song) (Compares case test wanted field song)
-compares-Decides case Equals wanted field song = has-Decides (λ text. pointwise nat_eq (folded case text) (folded case wanted)) (λ text. folded case text ≡ folded case wanted) (same-Decides case wanted) field song
-compares-Decides case Differs wanted field song =
-    Decides-not (has_it (λ text. pointwise nat_eq (folded case text) (folded case wanted)) field song)
-    (has-Decides (λ text. pointwise nat_eq (folded case text) (folded case wanted)) (λ text. folded case text ≡ folded case wanted) (same-Decides case wanted) field song)
-compares-Decides case Contains wanted field song =
-    has-Decides (λ text. includes (folded case wanted) (folded case text)) (λ text. HasSubslice (folded case text) (folded case wanted)) (λ text. includes-Decides (folded case wanted) (folded case text)) field song
+compares-Decides : (case : Case) (test : Test) (value : List ℕ) (field : Field) (song : SongData) → Decides (compares case test value field song) (Compares case test value field song)
+compares-Decides case Equals value field song = has-Decides (λ text. pointwise nat_eq (folded case text) (folded case value)) (λ text. folded case text ≡ folded case value) (same-Decides case value) field song
+compares-Decides case Differs value field song =
+    Decides-not (has_it (λ text. pointwise nat_eq (folded case text) (folded case value)) field song)
+    (has-Decides (λ text. pointwise nat_eq (folded case text) (folded case value)) (λ text. folded case text ≡ folded case value) (same-Decides case value) field song)
+compares-Decides case Contains value field song =
+    has-Decides (λ text. includes (folded case value) (folded case text)) (λ text. HasSubslice (folded case text) (folded case value)) (λ text. includes-Decides (folded case value) (folded case text)) field song
 
 pub meets-Decides : (case : Case) (e : Expression) (song : SongData) → Decides (meets case e song) (Holds case e song)
 unfolding meets
-meets-Decides case (Compare field test wanted) song = compares-Decides case test wanted field song
+meets-Decides case (Compare field test value) song = compares-Decides case test value field song
 meets-Decides case (Under folder) song = under-Decides folder song.uri
 meets-Decides case (Negation e) song = Decides-not (meets case e song) (meets-Decides case e song)
 meets-Decides case (Both e f) song = Decides-and (meets case e song) (meets case f song) (meets-Decides case e song) (meets-Decides case f song)

@@ -37,23 +37,23 @@ pub no_slash : (path : List ℕ) → ((k : ℕ) → k < length path → get_or p
 no_slash [] h = refl
 no_slash (x ∷ xs) h = or_from (eqb x 47) (has_slash xs) (ne_eqb x 47 (h 0 (omega arith))) (no_slash xs (λ k l. h (suc k) (omega arith)))
 
-slash_there : (path : List ℕ) (place : ℕ) → place < length path → get_or path place 0 ≡ 47 → has_slash path ≡ true
-slash_there [] place l e = absurd (omega arith)
+slash_there : (path : List ℕ) (offset : ℕ) → offset < length path → get_or path offset 0 ≡ 47 → has_slash path ≡ true
+slash_there [] offset l e = absurd (omega arith)
 slash_there (x ∷ xs) zero l e = or_left (eqb x 47) (has_slash xs) (eq-eqb x 47 e)
-slash_there (x ∷ xs) (suc place) l e = or_right (eqb x 47) (has_slash xs) (slash_there xs place (omega arith) e)
+slash_there (x ∷ xs) (suc offset) l e = or_right (eqb x 47) (has_slash xs) (slash_there xs offset (omega arith) e)
 
-pub slash_at : (path : List ℕ) (place : ℕ) → place < length path → get_or path place 0 ≡ 47 → ((k : ℕ) → k < place → get_or path k 0 ≡ 47 → ⊥)
-    → (has_slash path ≡ true) × (place ≡ position_or_len slash path) × (place < length path)
-slash_at path place l e h =
-    (slash_there path place l e, sym (position_or_len_is slash path place 0 (omega arith) (λ k b. ne_eqb (get_or path k 0) 47 (h k b)) (λ _. eq-eqb (get_or path place 0) 47 e)), l)
+pub slash_at : (path : List ℕ) (offset : ℕ) → offset < length path → get_or path offset 0 ≡ 47 → ((k : ℕ) → k < offset → get_or path k 0 ≡ 47 → ⊥)
+    → (has_slash path ≡ true) × (offset ≡ position_or_len slash path) × (offset < length path)
+slash_at path offset l e h =
+    (slash_there path offset l e, sym (position_or_len_is slash path offset 0 (omega arith) (λ k b. ne_eqb (get_or path k 0) 47 (h k b)) (λ _. eq-eqb (get_or path offset 0) 47 e)), l)
 
 has_first : (path : List ℕ) → has_slash path ≡ true → position_or_len slash path < length path
 has_first [] h = cc
-has_first (x ∷ xs) h = told (eqb x 47) h (has_first xs)
+has_first (x ∷ xs) h = by_case (eqb x 47) h (has_first xs)
   where
-    told : (b : Bool) → b || has_slash xs ≡ true → (has_slash xs ≡ true → position_or_len slash xs < length xs) → cond (not b) (1 + position_or_len slash xs) 0 < suc (length xs)
-    told true h deeper = omega arith
-    told false h deeper = let low : position_or_len slash xs < length xs = deeper h in omega arith
+    by_case : (b : Bool) → b || has_slash xs ≡ true → (has_slash xs ≡ true → position_or_len slash xs < length xs) → cond (not b) (1 + position_or_len slash xs) 0 < suc (length xs)
+    by_case true h deeper = omega arith
+    by_case false h deeper = let low : position_or_len slash xs < length xs = deeper h in omega arith
 
 -- a text with a slash is what stands before the first one, the slash, and what stands after it
 at_first : (path : List ℕ) → has_slash path ≡ true → path ≡ before_first slash path ++ 47 ∷ after_first slash path
@@ -78,9 +78,9 @@ before_again (x ∷ xs) rest = elim (cases_Bool (eqb x 47)) [
 ]
 
 -- where the folder below ends in the URI
-pub below_is : (folder uri : List ℕ) (start place : ℕ) → is_under folder uri ≡ true → start ≡ length (front_of folder) → has_slash (drop start uri) ≡ true → place ≡ start + position_or_len slash (drop start uri)
-    → Some (take place uri) ≡ folder_below folder uri
-below_is folder uri start place inside is one at =
+pub below_is : (folder uri : List ℕ) (start offset : ℕ) → is_under folder uri ≡ true → start ≡ length (front_of folder) → has_slash (drop start uri) ≡ true → offset ≡ start + position_or_len slash (drop start uri)
+    → Some (take offset uri) ≡ folder_below folder uri
+below_is folder uri start offset inside is one at =
     let whole = begins_rest uri (front_of folder) inside in
     let front : take start uri ≡ front_of folder = ap (take start) whole ∙ take_at (front_of folder) (drop (length (front_of folder)) uri) start (sym is) in
     let path : drop start uri ≡ path_in folder uri = ap (λ n. drop n uri) is in
@@ -97,24 +97,24 @@ direct_none folder uri start is h =
     sym (cond-false (is_under folder uri && has_slash (path_in folder uri)) (Some (front_of folder ++ before_first slash (path_in folder uri))) None
     (and_right (is_under folder uri) (has_slash (path_in folder uri)) (ap (λ n. has_slash (drop n uri)) (sym is) ∙ h)))
 
-pub ends_before_slash : (uri : List ℕ) (start place : ℕ) → start ≤ length uri → has_slash (drop start uri) ≡ true → place ≡ start + position_or_len slash (drop start uri) → IsCharBoundary uri place
-ends_before_slash uri start place low h is =
+pub ends_before_slash : (uri : List ℕ) (start offset : ℕ) → start ≤ length uri → has_slash (drop start uri) ≡ true → offset ≡ start + position_or_len slash (drop start uri) → IsCharBoundary uri offset
+ends_before_slash uri start offset low h is =
     let first = has_first (drop start uri) h in
     let size = length-drop start uri in
-    let here : place < length uri = omega arith in
-    let byte : get_or uri place 0 ≡ 47 =
+    let here : offset < length uri = omega arith in
+    let byte : get_or uri offset 0 ≡ 47 =
     ap (λ k. get_or uri k 0) is ∙ sym (get_or-drop start uri (position_or_len slash (drop start uri)) 0)
     ∙ eqb-true (get_or (drop start uri) (position_or_len slash (drop start uri)) 0) 47 (passes_at_first slash (drop start uri) 0 first) in
-    IsCharBoundary-before_ascii uri place here (omega arith)
+    IsCharBoundary-before_ascii uri offset here (omega arith)
 
 -- a URI in the folder below
 module _ (folder below uri : List ℕ) (inside : is_under folder uri ≡ true) (is : folder_below folder uri ≡ Some below) where
   slashed : has_slash (path_in folder uri) ≡ true
-  slashed = told (has_slash (path_in folder uri)) refl
+  slashed = by_case (has_slash (path_in folder uri)) refl
     where
-      told : (b : Bool) → has_slash (path_in folder uri) ≡ b → b ≡ true
-      told true e = refl
-      told false e = let none : Some below ≡ None = sym is ∙ sym (direct_none folder uri (length (front_of folder)) refl e) in cc
+      by_case : (b : Bool) → has_slash (path_in folder uri) ≡ b → b ≡ true
+      by_case true e = refl
+      by_case false e = let none : Some below ≡ None = sym is ∙ sym (direct_none folder uri (length (front_of folder)) refl e) in cc
 
   named : below ≡ front_of folder ++ before_first slash (path_in folder uri)
   named =

@@ -21,21 +21,21 @@ path_in folder uri = drop (length (front_of folder)) uri
 abbrev pub has_slash : List ℕ → Bool
 has_slash text = list_any (λ b. b == 47) text
 
--- a place is where the path of a URI from a folder on begins that it lies under
+-- an offset is where the path of a URI from a folder on begins that it lies under
 abbrev pub IsPathStart : List ℕ → List ℕ → ℕ → Type 0
 IsPathStart folder uri start = (is_under folder uri ≡ true) × (start ≡ length (front_of folder)) × (start ≤ length uri)
 
--- a place is that of the first slash of a text
+-- an offset is that of the first slash of a text
 abbrev pub IsFirstSlash : List ℕ → ℕ → Type 0
-IsFirstSlash text place =
-    (has_slash text ≡ true) × (place ≡ position_or_len (λ b. b == 47) text) × (place < length text)
+IsFirstSlash text offset =
+    (has_slash text ≡ true) × (offset ≡ position_or_len (λ b. b == 47) text) × (offset < length text)
 
--- a place of a text is that of its first slash from another one on
+-- an offset of a text is that of its first slash from another one on
 abbrev pub IsFirstSlashFrom : ℕ → List ℕ → ℕ → Type 0
-IsFirstSlashFrom start text place =
+IsFirstSlashFrom start text offset =
     (has_slash (drop start text) ≡ true)
-    × (place ≡ start + position_or_len (λ b. b == 47) (drop start text))
-    × (place < length text)
+    × (offset ≡ start + position_or_len (λ b. b == 47) (drop start text))
+    × (offset < length text)
 
 -- whether a URI lies right in a folder, in none of the folders below
 abbrev pub is_direct : List ℕ → List ℕ → Bool

@@ -23,10 +23,10 @@ front_of (b ∷ bs) = (b ∷ bs) ++ 47 ∷ []
 abbrev pub is_under : List ℕ → List ℕ → Bool
 is_under folder uri = starts_with nat_eq uri (front_of folder)
 
--- whether the wanted text is somewhere in a text
+-- whether a value is somewhere in a text
 abbrev pub includes : List ℕ → List ℕ → Bool
-includes wanted [] = starts_with nat_eq [] wanted
-includes wanted (b ∷ bs) = starts_with nat_eq (b ∷ bs) wanted || includes wanted bs
+includes value [] = starts_with nat_eq [] value
+includes value (b ∷ bs) = starts_with nat_eq (b ∷ bs) value || includes value bs
 
 -- whether what is compared passes: of several tags it is enough that one does
 abbrev pub has_it : (List ℕ → Bool) → Field → SongData → Bool
@@ -37,13 +37,13 @@ has_it passes Any song = list_any (λ name. passes (text_of_tag name song.tags))
 has_it passes AnyKnown song = list_any (λ name. passes (text_of_tag name song.tags)) tag_names
 
 abbrev pub compares : Case → Test → List ℕ → Field → SongData → Bool
-compares case Equals wanted field song = has_it (λ text. pointwise nat_eq (folded case text) (folded case wanted)) field song
-compares case Differs wanted field song = not (has_it (λ text. pointwise nat_eq (folded case text) (folded case wanted)) field song)
-compares case Contains wanted field song = has_it (λ text. includes (folded case wanted) (folded case text)) field song
+compares case Equals value field song = has_it (λ text. pointwise nat_eq (folded case text) (folded case value)) field song
+compares case Differs value field song = not (has_it (λ text. pointwise nat_eq (folded case text) (folded case value)) field song)
+compares case Contains value field song = has_it (λ text. includes (folded case value) (folded case text)) field song
 
 -- whether a song meets an expression
 unfoldable pub meets : Case → Expression → SongData → Bool
-meets case (Compare field test wanted) song = compares case test wanted field song
+meets case (Compare field test value) song = compares case test value field song
 meets case (Under folder) song = is_under folder song.uri
 meets case (Negation e) song = not (meets case e song)
 meets case (Both e f) song = meets case e song && meets case f song

@@ -98,23 +98,23 @@ fn path_start(uri: &str, folder: &str) -> Option<usize>
     }
 }
 
-/// The place of the first slash from a place on.
+/// The offset of the first slash from an offset on.
 fn slash_from(uri: &str, start: usize) -> Option<usize>
     requires { start ≤ length uri.now }
     ensures { MatchOption result (has_slash (drop start uri.now) ≡ false) (IsFirstSlashFrom start uri.now) }
 {
     let bytes = uri.as_bytes();
-    let place = slash_in(&bytes[start..])?;
-    Some(start + place)
+    let offset = slash_in(&bytes[start..])?;
+    Some(start + offset)
 }
 
-/// The place of the first slash.
+/// The offset of the first slash.
 fn slash_in(path: &[u8]) -> Option<usize>
     ensures { MatchOption result (has_slash path.now ≡ false) (IsFirstSlash path.now) }
 {
-    for (place, b) in path.iter().enumerate() {
+    for (offset, b) in path.iter().enumerate() {
         if *b == b'/' {
-            return Some(place);
+            return Some(offset);
         }
     }
     None

@@ -35,10 +35,10 @@ fn are_gained(count: usize, volume: u8, before: [i16; 2], after: [i16; 2]) -> bo
 fn stay_in_place(count: usize) -> bool {
     let mut frames = [[0i16; 2]; 1_024];
     let mut halves = [[0i16; 2]; 1_024];
-    for place in 0..1_024usize {
-        let half = place as i16;
-        frames[place] = [half * 2, half * -2];
-        halves[place] = [half, half * -1];
+    for offset in 0..1_024usize {
+        let half = offset as i16;
+        frames[offset] = [half * 2, half * -2];
+        halves[offset] = [half, half * -1];
     }
     let count = count.min(1_024);
     gain(&mut frames[..count], 50);
@@ -57,8 +57,8 @@ fn are_faded(count: usize) -> bool {
         691_198_976,
         691_200_000,
     );
-    let wanted = [[32_766i16, -32_767]; 1_024];
-    &frames[..count] == &wanted[..count] && &frames[count..] == &[FULL; 1_024][count..]
+    let expected = [[32_766i16, -32_767]; 1_024];
+    &frames[..count] == &expected[..count] && &frames[count..] == &[FULL; 1_024][count..]
 }
 
 #[test]
@@ -144,8 +144,8 @@ fn are_read(count: usize, depth: Depth, channels: Channels, sample: i16) -> bool
     if read.len() * (depth.width() * channels.count()) <= bytes.len() {
         from_bytes(&bytes, depth, channels, read);
     }
-    let wanted = [[sample; 2]; 1_024];
-    &frames[..count] == &wanted[..count] && &frames[count..] == &[[9i16; 2]; 1_024][count..]
+    let expected = [[sample; 2]; 1_024];
+    &frames[..count] == &expected[..count] && &frames[count..] == &[[9i16; 2]; 1_024][count..]
 }
 
 // Whether the bytes of so many frames of a block, whose bytes are all 1, are written, and the others stay.
@@ -162,12 +162,12 @@ fn blocks_of_each_length(rt: HostRuntime) {
     for step in 0..70usize {
         let count = length_at(step);
         for (volume, before, after) in GAINS.iter() {
-            let wanted = are_gained(count, *volume, *before, *after);
-            assert!(rt; wanted, "step {step} at {volume}");
+            let as_expected = are_gained(count, *volume, *before, *after);
+            assert!(rt; as_expected, "step {step} at {volume}");
         }
         for (depth, channels, sample) in LAYOUTS.iter() {
-            let wanted = are_read(count, *depth, *channels, *sample);
-            assert!(rt; wanted, "step {step}, {depth:?}, {channels:?}");
+            let as_expected = are_read(count, *depth, *channels, *sample);
+            assert!(rt; as_expected, "step {step}, {depth:?}, {channels:?}");
         }
         assert!(rt; stay_in_place(count), "step {step} in place");
         assert!(rt; are_faded(count), "step {step} faded");
@@ -186,7 +186,7 @@ fn blocks_and_their_bytes(rt: HostRuntime) {
     let mut faded = [[7, 5]; 4];
     let fading = Fading {
         others: &[[-5, 99]; 4],
-        place: 0,
+        offset: 0,
         len: 4,
     };
     mix(&mut faded, Some(fading), 50);
@@ -196,7 +196,7 @@ fn blocks_and_their_bytes(rt: HostRuntime) {
     let mut block = [[0i16; 2]; 1_024];
     let fading = Fading {
         others: &[[32_767, -32_768]; 1_024],
-        place: 691_198_976,
+        offset: 691_198_976,
         len: 691_200_000,
     };
     mix(&mut block, Some(fading), 50);

@@ -8,7 +8,7 @@ use std::test::Fail;
 use std::thread::Threads;
 use std::time::{Clock, Duration};
 use std::{io, thread};
-use test_texts::{Told, wants};
+use test_texts::{Recorder, wants};
 
 /// A path that takes all that it is given.
 #[derive(Drop)]
@@ -47,38 +47,38 @@ fn has_taken<R: Wait + Clock>(rt: &R, tally: &SharedTally, count: u64) -> bool {
 }
 
 /// Adds how many bytes wait, and whether these are too many for an output to go on.
-fn add_progress(rt: &impl Wait, tally: &SharedTally, told: &mut Told) {
+fn add_progress(rt: &impl Wait, tally: &SharedTally, recorder: &mut Recorder) {
     let progress = tally.progress(rt);
     let (waiting, held_up) = (progress.waiting, progress.is_held_up());
-    told.add(format_args!("{waiting} wait, held up: {held_up}\n"));
+    recorder.add(format_args!("{waiting} wait, held up: {held_up}\n"));
 }
 
-fn told<R: Threads + Wait + Clock + Copy + Drop + Send + 'static>(
+fn observed<R: Threads + Wait + Clock + Copy + Drop + Send + 'static>(
     rt: R,
     alloc: Global,
 ) -> Result<String, AllocError> {
     let tally = shared_tally_of(alloc)?;
     let (mut writer, arguments) = patient_output(rt, alloc, &tally)?;
-    let mut told = Told::new(alloc);
+    let mut observed = Recorder::new(alloc);
     // Nobody writes to the path yet.
     let _written = writer.write(&[0; 8_192]);
-    add_progress(&rt, &tally, &mut told);
+    add_progress(&rt, &tally, &mut observed);
     let _written = writer.write(&[0; 4]);
-    add_progress(&rt, &tally, &mut told);
+    add_progress(&rt, &tally, &mut observed);
     let Ok(path_writer) = thread::spawn(&rt, move || copy_to_path(&rt, arguments, Open)) else {
         return Err(AllocError);
     };
     let at_once = has_taken(&rt, &tally, 8_196);
-    told.add(format_args!("taken: {at_once}\n"));
+    observed.add(format_args!("taken: {at_once}\n"));
     // The thread waits for bytes by now.
     thread::sleep(&rt, Duration::from_millis(200));
     let _written = writer.write(&[0; 100]);
     let later = has_taken(&rt, &tally, 8_296);
-    told.add(format_args!("taken later: {later}\n"));
+    observed.add(format_args!("taken later: {later}\n"));
     let left = tally.finish(&rt, Duration::from_millis(10_000));
-    told.add(format_args!("left: {left}\n"));
+    observed.add(format_args!("left: {left}\n"));
     let _end = path_writer.join(&rt);
-    told.into_text()
+    observed.into_text()
 }
 
 const TELLS: &str = "8192 wait, held up: false
@@ -90,5 +90,5 @@ left: 0
 
 #[test]
 fn paths_are_written_to(rt: HostRuntime) -> Result<(), Fail> {
-    wants(told(rt, rt.alloc()), TELLS)
+    wants(observed(rt, rt.alloc()), TELLS)
 }

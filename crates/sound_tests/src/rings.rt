@@ -8,7 +8,7 @@ use std::alloc::{AllocError, Global};
 use std::io;
 use std::io::{ErrorKind, Write};
 use std::test::Fail;
-use test_texts::{Told, wants, wants_made};
+use test_texts::{Recorder, wants, wants_made};
 
 const FIRST: Cut = Cut {
     moves: 0,
@@ -77,16 +77,16 @@ fn pop(drainer: &mut Drainer) -> usize {
 }
 
 // Adds the fates of a hand, or those at a fault, with the bytes of a torn frame.
-fn tell_fates(told: &mut Told, found: Result<Fates, WriteFault>) {
+fn tell_fates(recorder: &mut Recorder, found: Result<Fates, WriteFault>) {
     match found {
         Ok(fates) => {
             let (written, discarded) = (fates.written, fates.discarded);
-            told.add(format_args!("{written} written, {discarded} discarded\n"));
+            recorder.add(format_args!("{written} written, {discarded} discarded\n"));
         }
         Err(fault) => {
             let (written, discarded) = (fault.fates.written, fault.fates.discarded);
             let torn = fault.torn;
-            told.add(format_args!(
+            recorder.add(format_args!(
                 "fault: {written} written, {discarded} discarded, {torn} torn\n"
             ));
         }
@@ -94,32 +94,32 @@ fn tell_fates(told: &mut Told, found: Result<Fates, WriteFault>) {
 }
 
 // Adds what a call answers.
-fn tell_step(told: &mut Told, ends: &mut (Feeder, Drainer), out: &mut FailAt, step: &Step) {
+fn tell_step(recorder: &mut Recorder, ends: &mut (Feeder, Drainer), out: &mut FailAt, step: &Step) {
     match *step {
         Step::Take(cut, frames) => offer(&mut ends.0, frames, cut),
-        Step::Push => told.add(format_args!("{} pushed\n", push(&mut ends.0))),
-        Step::Pop => told.add(format_args!("{} popped\n", pop(&mut ends.1))),
-        Step::Play(cut) => tell_fates(told, written_out(&mut ends.1, out, cut, true, false)),
-        Step::Pause => tell_fates(told, written_out(&mut ends.1, out, FIRST, false, true)),
-        Step::Off => tell_fates(told, written_out(&mut ends.1, out, FIRST, false, false)),
+        Step::Push => recorder.add(format_args!("{} pushed\n", push(&mut ends.0))),
+        Step::Pop => recorder.add(format_args!("{} popped\n", pop(&mut ends.1))),
+        Step::Play(cut) => tell_fates(recorder, written_out(&mut ends.1, out, cut, true, false)),
+        Step::Pause => tell_fates(recorder, written_out(&mut ends.1, out, FIRST, false, true)),
+        Step::Off => tell_fates(recorder, written_out(&mut ends.1, out, FIRST, false, false)),
     }
 }
 
 // Adds all bytes that were written, and the totals.
-fn tell_totals(told: &mut Told, drainer: &Drainer, out: &FailAt) {
+fn tell_totals(recorder: &mut Recorder, drainer: &Drainer, out: &FailAt) {
     let Totals {
         written,
         discarded,
         torn,
     } = drainer.totals();
-    told.add(format_args!(
+    recorder.add(format_args!(
         "{:?}: {written} written, {discarded} discarded, {torn} bytes torn\n",
         out.bytes()
     ));
 }
 
 // What all steps answer, with a ring and a hand of these sizes, and what was written in the end.
-fn told_of(
+fn observed_of(
     alloc: Global,
     sizes: (usize, usize),
     point: FailurePoint,
@@ -127,12 +127,12 @@ fn told_of(
 ) -> Result<String, AllocError> {
     let mut out = FailAt::new(Vec::new(alloc), point);
     let mut ends = ring(alloc, sizes.0, sizes.1)?;
-    let mut told = Told::new(alloc);
+    let mut recorder = Recorder::new(alloc);
     for step in steps {
-        tell_step(&mut told, &mut ends, &mut out, step);
+        tell_step(&mut recorder, &mut ends, &mut out, step);
     }
-    tell_totals(&mut told, &ends.1, &out);
-    told.into_text()
+    tell_totals(&mut recorder, &ends.1, &out);
+    recorder.into_text()
 }
 
 const OLD_CUT: &[Step] = &[
@@ -245,10 +245,10 @@ const THREE_FRAMES: &[Step] = &[
 ];
 
 // What is wanted where a writer of three frames fails after so many bytes.
-fn failed_after_wanted(alloc: Global, place: u64) -> Result<String, AllocError> {
+fn failed_after_expected(alloc: Global, offset: u64) -> Result<String, AllocError> {
     let all = [1u8, 0, 2, 0, 3, 0, 4, 0, 5, 0, 6, 0];
-    let bytes = all.get(..place as usize).unwrap_or(&[]);
-    let (written, torn) = (place / 4, place % 4);
+    let bytes = all.get(..offset as usize).unwrap_or(&[]);
+    let (written, torn) = (offset / 4, offset % 4);
     let discarded = 3u64.saturating_sub(written);
     format!(in alloc;
         "3 pushed\n3 popped\nfault: {written} written, {discarded} discarded, {torn} torn\n\
@@ -281,7 +281,7 @@ impl Write for Once {
 }
 
 // What a hand of one frame gives with a writer that answers its first call so.
-fn first_call_told(alloc: Global, answer: Option<ErrorKind>) -> Result<String, AllocError> {
+fn first_call_observed(alloc: Global, answer: Option<ErrorKind>) -> Result<String, AllocError> {
     let mut out = Counting::new(Once {
         answer,
         first: true,
@@ -290,12 +290,12 @@ fn first_call_told(alloc: Global, answer: Option<ErrorKind>) -> Result<String, A
     offer(&mut feeder, &[[1, 2]], FIRST);
     let _pushed = push(&mut feeder);
     let _popped = pop(&mut drainer);
-    let mut told = Told::new(alloc);
+    let mut recorder = Recorder::new(alloc);
     tell_fates(
-        &mut told,
+        &mut recorder,
         drainer.write_out(&mut out, live(FIRST, true, false)),
     );
-    told.into_text()
+    recorder.into_text()
 }
 
 const FIRST_ANSWERS: [Option<ErrorKind>; 3] = [
@@ -307,15 +307,15 @@ const FIRST_ANSWERS: [Option<ErrorKind>; 3] = [
 // A writer that fails after each byte; and interrupted, blocked and empty writes, which are faults.
 #[test]
 fn writers_that_fail(rt: HostRuntime) -> Result<(), Fail> {
-    for place in 0..12 {
+    for offset in 0..12 {
         wants_made(
-            told_of(rt.alloc(), (3, 3), FailurePoint::Byte(place), THREE_FRAMES),
-            failed_after_wanted(rt.alloc(), place),
+            observed_of(rt.alloc(), (3, 3), FailurePoint::Byte(offset), THREE_FRAMES),
+            failed_after_expected(rt.alloc(), offset),
         )?;
     }
     for answer in FIRST_ANSWERS.iter() {
         wants(
-            first_call_told(rt.alloc(), *answer),
+            first_call_observed(rt.alloc(), *answer),
             "fault: 0 written, 1 discarded, 0 torn\n",
         )?;
     }
@@ -376,11 +376,11 @@ fn take_turn(ends: &mut (Feeder, Drainer), out: &mut FailAt, cut: Cut, which: u6
 
 // Whether one order of five calls, and then enough turns that all frames go through, writes these bytes and
 // discards so many frames.
-fn is_order_as_wanted(
+fn is_order_as_expected(
     alloc: Global,
     cut: Cut,
     order: u64,
-    wanted: &[u8],
+    expected: &[u8],
     skipped: u64,
 ) -> Result<bool, AllocError> {
     let mut out = FailAt::new(Vec::new(alloc), FailurePoint::Never);
@@ -396,7 +396,7 @@ fn is_order_as_wanted(
         blocks = feed(&mut ends.0, blocks);
         take_turn(&mut ends, &mut out, cut, [0, 1, 3][turn % 3]);
     }
-    Ok(out.bytes() == wanted && ends.1.totals().discarded == skipped)
+    Ok(out.bytes() == expected && ends.1.totals().discarded == skipped)
 }
 
 const ALL: [u8; 20] = [1, 0, 2, 0, 3, 0, 4, 0, 5, 0, 6, 0, 7, 0, 8, 0, 9, 0, 10, 0];
@@ -405,9 +405,9 @@ const ALL: [u8; 20] = [1, 0, 2, 0, 3, 0, 4, 0, 5, 0, 6, 0, 7, 0, 8, 0, 9, 0, 10,
 #[test]
 fn every_order_of_calls(rt: HostRuntime) {
     for order in 0..1024u64 {
-        let first = is_order_as_wanted(rt.alloc(), FIRST, order, &ALL, 0);
+        let first = is_order_as_expected(rt.alloc(), FIRST, order, &ALL, 0);
         assert!(rt; first == Ok(true), "order {order}");
-        let second = is_order_as_wanted(rt.alloc(), SECOND, order, &ALL[12..], 3);
+        let second = is_order_as_expected(rt.alloc(), SECOND, order, &ALL[12..], 3);
         assert!(rt; second == Ok(true), "order {order} of the second cut");
     }
 }
@@ -472,7 +472,7 @@ const GREATEST_RING: &str = "64 blocks and 0 frames pushed; 65 hands written and
 #[test]
 fn worked_rings(rt: HostRuntime) -> Result<(), Fail> {
     for (sizes, point, steps, tells) in ROWS.iter() {
-        wants(told_of(rt.alloc(), *sizes, *point, steps), tells)?;
+        wants(observed_of(rt.alloc(), *sizes, *point, steps), tells)?;
     }
     wants(both_ends(rt.alloc()), BOTH_ENDS)?;
     wants(greatest_ring(rt.alloc()), GREATEST_RING)

@@ -10,7 +10,7 @@ use std::alloc::{AllocError, Global};
 use std::marker::Brand;
 use std::sync::ledger::{Blank, Ledger};
 use std::test::Fail;
-use test_texts::{Told, wants};
+use test_texts::{Recorder, wants};
 
 // A hand that is filled and written out, and perhaps reported.
 #[derive(Clone, Copy)]
@@ -99,28 +99,31 @@ fn settled(
 }
 
 // Adds what is settled: the frames decoded, written, discarded and left, and the bytes of a torn one.
-fn tell_answer(told: &mut Told, answer: Result<Answer, AllocError>) {
+fn tell_answer(recorder: &mut Recorder, answer: Result<Answer, AllocError>) {
     match answer {
         Ok(Ok(found)) => {
             let (decoded, written, discarded) = (found.decoded, found.written, found.discarded);
             let (left, torn) = (found.left, found.torn);
-            told.add(format_args!(
+            recorder.add(format_args!(
                 "{decoded} decoded: {written} written, {discarded} discarded, {left} left; {torn} bytes torn\n"
             ));
         }
-        Ok(Err(SettleFault::Mismatch)) => told.add("mismatch\n"),
-        Ok(Err(_)) => told.add("another fault\n"),
-        Err(_) => told.fail(),
+        Ok(Err(SettleFault::Mismatch)) => recorder.add("mismatch\n"),
+        Ok(Err(_)) => recorder.add("another fault\n"),
+        Err(_) => recorder.fail(),
     }
 }
 
 // The same for each of several books: the frames decoded, written and discarded.
-fn told_of(alloc: Global, run: Run<'_>, books: &[[u64; 3]]) -> Result<String, AllocError> {
-    let mut told = Told::new(alloc);
+fn observed_of(alloc: Global, run: Run<'_>, books: &[[u64; 3]]) -> Result<String, AllocError> {
+    let mut recorder = Recorder::new(alloc);
     for book in books {
-        tell_answer(&mut told, settled(alloc, run, book[0], book[1], book[2]));
+        tell_answer(
+            &mut recorder,
+            settled(alloc, run, book[0], book[1], book[2]),
+        );
     }
-    told.into_text()
+    recorder.into_text()
 }
 
 const PLAYED: Turn = Turn {
@@ -240,7 +243,7 @@ fn full(alloc: Global) -> Result<(Result<(), AtLimit>, u64), AllocError> {
 #[test]
 fn settled_and_full_books(rt: HostRuntime) -> Result<(), Fail> {
     for (run, books, tells) in ROWS.iter() {
-        wants(told_of(rt.alloc(), *run, books), tells)?;
+        wants(observed_of(rt.alloc(), *run, books), tells)?;
     }
     assert_eq!(rt; full(rt.alloc())?, (Err(AtLimit), 0x7fff_ffff_ffff_ffff));
     Ok(())

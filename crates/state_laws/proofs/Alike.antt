@@ -31,7 +31,7 @@ pub record HasBack (library : Library) (p : Part) (q : KeptPartition) : Type 0 w
 
 -- the same, but for channels
 pub record Alike (p q : Part) : Type 0 where
-  pub place : q.place ≡ p.place
+  pub index : q.index ≡ p.index
   pub name : q.name ≡ p.name
   pub queue : q.queue ≡ p.queue
   pub player : q.player ≡ p.player
@@ -39,7 +39,7 @@ pub record Alike (p q : Part) : Type 0 where
   pub outputs : q.outputs ≡ p.outputs
 
 same : (p : Part) → Alike p p
-same p = record { place = refl; name = refl; queue = refl; player = refl; volume = refl; outputs = refl }
+same p = record { index = refl; name = refl; queue = refl; player = refl; volume = refl; outputs = refl }
 
 all_same : (ps : List Part) → Pairwise Alike ps ps
 all_same [] = tt
@@ -47,13 +47,13 @@ all_same (p ∷ ps) = (same p, all_same ps)
 
 -- a client leaves a partition
 left : (rate number : ℕ) (p : Part) → Alike p (part_after rate p (ByCommand (Leaves number)))
-left rate number p = record { place = refl; name = refl; queue = refl; player = refl; volume = refl; outputs = refl }
+left rate number p = record { index = refl; name = refl; queue = refl; player = refl; volume = refl; outputs = refl }
 
-pub left_all : (rate place number : ℕ) (ps : List Part) → Pairwise Alike ps (changed rate place (ByCommand (Leaves number)) ps)
-left_all rate place number [] = tt
-left_all rate place number (p ∷ ps) =
-    elim (p.place == place) as (λ b. Pairwise Alike (p ∷ ps) (if b then part_after rate p (ByCommand (Leaves number)) ∷ ps else p ∷ changed rate place (ByCommand (Leaves number)) ps))
-    [ true ↦ (left rate number p, all_same ps) | false ↦ (same p, left_all rate place number ps) ]
+pub left_all : (rate index number : ℕ) (ps : List Part) → Pairwise Alike ps (changed rate index (ByCommand (Leaves number)) ps)
+left_all rate index number [] = tt
+left_all rate index number (p ∷ ps) =
+    elim (p.index == index) as (λ b. Pairwise Alike (p ∷ ps) (if b then part_after rate p (ByCommand (Leaves number)) ∷ ps else p ∷ changed rate index (ByCommand (Leaves number)) ps))
+    [ true ↦ (left rate number p, all_same ps) | false ↦ (same p, left_all rate index number ps) ]
 
 -- what such partitions have
 has_alike : (rate : ℕ) (p q : Part) (player : Player) → Alike p q → Has rate p player → Has rate q player
@@ -62,7 +62,7 @@ has_alike rate p q player a h = record {
   outputs = subst (λ (o : OutputsData). AreSwitched o player.outputs) (sym a.outputs) h.outputs;
   queue = h.queue ∙ ap (λ (x : QueueState). map kept_entry (queue_of x)) (sym a.queue);
   song = current_same rate p q player.song (ap queue_of a.queue) (ap (λ (x : PlayerState). x.current) a.player)
-      (ap (λ (x : PlayerState). x.playback) a.player) (ap (λ (x : PlayerState). x.place) a.player) h.song;
+      (ap (λ (x : PlayerState). x.playback) a.player) (ap (λ (x : PlayerState). x.offset) a.player) h.song;
 }
 
 pub have_alike : (library : Library) (ps qs : List Part) (kept : List KeptPartition) → Pairwise Alike ps qs → Pairwise (HasBack library) ps kept → Pairwise (HasBack library) qs kept
@@ -92,7 +92,7 @@ pub numbered_alike : (n : ℕ) (ps qs : List Part) → Pairwise Alike ps qs → 
 numbered_alike n [] [] a are = tt
 numbered_alike n [] (q ∷ qs) a are = absurd a
 numbered_alike n (p ∷ ps) [] a are = absurd a
-numbered_alike n (p ∷ ps) (q ∷ qs) a are = (a.0.place ∙ are.0, numbered_alike (suc n) ps qs a.1 are.1)
+numbered_alike n (p ∷ ps) (q ∷ qs) a are = (a.0.index ∙ are.0, numbered_alike (suc n) ps qs a.1 are.1)
 
 pub names_alike : (ps qs : List Part) → Pairwise Alike ps qs → names_of qs ≡ names_of ps
 names_alike [] [] a = refl
@@ -118,7 +118,7 @@ fit_kept names home p q k h = record {
 -- ---- after an output was moved to a partition that is none of these
 
 abbrev pub IsElsewhere : ℕ → Part → Type 0
-IsElsewhere to p = (p.place == to) ≡ false
+IsElsewhere to p = (p.index == to) ≡ false
 
 pub elsewhere : (to : ℕ) (ps : List Part) → part_at to ps ≡ None → Each (IsElsewhere to) ps
 elsewhere to [] none = tt
@@ -146,5 +146,5 @@ have_moved library m to c (p ∷ ps) (k ∷ ks) away h = (
   have_moved library m to c ps ks away.1 h.1,
 )
 
-pub none_moved : (place m to : ℕ) (c : Option Carried) (ps : List Part) → part_at place ps ≡ None → part_at place (map (moved_output m to c) ps) ≡ None
-none_moved place m to c ps none = at_mapped place (moved_output m to c) (moved_keeps m to c) ps ∙ ap (option_map (moved_output m to c)) none
+pub none_moved : (index m to : ℕ) (c : Option Carried) (ps : List Part) → part_at index ps ≡ None → part_at index (map (moved_output m to c) ps) ≡ None
+none_moved index m to c ps none = at_mapped index (moved_output m to c) (moved_keeps m to c) ps ∙ ap (option_map (moved_output m to c)) none

@@ -11,7 +11,7 @@ use Rattle.partition.specs.Step.{next_image}
 use Rattle.player_events.specs.declared.event.Event.{Event}
 use Rattle.player_state.specs.Effects.{part_after}
 use Rattle.player_state.specs.declared.effect.CommandEffect.{CommandEffect}
-use Rattle.player_state.specs.declared.effect.CommandEffect.TheVariants.{Edits, Pauses, PlaysPlace, Rests, Seeks, SetsConsume, SetsCrossfade, SetsRandom, SetsRepeat, SetsSingle, SetsVolume, Stops, Switches}
+use Rattle.player_state.specs.declared.effect.CommandEffect.TheVariants.{Edits, Pauses, PlaysPosition, Rests, Seeks, SetsConsume, SetsCrossfade, SetsRandom, SetsRepeat, SetsSingle, SetsVolume, Stops, Switches}
 use Rattle.player_state.specs.declared.effect.Effect.{Effect}
 use Rattle.player_state.specs.declared.effect.Effect.TheVariants.{ByCommand}
 use Rattle.player_state.specs.declared.state.Client.{Client}
@@ -25,7 +25,7 @@ use Rattle.state_laws.proofs.Limits.{IsSmall, raises}
 
 -- a partition keeps its number, its name, the outputs that stand in it, and its limit of cuts
 pub record Keeps (p q : Part) : Type 0 where
-  pub place : q.place ≡ p.place
+  pub index : q.index ≡ p.index
   pub name : q.name ≡ p.name
   pub names : q.outputs.names ≡ p.outputs.names
   pub here : q.outputs.here ≡ p.outputs.here
@@ -34,11 +34,11 @@ pub record Keeps (p q : Part) : Type 0 where
   pub max_cut : q.player.max_cut ≡ p.player.max_cut
 
 keeps_all : (p : Part) → Keeps p p
-keeps_all p = record { place = refl; name = refl; names = refl; here = refl; failed = refl; moves = refl; max_cut = refl }
+keeps_all p = record { index = refl; name = refl; names = refl; here = refl; failed = refl; moves = refl; max_cut = refl }
 
 keeps_on : (p q r : Part) → Keeps p q → Keeps q r → Keeps p r
 keeps_on p q r h k = record {
-  place = k.place ∙ h.place;
+  index = k.index ∙ h.index;
   name = k.name ∙ h.name;
   names = k.names ∙ h.names;
   here = k.here ∙ h.here;
@@ -47,12 +47,12 @@ keeps_on p q r h k = record {
   max_cut = k.max_cut ∙ h.max_cut;
 }
 
-kept_by : (rate : ℕ) (p : Part) (effect : CommandEffect) → IsSmall effect → (part_after rate p (ByCommand effect)).place ≡ p.place
+kept_by : (rate : ℕ) (p : Part) (effect : CommandEffect) → IsSmall effect → (part_after rate p (ByCommand effect)).index ≡ p.index
     → (part_after rate p (ByCommand effect)).name ≡ p.name → (part_after rate p (ByCommand effect)).outputs.names ≡ p.outputs.names
     → (part_after rate p (ByCommand effect)).outputs.here ≡ p.outputs.here → (part_after rate p (ByCommand effect)).outputs.failed ≡ p.outputs.failed
     → (part_after rate p (ByCommand effect)).outputs.moves ≡ p.outputs.moves → Keeps p (part_after rate p (ByCommand effect))
-kept_by rate p effect s place name names here failed moves =
-    record { place = place; name = name; names = names; here = here; failed = failed; moves = moves; max_cut = (raises rate p effect s).max_cut }
+kept_by rate p effect s index name names here failed moves =
+    record { index = index; name = name; names = names; here = here; failed = failed; moves = moves; max_cut = (raises rate p effect s).max_cut }
 
 small_keeps : (rate : ℕ) (p : Part) (effect : CommandEffect) → IsSmall effect → Keeps p (part_after rate p (ByCommand effect))
 small_keeps rate p Rests s = kept_by rate p Rests s refl refl refl refl refl refl
@@ -64,44 +64,44 @@ small_keeps rate p (SetsRandom on) s = kept_by rate p (SetsRandom on) s refl ref
 small_keeps rate p (SetsSingle mode) s = kept_by rate p (SetsSingle mode) s refl refl refl refl refl refl
 small_keeps rate p (SetsConsume mode) s = kept_by rate p (SetsConsume mode) s refl refl refl refl refl refl
 small_keeps rate p (SetsCrossfade seconds) s = kept_by rate p (SetsCrossfade seconds) s refl refl refl refl refl refl
-small_keeps rate p (PlaysPlace place) s = kept_by rate p (PlaysPlace place) s refl refl refl refl refl refl
+small_keeps rate p (PlaysPosition position) s = kept_by rate p (PlaysPosition position) s refl refl refl refl refl refl
 small_keeps rate p (Pauses on) s = kept_by rate p (Pauses on) s refl refl refl refl refl refl
 small_keeps rate p Stops s = kept_by rate p Stops s refl refl refl refl refl refl
-small_keeps rate p (Seeks place frame) s = kept_by rate p (Seeks place frame) s refl refl refl refl refl refl
+small_keeps rate p (Seeks position frame) s = kept_by rate p (Seeks position frame) s refl refl refl refl refl refl
 small_keeps rate p (Switches output on) s = kept_by rate p (Switches output on) s refl refl refl refl refl refl
 small_keeps rate p _ s = absurd s
 
 -- the first partition of a list is another one, where none has this number
-pub not_first : (place : ℕ) (p : Part) (ps : List Part) → part_at place (p ∷ ps) ≡ None → ((p.place == place) ≡ false) × (part_at place ps ≡ None)
-not_first place p ps none =
-    let cases : (b : Bool) → (p.place == place) ≡ b → (if b then Some p else part_at place ps) ≡ None → ((p.place == place) ≡ false) × (part_at place ps ≡ None) =
-    λ b. elim b as (λ b. (p.place == place) ≡ b → (if b then Some p else part_at place ps) ≡ None → ((p.place == place) ≡ false) × (part_at place ps ≡ None))
+pub not_first : (index : ℕ) (p : Part) (ps : List Part) → part_at index (p ∷ ps) ≡ None → ((p.index == index) ≡ false) × (part_at index ps ≡ None)
+not_first index p ps none =
+    let cases : (b : Bool) → (p.index == index) ≡ b → (if b then Some p else part_at index ps) ≡ None → ((p.index == index) ≡ false) × (part_at index ps ≡ None) =
+    λ b. elim b as (λ b. (p.index == index) ≡ b → (if b then Some p else part_at index ps) ≡ None → ((p.index == index) ≡ false) × (part_at index ps ≡ None))
     [ true ↦ λ e h. cc | false ↦ λ e h. (e, h) ] in
-    cases (p.place == place) refl none
+    cases (p.index == index) refl none
 
 -- a partition behind others, none of which has its number
-pub changed_behind : (rate place : ℕ) (effect : Effect) (front : List Part) (own : Part) (back : List Part) → part_at place front ≡ None → own.place ≡ place
-    → changed rate place effect (front ++ own ∷ back) ≡ front ++ part_after rate own effect ∷ back
-changed_behind rate place effect [] own back none is =
-    ap (λ (b : Bool). if b then part_after rate own effect ∷ back else own ∷ changed rate place effect back) (eq-eqb own.place place is)
-changed_behind rate place effect (p ∷ front) own back none is =
-    let first = not_first place p front none in
-    ap (λ (b : Bool). if b then part_after rate p effect ∷ (front ++ own ∷ back) else p ∷ changed rate place effect (front ++ own ∷ back)) first.0
-    ∙ ap (λ (ps : List Part). p ∷ ps) (changed_behind rate place effect front own back first.1 is)
+pub changed_behind : (rate index : ℕ) (effect : Effect) (front : List Part) (own : Part) (back : List Part) → part_at index front ≡ None → own.index ≡ index
+    → changed rate index effect (front ++ own ∷ back) ≡ front ++ part_after rate own effect ∷ back
+changed_behind rate index effect [] own back none is =
+    ap (λ (b : Bool). if b then part_after rate own effect ∷ back else own ∷ changed rate index effect back) (eq-eqb own.index index is)
+changed_behind rate index effect (p ∷ front) own back none is =
+    let first = not_first index p front none in
+    ap (λ (b : Bool). if b then part_after rate p effect ∷ (front ++ own ∷ back) else p ∷ changed rate index effect (front ++ own ∷ back)) first.0
+    ∙ ap (λ (ps : List Part). p ∷ ps) (changed_behind rate index effect front own back first.1 is)
 
-pub found_behind : (place : ℕ) (front : List Part) (own : Part) (back : List Part) → part_at place front ≡ None → own.place ≡ place
-    → part_at place (front ++ own ∷ back) ≡ Some own
-found_behind place [] own back none is = ap (λ (b : Bool). if b then Some own else part_at place back) (eq-eqb own.place place is)
-found_behind place (p ∷ front) own back none is =
-    let first = not_first place p front none in
-    ap (λ (b : Bool). if b then Some p else part_at place (front ++ own ∷ back)) first.0 ∙ found_behind place front own back first.1 is
+pub found_behind : (index : ℕ) (front : List Part) (own : Part) (back : List Part) → part_at index front ≡ None → own.index ≡ index
+    → part_at index (front ++ own ∷ back) ≡ Some own
+found_behind index [] own back none is = ap (λ (b : Bool). if b then Some own else part_at index back) (eq-eqb own.index index is)
+found_behind index (p ∷ front) own back none is =
+    let first = not_first index p front none in
+    ap (λ (b : Bool). if b then Some p else part_at index (front ++ own ∷ back)) first.0 ∙ found_behind index front own back first.1 is
 
 -- a client is in this one of the partitions
 pub record IsIn (number : ℕ) (front : List Part) (own : Part) (back : List Part) (i : Image) : Type 0 where
   pub client : Client
   pub there : client_of number i.clients ≡ Some client
-  pub place : own.place ≡ client.place
-  pub apart : part_at own.place front ≡ None
+  pub index : own.index ≡ client.index
+  pub apart : part_at own.index front ≡ None
   pub parts : i.parts ≡ front ++ own ∷ back
 
 -- lines after which the client is in a partition that keeps what lines of a state leave; the others are as they were
@@ -119,7 +119,7 @@ one_changed : (number : ℕ) (front : List Part) (own : Part) (back : List Part)
 one_changed number front own back i j h c =
     let same : c.before ≡ h.client = one_client c.before h.client (sym c.here ∙ h.there) in
     let rate : ℕ = i.shared.library.rate in
-    let place : c.before.place ≡ own.place = ap (λ (k : Client). k.place) same ∙ sym h.place in
+    let index : c.before.index ≡ own.index = ap (λ (k : Client). k.index) same ∙ sym h.index in
     let other : Part = part_after rate own (ByCommand c.effect) in
     let keeps : Keeps own other = small_keeps rate own c.effect c.small in
     record {
@@ -128,10 +128,10 @@ one_changed number front own back i j h c =
       there = record {
         client = c.after;
         there = c.there;
-        place = keeps.place ∙ sym place ∙ sym c.place;
-        apart = ap (λ (n : ℕ). part_at n front) keeps.place ∙ h.apart;
-        parts = c.parts ∙ ap (λ (n : ℕ). changed rate n (ByCommand c.effect) i.parts) place
-            ∙ ap (changed rate own.place (ByCommand c.effect)) h.parts ∙ changed_behind rate own.place (ByCommand c.effect) front own back h.apart refl;
+        index = keeps.index ∙ sym index ∙ sym c.index;
+        apart = ap (λ (n : ℕ). part_at n front) keeps.index ∙ h.apart;
+        parts = c.parts ∙ ap (λ (n : ℕ). changed rate n (ByCommand c.effect) i.parts) index
+            ∙ ap (changed rate own.index (ByCommand c.effect)) h.parts ∙ changed_behind rate own.index (ByCommand c.effect) front own back h.apart refl;
       };
       openings = c.openings;
     }

@@ -1,6 +1,6 @@
 -- Lines that are told to the player of one thread, one after the other.
 use Rattle.std.proofs.Common.{◌≡◌, ℕ, suc, ◌+◌, ◌≤◌, Bool, true, false, List, [], ◌∷◌, Option, Some, None, is_some, refl, ap, sym, ◌∙◌, subst, arith, if◌then◌else◌}
-use Rattle.command_arguments.specs.declared.forms.Place.TheVariants.{At}
+use Rattle.command_arguments.specs.declared.forms.Position.TheVariants.{At}
 use Rattle.command_arguments.specs.declared.forms.SongMode.{SongMode}
 use Rattle.connected_clients.specs.Clients.{client_of}
 use Rattle.mpd_command.specs.declared.command.Command.{Command}
@@ -83,7 +83,7 @@ module _ (seat number more : ℕ) (i : Image) (player : Player) (client : Client
         there = l.there;
         listens = l.listens;
         part = part_after lib.rate part (ByCommand r.effect);
-        placed = ap (λ (place : ℕ). part_at place (next_image seat i (asking number (Run name it))).parts) l.place ∙ l.placed;
+        placed = ap (λ (index : ℕ). part_at index (next_image seat i (asking number (Run name it))).parts) l.index ∙ l.placed;
         has = is.has;
         room = is.room;
       };
@@ -96,14 +96,14 @@ module _ (seat number more : ℕ) (i : Image) (player : Player) (client : Client
         after = l.own;
         here = here;
         there = l.there;
-        place = l.place;
+        index = l.index;
         effect = r.effect;
         small = is.small;
         parts = l.parts;
       };
     }
 
-  module _ (there : client_of number i.clients ≡ Some client) (listens : client.pending.waiting ≡ None) (placed : part_at client.place i.parts ≡ Some part) where
+  module _ (there : client_of number i.clients ≡ Some client) (listens : client.pending.waiting ≡ None) (placed : part_at client.index i.parts ≡ Some part) where
     module _ (name : Name) where
       abbrev asked : Asked
       asked = asked_by client name Alone

@@ -92,42 +92,42 @@ aligned_moved m at to c name [] are = tt
 aligned_moved m at to c name (p ∷ ps) are = (are.0, aligned_moved m at to c name ps are.1)
 
 -- the first partition of a number, where there are others behind
-pub found_before : (place : ℕ) (ps qs : List Part) (p : Part) → part_at place ps ≡ Some p → part_at place (ps ++ qs) ≡ Some p
-found_before place [] qs p is = cc
-found_before place (q ∷ ps) qs p is =
-    let cases : (b : Bool) → (q.place == place) ≡ b → (if b then Some q else part_at place ps) ≡ Some p → (if b then Some q else part_at place (ps ++ qs)) ≡ Some p =
-    λ b. elim b as (λ b. (q.place == place) ≡ b → (if b then Some q else part_at place ps) ≡ Some p → (if b then Some q else part_at place (ps ++ qs)) ≡ Some p)
-    [ true ↦ λ e h. h | false ↦ λ e h. found_before place ps qs p h ] in
-    cases (q.place == place) refl is
+pub found_before : (index : ℕ) (ps qs : List Part) (p : Part) → part_at index ps ≡ Some p → part_at index (ps ++ qs) ≡ Some p
+found_before index [] qs p is = cc
+found_before index (q ∷ ps) qs p is =
+    let cases : (b : Bool) → (q.index == index) ≡ b → (if b then Some q else part_at index ps) ≡ Some p → (if b then Some q else part_at index (ps ++ qs)) ≡ Some p =
+    λ b. elim b as (λ b. (q.index == index) ≡ b → (if b then Some q else part_at index ps) ≡ Some p → (if b then Some q else part_at index (ps ++ qs)) ≡ Some p)
+    [ true ↦ λ e h. h | false ↦ λ e h. found_before index ps qs p h ] in
+    cases (q.index == index) refl is
 
-pub changed_before : (rate place : ℕ) (effect : Effect) (ps qs : List Part) (p : Part) → part_at place ps ≡ Some p
-    → changed rate place effect (ps ++ qs) ≡ changed rate place effect ps ++ qs
-changed_before rate place effect [] qs p is = cc
-changed_before rate place effect (q ∷ ps) qs p is =
-    let cases : (b : Bool) → (q.place == place) ≡ b → (if b then Some q else part_at place ps) ≡ Some p
-    → (if b then part_after rate q effect ∷ (ps ++ qs) else q ∷ changed rate place effect (ps ++ qs))
-    ≡ (if b then part_after rate q effect ∷ ps else q ∷ changed rate place effect ps) ++ qs =
-    λ b. elim b as (λ b. (q.place == place) ≡ b → (if b then Some q else part_at place ps) ≡ Some p
-    → (if b then part_after rate q effect ∷ (ps ++ qs) else q ∷ changed rate place effect (ps ++ qs))
-    ≡ (if b then part_after rate q effect ∷ ps else q ∷ changed rate place effect ps) ++ qs)
-    [ true ↦ λ e h. refl | false ↦ λ e h. ap (λ (xs : List Part). q ∷ xs) (changed_before rate place effect ps qs p h) ] in
-    cases (q.place == place) refl is
+pub changed_before : (rate index : ℕ) (effect : Effect) (ps qs : List Part) (p : Part) → part_at index ps ≡ Some p
+    → changed rate index effect (ps ++ qs) ≡ changed rate index effect ps ++ qs
+changed_before rate index effect [] qs p is = cc
+changed_before rate index effect (q ∷ ps) qs p is =
+    let cases : (b : Bool) → (q.index == index) ≡ b → (if b then Some q else part_at index ps) ≡ Some p
+    → (if b then part_after rate q effect ∷ (ps ++ qs) else q ∷ changed rate index effect (ps ++ qs))
+    ≡ (if b then part_after rate q effect ∷ ps else q ∷ changed rate index effect ps) ++ qs =
+    λ b. elim b as (λ b. (q.index == index) ≡ b → (if b then Some q else part_at index ps) ≡ Some p
+    → (if b then part_after rate q effect ∷ (ps ++ qs) else q ∷ changed rate index effect (ps ++ qs))
+    ≡ (if b then part_after rate q effect ∷ ps else q ∷ changed rate index effect ps) ++ qs)
+    [ true ↦ λ e h. refl | false ↦ λ e h. ap (λ (xs : List Part). q ∷ xs) (changed_before rate index effect ps qs p h) ] in
+    cases (q.index == index) refl is
 
-pub place_found : (place : ℕ) (ps : List Part) (p : Part) → part_at place ps ≡ Some p → p.place ≡ place
-place_found place [] p is = cc
-place_found place (q ∷ ps) p is =
-    let cases : (b : Bool) → (q.place == place) ≡ b → (if b then Some q else part_at place ps) ≡ Some p → p.place ≡ place =
-    λ b. elim b as (λ b. (q.place == place) ≡ b → (if b then Some q else part_at place ps) ≡ Some p → p.place ≡ place) [
-      | true ↦ λ e h. ap (λ (x : Part). x.place) (sym (one_part q p h)) ∙ eqb-true q.place place e
-      | false ↦ λ e h. place_found place ps p h
+pub index_found : (index : ℕ) (ps : List Part) (p : Part) → part_at index ps ≡ Some p → p.index ≡ index
+index_found index [] p is = cc
+index_found index (q ∷ ps) p is =
+    let cases : (b : Bool) → (q.index == index) ≡ b → (if b then Some q else part_at index ps) ≡ Some p → p.index ≡ index =
+    λ b. elim b as (λ b. (q.index == index) ≡ b → (if b then Some q else part_at index ps) ≡ Some p → p.index ≡ index) [
+      | true ↦ λ e h. ap (λ (x : Part). x.index) (sym (one_part q p h)) ∙ eqb-true q.index index e
+      | false ↦ λ e h. index_found index ps p h
     ] in
-    cases (q.place == place) refl is
+    cases (q.index == index) refl is
 
 -- no output of a new partition is there, and it knows all names
-pub elsewhere_is : (names : List (List ℕ)) (home : ℕ → List ℕ) (place : ℕ) (ps : List Part) (p : Part) → part_at place ps ≡ Some p → Each (Fit names home) ps
+pub elsewhere_is : (names : List (List ℕ)) (home : ℕ → List ℕ) (index : ℕ) (ps : List Part) (p : Part) → part_at index ps ≡ Some p → Each (Fit names home) ps
     → outputs_elsewhere (map known ps) ≡ record no_outputs { names = names }
-elsewhere_is names home place [] p is fit = cc
-elsewhere_is names home place (q ∷ ps) p is fit = ap (λ (ns : List (List ℕ)). record no_outputs { names = ns }) fit.0.all
+elsewhere_is names home index [] p is fit = cc
+elsewhere_is names home index (q ∷ ps) p is fit = ap (λ (ns : List (List ℕ)). record no_outputs { names = ns }) fit.0.all
 
 -- the number of an output of a name
 pub numbers_of : (names : List (List ℕ)) (home : ℕ → List ℕ) (name : List ℕ) (front : List Part) (own : Part) → Each (Fit names home) (front ++ own ∷ [])
@@ -202,7 +202,7 @@ pub record Ready (number : ℕ) (library : Library) (setup : Setup) (home : ℕ 
   pub there : client_of number i.clients ≡ Some client
   pub listens : client.pending.waiting ≡ None
   pub part : Part
-  pub placed : part_at client.place i.parts ≡ Some part
+  pub placed : part_at client.index i.parts ≡ Some part
   pub numbered : AreNumbered 0 i.parts
   pub fit : Each (Fit setup.outputs.names home) i.parts
   pub have : Pairwise (HasBack library) i.parts kept
@@ -218,14 +218,14 @@ pub record Filling (number : ℕ) (library : Library) (setup : Setup) (home : �
   pub listens : client.pending.waiting ≡ None
   pub front : List Part
   pub own : Part
-  pub place : own.place ≡ client.place
+  pub index : own.index ≡ client.index
   pub parts : i.parts ≡ front ++ own ∷ []
   pub numbered : AreNumbered 0 (front ++ own ∷ [])
-  pub apart : part_at own.place front ≡ None
+  pub apart : part_at own.index front ≡ None
   pub fit : Each (Fit setup.outputs.names home) (front ++ own ∷ [])
   pub have : Pairwise (HasBack library) front kept
   pub named : own.name ≡ name
-  pub aligned : Each (IsNamedSo own.place name) (front ++ own ∷ [])
+  pub aligned : Each (IsNamedSo own.index name) (front ++ own ∷ [])
   pub has : Has library.rate own (opened first_options)
   pub room : CanAdd own songs
   pub inside : (n : ℕ) → n < length setup.outputs.names → is_named (home n) (names_of (front ++ own ∷ [])) ≡ true

@@ -16,7 +16,7 @@ use Rattle.mpd_command.specs.declared.request.Request.{Request}
 use Rattle.mpd_command.specs.declared.request.Request.TheVariants.{Run}
 use Rattle.mpd_text.specs.Lines.Quoted.{quoted_text}
 use Rattle.partition_table.specs.declared.crossing.Crossing.TheVariants.{Brings, Stays}
-use Rattle.partition_table.specs.Parts.{Known, carried_from, carried_in, crosses_beyond, has_place, holding, is_beyond, known, moved_output, part_at, parts_moved, place_of, shown_outputs}
+use Rattle.partition_table.specs.Parts.{Known, carried_from, carried_in, crosses_beyond, has_index, holding, is_beyond, known, moved_output, part_at, parts_moved, index_of, shown_outputs}
 use Rattle.partition.specs.Image.{Image}
 use Rattle.partition.specs.Step.{asked_by, limit_of, next_image}
 use Rattle.partition.specs.declared.state.Setup.{Setup}
@@ -108,7 +108,7 @@ module _ (seat number : ℕ) (library : Library) (setup : Setup) (sets : AreSetU
     all = f.front ++ f.own ∷ []
 
     abbrev to : ℕ
-    to = f.own.place
+    to = f.own.index
 
     abbrev asked : Asked
     asked = asked_by f.client line Alone
@@ -119,9 +119,9 @@ module _ (seat number : ℕ) (library : Library) (setup : Setup) (sets : AreSetU
     abbrev after : Image
     after = next_image seat i (asking number (Run line (command.Partitions (partitions.MoveOutput output))))
 
-    placed : part_at f.client.place i.parts ≡ Some f.own
+    placed : part_at f.client.index i.parts ≡ Some f.own
     placed =
-        ap (part_at f.client.place) f.parts ∙ ap (λ (n : ℕ). part_at n all) (sym f.place) ∙ found_behind to f.front f.own [] f.apart refl
+        ap (part_at f.client.index) f.parts ∙ ap (λ (n : ℕ). part_at n all) (sym f.index) ∙ found_behind to f.front f.own [] f.apart refl
 
     abbrev Plans : TransitionData → Type 0
     Plans t = planned (map known i.parts) (map seated i.clients) i.shared.openings asked to (partitions.MoveOutput output) ≡ t
@@ -139,7 +139,7 @@ module _ (seat number : ℕ) (library : Library) (setup : Setup) (sets : AreSetU
       listens = p.listens;
       front = f.front;
       own = f.own;
-      place = f.place ∙ sym p.place;
+      index = f.index ∙ sym p.index;
       parts = p.parts ∙ f.parts;
       numbered = f.numbered;
       apart = f.apart;
@@ -167,7 +167,7 @@ module _ (seat number : ℕ) (library : Library) (setup : Setup) (sets : AreSetU
       moved_so : (n : ℕ) → moved_home m name home n ≡ now n
       moved_so n = ap (λ (b : Bool). if b then name else home n) (sym (this_is setup.outputs sets output m is n))
 
-      is_here : (held.part.place == to) ≡ true → (n : ℕ) → home n ≡ now n
+      is_here : (held.part.index == to) ≡ true → (n : ℕ) → home n ≡ now n
       is_here here n =
           let own_name : name ≡ held.part.name = same_text name held.part.name (sym held.aligned ∙ here) in
           let old : home m ≡ name = same_text (home m) held.part.name held.here ∙ sym own_name in
@@ -175,17 +175,17 @@ module _ (seat number : ℕ) (library : Library) (setup : Setup) (sets : AreSetU
           λ b. elim b as (λ b. (n == m) ≡ b → home n ≡ (if b then name else home n)) [ true ↦ λ e. ap home (eqb-true n m e) ∙ old | false ↦ λ e. refl ] in
           cases (n == m) refl ∙ moved_so n
 
-      plans_as : (t : TransitionData) → brings asked m to (Some held.part.place) ≡ t → Plans t
+      plans_as : (t : TransitionData) → brings asked m to (Some held.part.index) ≡ t → Plans t
       unfolding planned
       plans_as t e =
           ap (λ (ps : List Part). move_output (map known ps) asked to output) f.parts
           ∙ ap (moves (map known all) asked to) (numbers_of names home output f.front f.own f.fit ∙ is)
-          ∙ ap (λ (o : Option Known). brings asked m to (place_of o)) held.found ∙ e
+          ∙ ap (λ (o : Option Known). brings asked m to (index_of o)) held.found ∙ e
 
-      has_own : has_place to (map known all) ≡ true
+      has_own : has_index to (map known all) ≡ true
       has_own = has_number to all ∙ ap is_some (found_behind to f.front f.own [] f.apart refl)
 
-      comes_from : (held.part.place == to) ≡ false → carried_in m to (map known all) ≡ Some carries
+      comes_from : (held.part.index == to) ≡ false → carried_in m to (map known all) ≡ Some carries
       comes_from other =
           ap (λ (b : Bool). if b then carried_from m to (holding m (map known all)) else None) has_own
           ∙ ap (carried_from m to) held.found
@@ -197,7 +197,7 @@ module _ (seat number : ℕ) (library : Library) (setup : Setup) (sets : AreSetU
       front_first : map move all ≡ map move f.front ++ move f.own ∷ []
       front_first = map-append move f.front (f.own ∷ [])
 
-      abbrev brings_it : (held.part.place == to) ≡ false → Passes number (Brings m to) f.client i after → Fills now after
+      abbrev brings_it : (held.part.index == to) ≡ false → Passes number (Brings m to) f.client i after → Fills now after
       brings_it other p =
           let eight : m < 8 = omega (arith, low, sets.few) in
           let sound : carries.failed ≡ false = held.fit.sound m in
@@ -210,7 +210,7 @@ module _ (seat number : ℕ) (library : Library) (setup : Setup) (sets : AreSetU
             listens = p.listens;
             front = map move f.front;
             own = move f.own;
-            place = f.place ∙ sym p.place;
+            index = f.index ∙ sym p.index;
             parts = p.parts ∙ ap (parts_moved (Brings m to)) f.parts ∙ ap (λ (c : Option Carried). map (moved_output m to c) all) (comes_from other) ∙ front_first;
             numbered = subst (AreNumbered 0) front_first (numbered_moved 0 m to (Some carries) all f.numbered);
             apart = none_moved to m to (Some carries) f.front f.apart;
@@ -232,14 +232,14 @@ module _ (seat number : ℕ) (library : Library) (setup : Setup) (sets : AreSetU
 
       found_it : Fills now after
       found_it =
-          let cases : (b : Bool) → (held.part.place == to) ≡ b → Fills now after =
-          λ b. elim b as (λ b. (held.part.place == to) ≡ b → Fills now after) [
+          let cases : (b : Bool) → (held.part.index == to) ≡ b → Fills now after =
+          λ b. elim b as (λ b. (held.part.index == to) ≡ b → Fills now after) [
             | true ↦ λ e. rests (passed (done asked) (plans_as (done asked) (ap (λ (b : Bool). if b then done asked else crosses asked (Brings m to)) e))
                 (record { effect = refl; scan = refl; written = refl; response = refl; goes = refl })) (is_here e)
             | false ↦ λ e. brings_it e (passed (crosses asked (Brings m to)) (plans_as (crosses asked (Brings m to)) (ap (λ (b : Bool). if b then done asked else crosses asked (Brings m to)) e))
                 (record { effect = refl; scan = refl; written = refl; response = refl; goes = refl }))
           ] in
-          cases (held.part.place == to) refl
+          cases (held.part.index == to) refl
 
     abbrev most : ℕ
     most = setup.limits.max_cut
@@ -266,7 +266,7 @@ module _ (seat number : ℕ) (library : Library) (setup : Setup) (sets : AreSetU
           ),
         )
 
-    brings_far : (left m : ℕ) (is : position (λ own. bytes_eq own output) names ≡ Some m) (other : ((held m is).part.place == to) ≡ false)
+    brings_far : (left m : ℕ) (is : position (λ own. bytes_eq own output) names ≡ Some m) (other : ((held m is).part.index == to) ≡ false)
         → IsFarFrom seat (suc left) most f.own i → Goes left
     brings_far left m is other h =
         let said : Event = asking number (Run line (command.Partitions (partitions.MoveOutput output))) in
@@ -298,13 +298,13 @@ module _ (seat number : ℕ) (library : Library) (setup : Setup) (sets : AreSetU
 
     found_far : (left m : ℕ) (is : position (λ own. bytes_eq own output) names ≡ Some m) → IsFarFrom seat (suc left) most f.own i → Goes left
     found_far left m is h =
-        let cases : (b : Bool) → ((held m is).part.place == to) ≡ b → Goes left =
-        λ b. elim b as (λ b. ((held m is).part.place == to) ≡ b → Goes left) [
+        let cases : (b : Bool) → ((held m is).part.index == to) ≡ b → Goes left =
+        λ b. elim b as (λ b. ((held m is).part.index == to) ≡ b → Goes left) [
           | true ↦ λ e. rests_far left (done asked) (plans_as m is (done asked) (ap (λ (b : Bool). if b then done asked else crosses asked (Brings m to)) e))
               (record { effect = refl; scan = refl; written = refl; response = refl; goes = refl }) refl (is_here m is e) h
           | false ↦ λ e. brings_far left m is e h
         ] in
-        cases ((held m is).part.place == to) refl
+        cases ((held m is).part.index == to) refl
 
     refuses_it : position (λ own. bytes_eq own output) names ≡ None → Plans (no_output asked)
     unfolding planned
@@ -312,23 +312,23 @@ module _ (seat number : ℕ) (library : Library) (setup : Setup) (sets : AreSetU
         ap (λ (ps : List Part). move_output (map known ps) asked to output) f.parts
         ∙ ap (moves (map known all) asked to) (numbers_of names home output f.front f.own f.fit ∙ none)
 
-    by_place : (o : Option ℕ) → position (λ own. bytes_eq own output) names ≡ o → Fills now after
-    by_place None e =
+    by_index : (o : Option ℕ) → position (λ own. bytes_eq own output) names ≡ o → Fills now after
+    by_index None e =
         rests (passed (no_output asked) (refuses_it e) (record { effect = refl; scan = refl; written = refl; response = refl; goes = refl }))
         (λ n. sym (ap (λ (b : Bool). if b then name else home n) (none_this setup.outputs sets output e n)))
-    by_place (Some m) e = found_it m e
+    by_index (Some m) e = found_it m e
 
-    far_by_place : (left : ℕ) (o : Option ℕ) → position (λ own. bytes_eq own output) names ≡ o → IsFarFrom seat (suc left) most f.own i → Goes left
-    far_by_place left None e h =
+    far_by_index : (left : ℕ) (o : Option ℕ) → position (λ own. bytes_eq own output) names ≡ o → IsFarFrom seat (suc left) most f.own i → Goes left
+    far_by_index left None e h =
         rests_far left (no_output asked) (refuses_it e) (record { effect = refl; scan = refl; written = refl; response = refl; goes = refl }) refl
         (λ n. sym (ap (λ (b : Bool). if b then name else home n) (none_this setup.outputs sets output e n))) h
-    far_by_place left (Some m) e h = found_far left m e h
+    far_by_index left (Some m) e h = found_far left m e h
 
     pub one_far : (left : ℕ) → IsFarFrom seat (suc left) most f.own i → Goes left
-    one_far left h = far_by_place left (position (λ own. bytes_eq own output) names) refl h
+    one_far left h = far_by_index left (position (λ own. bytes_eq own output) names) refl h
 
     pub brings_one : Fills now after
-    brings_one = by_place (position (λ own. bytes_eq own output) names) refl
+    brings_one = by_index (position (λ own. bytes_eq own output) names) refl
 
   pub brings_all : (outputs : List (List ℕ)) (home : ℕ → List ℕ) (i : Image) → Fills home i
       → Fills (home_by_all setup.outputs outputs name home) (after_all seat number (map bytes_of_step (map step.Bring outputs)) i)

@@ -4,8 +4,8 @@ use Rattle.std.specs.Cmp.{first_so, second_so}
 use Rattle.std.specs.List.{list_all}
 use Rattle.command_arguments.specs.Forms.{byte_of, fade_of, song_mode_of, switch_of, uri_of, volume_of}
 use Rattle.command_arguments.specs.Readers.{both, map_ok, read_or}
-use Rattle.command_arguments.specs.declared.forms.Place.{Place}
-use Rattle.command_arguments.specs.declared.forms.Place.TheVariants.{At}
+use Rattle.command_arguments.specs.declared.forms.Position.{Position}
+use Rattle.command_arguments.specs.declared.forms.Position.TheVariants.{At}
 use Rattle.command_arguments.specs.declared.forms.SongMode.{SongMode}
 use Rattle.command_arguments.specs.declared.forms.Uri.{Uri}
 use Rattle.mpd_command.specs.Commands.{command_of}
@@ -124,7 +124,7 @@ put_found : (uri : List ℕ) → uri_of uri ≡ Some (record { 0 = uri })
     → command_of fewest (codes "addid") (uri ∷ codes "0" ∷ []) ≡ Ok (Some (command.Queue (queue.AddId (record { 0 = uri }) (Some (At 0)))))
 unfolding connection_rows rows_from_notcommands database_rows rows_from_listall rows_from_rescan messages_rows options_rows rows_from_replay_gain_mode outputs_rows partitions_rows playback_rows rows_from_seek playlists_rows rows_from_playlistadd queue_rows rows_from_playlist rows_from_prio status_rows stickers_rows number_of
 put_found uri is =
-    ap (λ (o : Option Uri). or_else (under command.Queue (map_ok Some (map_ok (λ (p : Uri × Option Place). queue.AddId p.0 p.1) (both (read_or o uri) (Ok (Some (At 0))))))) (Ok None)) is
+    ap (λ (o : Option Uri). or_else (under command.Queue (map_ok Some (map_ok (λ (p : Uri × Option Position). queue.AddId p.0 p.1) (both (read_or o uri) (Ok (Some (At 0))))))) (Ok None)) is
 
 priority_found : (text : List ℕ) (priority : ℕ) → byte_of text ≡ Some priority
     → command_of fewest (codes "prio") (text ∷ codes "0" ∷ []) ≡ Ok (Some (command.Queue (queue.Prio priority (Lone 0 ∷ []))))

@@ -44,7 +44,7 @@ pub record Passes (number : ℕ) (c : Crossing) (client : Client) (i j : Image) 
   pub openings : j.shared.openings ≡ i.shared.openings
   pub own : Client
   pub there : client_of number j.clients ≡ Some own
-  pub place : own.place ≡ client.place
+  pub index : own.index ≡ client.index
   pub listens : own.pending.waiting ≡ None
   pub parts : j.parts ≡ parts_moved c i.parts
 
@@ -54,15 +54,15 @@ pub record GoesTo (number to : ℕ) (client : Client) (i j : Image) : Type 0 whe
   pub openings : j.shared.openings ≡ i.shared.openings
   pub own : Client
   pub there : client_of number j.clients ≡ Some own
-  pub place : own.place ≡ to
+  pub index : own.index ≡ to
   pub listens : own.pending.waiting ≡ None
-  pub parts : j.parts ≡ changed i.shared.library.rate client.place (ByCommand (LeavesIt client.number)) i.parts
+  pub parts : j.parts ≡ changed i.shared.library.rate client.index (ByCommand (LeavesIt client.number)) i.parts
 
-rests_all : (rate place : ℕ) (ps : List Part) → changed rate place (ByCommand Rests) ps ≡ ps
-rests_all rate place [] = refl
-rests_all rate place (p ∷ ps) =
-    elim (p.place == place) as (λ b. (if b then part_after rate p (ByCommand Rests) ∷ ps else p ∷ changed rate place (ByCommand Rests) ps) ≡ p ∷ ps)
-    [ true ↦ refl | false ↦ ap (λ (qs : List Part). p ∷ qs) (rests_all rate place ps) ]
+rests_all : (rate index : ℕ) (ps : List Part) → changed rate index (ByCommand Rests) ps ≡ ps
+rests_all rate index [] = refl
+rests_all rate index (p ∷ ps) =
+    elim (p.index == index) as (λ b. (if b then part_after rate p (ByCommand Rests) ∷ ps else p ∷ changed rate index (ByCommand Rests) ps) ≡ p ∷ ps)
+    [ true ↦ refl | false ↦ ap (λ (qs : List Part). p ∷ qs) (rests_all rate index ps) ]
 
 number_is : (number : ℕ) (k : Client) (ks : List Client) → client_of number ks ≡ Some k → k.number ≡ number
 number_is number k [] there = cc
@@ -75,21 +75,21 @@ number_is number k (c ∷ ks) there =
     cases (c.number == number) refl there
 
 -- a client that goes is in the other partition, and does not wait
-entered_place : (number to : ℕ) (k : Client) → k.number ≡ number → (entered number to k).place ≡ to
-entered_place number to k is =
-    ap (λ (b : Bool). (if b then record k { place = to; pending = everything } else k).place) (eq-eqb k.number number is)
+entered_index : (number to : ℕ) (k : Client) → k.number ≡ number → (entered number to k).index ≡ to
+entered_index number to k is =
+    ap (λ (b : Bool). (if b then record k { index = to; pending = everything } else k).index) (eq-eqb k.number number is)
 
 entered_listens : (number to : ℕ) (k : Client) → k.pending.waiting ≡ None → (entered number to k).pending.waiting ≡ None
 entered_listens number to k free =
-    elim (k.number == number) as (λ b. (if b then record k { place = to; pending = everything } else k).pending.waiting ≡ None) [ true ↦ refl | false ↦ free ]
+    elim (k.number == number) as (λ b. (if b then record k { index = to; pending = everything } else k).pending.waiting ≡ None) [ true ↦ refl | false ↦ free ]
 
 entered_number : (number to : ℕ) (k : Client) → (entered number to k).number ≡ k.number
-entered_number number to k = elim (k.number == number) as (λ b. (if b then record k { place = to; pending = everything } else k).number ≡ k.number) [ true ↦ refl | false ↦ refl ]
+entered_number number to k = elim (k.number == number) as (λ b. (if b then record k { index = to; pending = everything } else k).number ≡ k.number) [ true ↦ refl | false ↦ refl ]
 
 module _ (seat number : ℕ) (i : Image) (client : Client) (part : Part) (name : Name) (it : PartitionCommand)
-    (there : client_of number i.clients ≡ Some client) (listens : client.pending.waiting ≡ None) (placed : part_at client.place i.parts ≡ Some part) where
+    (there : client_of number i.clients ≡ Some client) (listens : client.pending.waiting ≡ None) (placed : part_at client.index i.parts ≡ Some part) where
   abbrev pub Plans : TransitionData → Type 0
-  Plans t = planned (map known i.parts) (map seated i.clients) i.shared.openings (asked_by client name Alone) part.place it ≡ t
+  Plans t = planned (map known i.parts) (map seated i.clients) i.shared.openings (asked_by client name Alone) part.index it ≡ t
 
   abbrev said : Event
   said = asking number (Run name (command.Partitions it))
@@ -109,11 +109,11 @@ module _ (seat number : ℕ) (i : Image) (client : Client) (part : Part) (name :
         there = ap (client_of number) (clients_made seat number i client part name (command.Partitions it) t there listens placed refl plans calm.written
             ∙ ap (λ (r : ResponseData). clients_after number raised r i.clients) calm.response)
             ∙ own_client number raised t.response.answer i.clients client calm.goes there;
-        place = refl;
+        index = refl;
         listens = still_listens raised client listens;
         parts = parts_made seat number i client part name (command.Partitions it) t there listens placed refl plans calm.written
-            ∙ ap (λ (e : Effect). parts_moved t.crossing (changed rate client.place e i.parts)) calm.effect
-            ∙ ap (parts_moved t.crossing) (rests_all rate client.place i.parts);
+            ∙ ap (λ (e : Effect). parts_moved t.crossing (changed rate client.index e i.parts)) calm.effect
+            ∙ ap (parts_moved t.crossing) (rests_all rate client.index i.parts);
       }
 
   pub goes_to : (to : ℕ) → Plans (enters (asked_by client name Alone) to) → GoesTo number to client i next
@@ -128,7 +128,7 @@ module _ (seat number : ℕ) (i : Image) (client : Client) (part : Part) (name :
         there = ap (client_of number) (clients_made seat number i client part name (command.Partitions it) t there listens placed refl plans refl)
             ∙ client_mapped number (entered number to) (entered_number number to) (map (notified raised) i.clients)
             ∙ ap (option_map (entered number to)) (client_mapped number (notified raised) (λ k. refl) i.clients ∙ ap (option_map (notified raised)) there);
-        place = entered_place number to after (number_is number client i.clients there);
+        index = entered_index number to after (number_is number client i.clients there);
         listens = entered_listens number to after (still_listens raised client listens);
         parts = parts_made seat number i client part name (command.Partitions it) t there listens placed refl plans refl;
       }

@@ -14,7 +14,7 @@ use Rattle.partition_table.specs.Parts.{changed, is_within_in, part_at}
 use Rattle.partition_table.proofs.Looks.{own_changed}
 use Rattle.partition.specs.Image.{Image, overview}
 use Rattle.partition.specs.declared.partition.PartitionFault.TheVariants.{AtLimit, CutsAtLimit}
-use Rattle.partition.specs.Step.{asked_by, counts_frames, keeps_limits, limit_by, limit_of, ends_waiting, next_image, once_written, place_at, place_in, raised_of, told, transition, transition_line, transition_of, transition_run, transition_there, transition_wished, written_transition}
+use Rattle.partition.specs.Step.{asked_by, counts_frames, keeps_limits, limit_by, limit_of, ends_waiting, next_image, once_written, index_at, index_in, raised_of, told, transition, transition_line, transition_of, transition_run, transition_there, transition_wished, written_transition}
 use Rattle.player_events.specs.declared.event.Event.{Event}
 use Rattle.player_core.specs.Player.{is_within}
 use Rattle.player_state.specs.Effects.{begins_beyond, part_after, player_after}
@@ -78,10 +78,10 @@ pub record Leaves (seat number : ℕ) (i : Image) (client : Client) (part : Part
   pub openings : (next_image seat i event).shared.openings ≡ i.shared.openings
   pub own : Client
   pub there : client_of number (next_image seat i event).clients ≡ Some own
-  pub place : own.place ≡ client.place
+  pub index : own.index ≡ client.index
   pub listens : own.pending.waiting ≡ None
-  pub placed : part_at client.place (next_image seat i event).parts ≡ Some (part_after i.shared.library.rate part (ByCommand r.effect))
-  pub parts : (next_image seat i event).parts ≡ changed i.shared.library.rate client.place (ByCommand r.effect) i.parts
+  pub placed : part_at client.index (next_image seat i event).parts ≡ Some (part_after i.shared.library.rate part (ByCommand r.effect))
+  pub parts : (next_image seat i event).parts ≡ changed i.shared.library.rate client.index (ByCommand r.effect) i.parts
   pub refused : is_refused i event ≡ r.answer.refused
 
 -- what a line of a state changes of the partitions: the client's own one alone, as such a line does
@@ -91,14 +91,14 @@ pub record ChangesOwn (number : ℕ) (i j : Image) : Type 0 where
   pub after : Client
   pub here : client_of number i.clients ≡ Some before
   pub there : client_of number j.clients ≡ Some after
-  pub place : after.place ≡ before.place
+  pub index : after.index ≡ before.index
   pub effect : CommandEffect
   pub small : IsSmall effect
-  pub parts : j.parts ≡ changed i.shared.library.rate before.place (ByCommand effect) i.parts
+  pub parts : j.parts ≡ changed i.shared.library.rate before.index (ByCommand effect) i.parts
 
 -- the line of a client that does not wait, and what its command makes
 module _ (seat number : ℕ) (i : Image) (client : Client) (part : Part) (name : Name) (it : Command) (t : TransitionData)
-    (there : client_of number i.clients ≡ Some client) (listens : client.pending.waiting ≡ None) (placed : part_at client.place i.parts ≡ Some part)
+    (there : client_of number i.clients ≡ Some client) (listens : client.pending.waiting ≡ None) (placed : part_at client.index i.parts ≡ Some part)
     (no_wish : wish_of it ≡ None) (runs : transition_run (overview i) (asked_by client name Alone) part i.shared.library NothingRead it ≡ t)
     (written : t.written ≡ Nothing) where
   abbrev said : Event
@@ -119,19 +119,19 @@ module _ (seat number : ℕ) (i : Image) (client : Client) (part : Part) (name :
 
   pub event_makes : transition i said ≡ t
   event_makes =
-      ap (λ (o : Option Client). transition_of (overview i) (part_at (place_in o) i.parts) own_library o said) there
+      ap (λ (o : Option Client). transition_of (overview i) (part_at (index_in o) i.parts) own_library o said) there
       ∙ ap (λ (o : Option Part). transition_of (overview i) o own_library (Some client) said) placed
       ∙ ap (written_transition Alone (Run name it) None) line_makes
       ∙ ap (λ (b : Bool). if b then once_written Alone (Run name it) None t else t) unwritten
 
-  pub place_made : place_at i said ≡ client.place
-  place_made = ap place_in there
+  pub index_made : index_at i said ≡ client.index
+  index_made = ap index_in there
 
-  pub parts_made : (next_image seat i said).parts ≡ parts_after own_library.rate client.place t i.parts
+  pub parts_made : (next_image seat i said).parts ≡ parts_after own_library.rate client.index t i.parts
   unfolding next_image
   parts_made =
-      ap (λ (t : TransitionData). parts_after own_library.rate (place_at i said) t i.parts) event_makes
-      ∙ ap (λ (place : ℕ). parts_after own_library.rate place t i.parts) place_made
+      ap (λ (t : TransitionData). parts_after own_library.rate (index_at i said) t i.parts) event_makes
+      ∙ ap (λ (index : ℕ). parts_after own_library.rate index t i.parts) index_made
 
   pub library_made : (next_image seat i said).shared.library ≡ library_after own_library t.scan
   unfolding next_image
@@ -150,7 +150,7 @@ module _ (seat number : ℕ) (i : Image) (client : Client) (part : Part) (name :
   refused_made = ap (λ (t : TransitionData). t.response.answer.refused) event_makes
 
 module _ (seat number : ℕ) (i : Image) (client : Client) (part : Part) (name : Name) (it : Command) (r : CommandResult)
-    (there : client_of number i.clients ≡ Some client) (listens : client.pending.waiting ≡ None) (placed : part_at client.place i.parts ≡ Some part)
+    (there : client_of number i.clients ≡ Some client) (listens : client.pending.waiting ≡ None) (placed : part_at client.index i.parts ≡ Some part)
     (no_wish : wish_of it ≡ None)
     (runs : transition_run (overview i) (asked_by client name Alone) part i.shared.library NothingRead it ≡ transition_by r)
     (scan : r.scan ≡ Stay) (written : r.written ≡ Nothing) (goes : r.answer.next ≡ Goes) where
@@ -163,10 +163,10 @@ module _ (seat number : ℕ) (i : Image) (client : Client) (part : Part) (name :
   makes : transition i event ≡ transition_by r
   makes = event_makes seat number i client part name it (transition_by r) there listens placed no_wish runs written
 
-  place_is : place_at i event ≡ client.place
-  place_is = place_made seat number i client part name it (transition_by r) there listens placed no_wish runs written
+  index_is : index_at i event ≡ client.index
+  index_is = index_made seat number i client part name it (transition_by r) there listens placed no_wish runs written
 
-  parts_are : (next_image seat i event).parts ≡ changed lib.rate client.place (ByCommand r.effect) i.parts
+  parts_are : (next_image seat i event).parts ≡ changed lib.rate client.index (ByCommand r.effect) i.parts
   parts_are = parts_made seat number i client part name it (transition_by r) there listens placed no_wish runs written
 
   library_is : (next_image seat i event).shared.library ≡ lib
@@ -188,20 +188,20 @@ module _ (seat number : ℕ) (i : Image) (client : Client) (part : Part) (name :
         openings = openings_stay seat number i client part name it (transition_by r) there listens placed no_wish runs written;
         own = notified raised client;
         there = ap (client_of number) clients_are ∙ own_client number raised r.answer i.clients client goes there;
-        place = refl;
+        index = refl;
         listens = still_listens raised client listens;
         parts = parts_are;
-        placed = ap (part_at client.place) parts_are ∙ own_changed client.place lib.rate (ByCommand r.effect) i.parts ∙ ap (option_map (λ (p : Part). part_after lib.rate p (ByCommand r.effect))) placed;
+        placed = ap (part_at client.index) parts_are ∙ own_changed client.index lib.rate (ByCommand r.effect) i.parts ∙ ap (option_map (λ (p : Part). part_after lib.rate p (ByCommand r.effect))) placed;
         refused = refused_is;
       }
 
   -- a line passes no limit, where there is one left
   frames_count : can_count_all i.shared.books ≡ true → counts_frames i event (transition_by r) ≡ true
-  frames_count books = same_books i.shared.books r.effect (report_of (place_at i event) i.parts lib (transition_by r)) ∙ books
+  frames_count books = same_books i.shared.books r.effect (report_of (index_at i event) i.parts lib (transition_by r)) ∙ books
 
   numbers_keep : is_within (player_after lib.rate part (ByCommand r.effect)) ≡ true → keeps_limits i event (transition_by r) ≡ true
   numbers_keep fine =
-      ap (λ (place : ℕ). keeps_all_numbers place i.parts lib (transition_by r)) place_is
+      ap (λ (index : ℕ). keeps_all_numbers index i.parts lib (transition_by r)) index_is
       ∙ ap (λ (o : Option Part). is_within_in lib.rate o (ByCommand r.effect) && (not (begins_beyond (max_cut_in o) lib.scan r.scan) && true)) placed
       ∙ ap (λ (move : ScanMove). is_within (player_after lib.rate part (ByCommand r.effect)) && (not (begins_beyond part.player.max_cut lib.scan move) && true)) scan
       ∙ ap (λ (b : Bool). b && true) fine
@@ -226,8 +226,8 @@ module _ (seat number : ℕ) (i : Image) (client : Client) (part : Part) (name :
   books_are : can_count_all (next_image seat i event).shared.books ≡ can_count_all i.shared.books
   unfolding next_image
   books_are =
-      ap (λ (t : TransitionData). can_count_all (books_after i.shared.books t.effect (report_of (place_at i event) i.parts lib t))) makes
-      ∙ same_books i.shared.books r.effect (report_of (place_at i event) i.parts lib (transition_by r))
+      ap (λ (t : TransitionData). can_count_all (books_after i.shared.books t.effect (report_of (index_at i event) i.parts lib t))) makes
+      ∙ same_books i.shared.books r.effect (report_of (index_at i event) i.parts lib (transition_by r))
 
   left_after : (left : ℕ) → HasLeft seat (suc left) i part.player → IsSmall r.effect → HasLeft seat left (next_image seat i event) (player_after lib.rate part (ByCommand r.effect))
   left_after left h tiny =
@@ -245,10 +245,10 @@ module _ (seat number : ℕ) (i : Image) (client : Client) (part : Part) (name :
   pub stays_far : (left : ℕ) → IsSmall r.effect → IsFar seat number (suc left) i → (limit_of seat i event ≡ None) × IsFar seat number left (next_image seat i event)
   stays_far left tiny far =
       let same_client : client ≡ far.0 = one_client client far.0 (sym there ∙ far.2) in
-      let same_part : part ≡ far.1 = one_part part far.1 (sym placed ∙ ap (λ (k : Client). part_at k.place i.parts) same_client ∙ far.3) in
+      let same_part : part ≡ far.1 = one_part part far.1 (sym placed ∙ ap (λ (k : Client). part_at k.index i.parts) same_client ∙ far.3) in
       let h : HasLeft seat (suc left) i part.player = subst (λ (p : Part). HasLeft seat (suc left) i p.player) (sym same_part) far.4 in
       let one : HasLeft seat 1 i part.player = record { made = omega (arith, h.made); books = h.books; cuts = omega (arith, h.cuts); starts = omega (arith, h.starts); jobs = h.jobs } in
       let l : Leaves seat number i client part event r = leaves in (
         no_limit one tiny,
-        (l.own, part_after lib.rate part (ByCommand r.effect), l.there, ap (λ (place : ℕ). part_at place (next_image seat i event).parts) l.place ∙ l.placed, left_after left h tiny),
+        (l.own, part_after lib.rate part (ByCommand r.effect), l.there, ap (λ (index : ℕ). part_at index (next_image seat i event).parts) l.index ∙ l.placed, left_after left h tiny),
       )

@@ -51,11 +51,11 @@ next_of : (k n : ℕ) → k ≤ n → (k == n) ≡ false → k + 1 ≤ n
 next_of k n low e = elim (cases_lt k n) [ inl less ↦ omega (arith, less) | inr past ↦ absurd (eqb-false k n e (omega (arith, low, past))) ]
 
 -- the names from a number on, among which a name is that of one number alone
-abbrev Marks : List ℕ → ℕ → ℕ → List (List ℕ) → Type 0
-Marks name n k names = (j : ℕ) → j < length names → bytes_eq name (slice_index_or names j []) ≡ (k + j == n)
+abbrev PicksOut : List ℕ → ℕ → ℕ → List (List ℕ) → Type 0
+PicksOut name n k names = (j : ℕ) → j < length names → bytes_eq name (slice_index_or names j []) ≡ (k + j == n)
 
-all_marked : (outputs : OutputsData) (n : ℕ) → AreSetUp outputs → n < length outputs.names → Marks (name_of outputs n) n 0 outputs.names
-all_marked outputs n sets less j low =
+all_picked : (outputs : OutputsData) (n : ℕ) → AreSetUp outputs → n < length outputs.names → PicksOut (name_of outputs n) n 0 outputs.names
+all_picked outputs n sets less j low =
     let cases : (b : Bool) → (0 + j == n) ≡ b → bytes_eq (name_of outputs n) (name_of outputs j) ≡ b =
     λ b. elim b as (λ b. (0 + j == n) ≡ b → bytes_eq (name_of outputs n) (name_of outputs j) ≡ b) [
       | true ↦ λ e.
@@ -69,13 +69,13 @@ all_marked outputs n sets less j low =
     ] in
     cases (0 + j == n) refl
 
-marked_after : (name : List ℕ) (n k : ℕ) (first : List ℕ) (names : List (List ℕ)) → Marks name n k (first ∷ names) → Marks name n (k + 1) names
-marked_after name n k first names marks j low =
+picked_after : (name : List ℕ) (n k : ℕ) (first : List ℕ) (names : List (List ℕ)) → PicksOut name n k (first ∷ names) → PicksOut name n (k + 1) names
+picked_after name n k first names picks_out j low =
     let more : k + suc j ≡ k + 1 + j = omega arith in
-    marks (suc j) (omega (arith, low)) ∙ ap (λ (i : ℕ). i == n) more
+    picks_out (suc j) (omega (arith, low)) ∙ ap (λ (i : ℕ). i == n) more
 
-first_marked : (name : List ℕ) (n k : ℕ) (first : List ℕ) (names : List (List ℕ)) → Marks name n k (first ∷ names) → bytes_eq name first ≡ (k == n)
-first_marked name n k first names marks = let same : k + 0 ≡ k = omega arith in marks 0 (omega arith) ∙ ap (λ (i : ℕ). i == n) same
+first_picked : (name : List ℕ) (n k : ℕ) (first : List ℕ) (names : List (List ℕ)) → PicksOut name n k (first ∷ names) → bytes_eq name first ≡ (k == n)
+first_picked name n k first names picks_out = let same : k + 0 ≡ k = omega arith in picks_out 0 (omega arith) ∙ ap (λ (i : ℕ). i == n) same
 
 module _ (name : List ℕ) (n : ℕ) (here : ℕ → Bool) where
   abbrev rows : ℕ → List (List ℕ) → List (ℕ × List ℕ)
@@ -84,20 +84,20 @@ module _ (name : List ℕ) (n : ℕ) (here : ℕ → Bool) where
   abbrev names_in : List (ℕ × List ℕ) → List (List ℕ)
   names_in all = map (λ (row : ℕ × List ℕ). row.1) all
 
-  not_named : (k : ℕ) (names : List (List ℕ)) → Marks name n k names → n < k → is_named name (names_in (rows k names)) ≡ false
-  not_named k [] marks past = refl
-  not_named k (first ∷ names) marks past =
-      let rest : is_named name (names_in (rows (k + 1) names)) ≡ false = not_named (k + 1) names (marked_after name n k first names marks) (omega (arith, past)) in
-      let other : bytes_eq name first ≡ false = first_marked name n k first names marks ∙ ne_eqb k n (λ e. omega (arith, e, past)) in
+  not_named : (k : ℕ) (names : List (List ℕ)) → PicksOut name n k names → n < k → is_named name (names_in (rows k names)) ≡ false
+  not_named k [] picks_out past = refl
+  not_named k (first ∷ names) picks_out past =
+      let rest : is_named name (names_in (rows (k + 1) names)) ≡ false = not_named (k + 1) names (picked_after name n k first names picks_out) (omega (arith, past)) in
+      let other : bytes_eq name first ≡ false = first_picked name n k first names picks_out ∙ ne_eqb k n (λ e. omega (arith, e, past)) in
       elim (here k) as (λ b. is_named name (names_in (cond b ((k, first) ∷ rows (k + 1) names) (rows (k + 1) names))) ≡ false)
       [ true ↦ ap (λ (b : Bool). b || is_named name (names_in (rows (k + 1) names))) other ∙ rest | false ↦ rest ]
 
-  named_if_here : (k : ℕ) (names : List (List ℕ)) → Marks name n k names → k ≤ n → n < k + length names → is_named name (names_in (rows k names)) ≡ here n
-  named_if_here k [] marks low high = absurd (omega (arith, low, high))
-  named_if_here k (first ∷ names) marks low high =
+  named_if_here : (k : ℕ) (names : List (List ℕ)) → PicksOut name n k names → k ≤ n → n < k + length names → is_named name (names_in (rows k names)) ≡ here n
+  named_if_here k [] picks_out low high = absurd (omega (arith, low, high))
+  named_if_here k (first ∷ names) picks_out low high =
       let rest : List (List ℕ) = names_in (rows (k + 1) names) in
-      let after : Marks name n (k + 1) names = marked_after name n k first names marks in
-      let flag : bytes_eq name first ≡ (k == n) = first_marked name n k first names marks in
+      let after : PicksOut name n (k + 1) names = picked_after name n k first names picks_out in
+      let flag : bytes_eq name first ≡ (k == n) = first_picked name n k first names picks_out in
       let cases : (b : Bool) → (k == n) ≡ b → is_named name (names_in (cond (here k) ((k, first) ∷ rows (k + 1) names) (rows (k + 1) names))) ≡ here n =
       λ b. elim b as (λ b. (k == n) ≡ b → is_named name (names_in (cond (here k) ((k, first) ∷ rows (k + 1) names) (rows (k + 1) names))) ≡ here n) [
         | true ↦ λ e.
@@ -163,7 +163,7 @@ module _ (rate : ℕ) (outputs : OutputsData) (sets : AreSetUp outputs) (n : ℕ
   named_as_it_stood p q is known =
       ap (is_named output) is.outputs
       ∙ ap (λ (names : List (List ℕ)). is_named output (map (λ (row : ℕ × List ℕ). row.1) (filter (λ (row : ℕ × List ℕ). is_output p.outputs row.0) (enumerate_from 0 names)))) known
-      ∙ named_if_here output n (is_output p.outputs) 0 outputs.names (all_marked outputs n sets less) (omega arith) (omega (arith, less))
+      ∙ named_if_here output n (is_output p.outputs) 0 outputs.names (all_picked outputs n sets less) (omega arith) (omega (arith, less))
 
   none_first : (p : Part) (ps : List Part) → filter stood (p ∷ ps) ≡ [] → (stood p ≡ false) × (filter stood ps ≡ [])
   none_first p ps none =

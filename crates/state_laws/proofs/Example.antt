@@ -9,7 +9,7 @@ use Rattle.std.proofs.lemmas.List.Elements.{All-from_recursion}
 use Rattle.std.proofs.lemmas.List.Kept.{AllPairs-cons}
 use Rattle.std.proofs.lemmas.Str.{IsUtf8-from_ascii}
 use Rattle.std.proofs.lemmas.Str.Ascii.{IsAscii-cons, IsAscii-nil}
-use Rattle.command_arguments.specs.declared.forms.Place.TheVariants.{At}
+use Rattle.command_arguments.specs.declared.forms.Position.TheVariants.{At}
 use Rattle.command_arguments.specs.declared.forms.SongMode.TheVariants.{Off}
 use Rattle.kept_state.specs.Lines.{Line, alone, option_lines, song_steps, state_steps}
 use Rattle.kept_state.specs.Lines.{Line as lines}

@@ -11,7 +11,7 @@ use Rattle.mpd_command.specs.declared.partitions.PartitionCommand.{PartitionComm
 use Rattle.mpd_command.specs.declared.request.Request.TheVariants.{Run}
 use Rattle.partition_table.specs.Parts.{Known, crosses_beyond, holding, is_within_in, known, moved_output, once_more, outputs_moved, part_at}
 use Rattle.partition.specs.Image.{Image}
-use Rattle.partition.specs.Step.{counts_frames, keeps_limits, limit_by, limit_of, next_image, place_at, told}
+use Rattle.partition.specs.Step.{counts_frames, keeps_limits, limit_by, limit_of, next_image, index_at, told}
 use Rattle.partition.specs.declared.partition.PartitionFault.TheVariants.{AtLimit, CutsAtLimit}
 use Rattle.player_core.specs.Player.{PlayerState, is_within}
 use Rattle.player_events.specs.declared.event.Event.{Event}
@@ -34,14 +34,14 @@ use Rattle.state_laws.specs.Partitions.{Each}
 use Rattle.state_laws.specs.Saying.{asking}
 use Rattle.state_laws.proofs.Alike.{Alike}
 use Rattle.state_laws.proofs.Crossings.{Plans}
-use Rattle.state_laws.proofs.Events.{event_makes, place_made}
+use Rattle.state_laws.proofs.Events.{event_makes, index_made}
 use Rattle.state_laws.proofs.Limits.{one_more, same_books, within}
 use Rattle.state_laws.proofs.Within.{joined}
 
 -- ---- one line
 
 module _ (seat number : ℕ) (i : Image) (client : Client) (part : Part) (name : Name) (it : PartitionCommand) (t : TransitionData) (effect : CommandEffect)
-    (there : client_of number i.clients ≡ Some client) (listens : client.pending.waiting ≡ None) (placed : part_at client.place i.parts ≡ Some part)
+    (there : client_of number i.clients ≡ Some client) (listens : client.pending.waiting ≡ None) (placed : part_at client.index i.parts ≡ Some part)
     (plans : Plans seat number i client part name it there listens placed t) (written : t.written ≡ Nothing) (scan : t.scan ≡ Stay)
     (is : t.effect ≡ ByCommand effect) (still : player_after i.shared.library.rate part (ByCommand effect) ≡ part.player)
     (fine : crosses_beyond part.player.max_cut t.crossing (map known i.parts) ≡ false) where
@@ -53,13 +53,13 @@ module _ (seat number : ℕ) (i : Image) (client : Client) (part : Part) (name :
 
   frames : can_count_all i.shared.books ≡ true → counts_frames i said t ≡ true
   frames books =
-      ap (λ (e : Effect). can_count_all (books_after i.shared.books e (report_of (place_at i said) i.parts library t))) is
-      ∙ same_books i.shared.books effect (report_of (place_at i said) i.parts library t) ∙ books
+      ap (λ (e : Effect). can_count_all (books_after i.shared.books e (report_of (index_at i said) i.parts library t))) is
+      ∙ same_books i.shared.books effect (report_of (index_at i said) i.parts library t) ∙ books
 
   numbers : is_within part.player ≡ true → keeps_limits i said t ≡ true
   numbers inside =
       let crosses : ℕ → Bool = λ most. not (crosses_beyond most t.crossing (map known i.parts)) in
-      ap (λ (place : ℕ). keeps_all_numbers place i.parts library t) (place_made seat number i client part name (command.Partitions it) t there listens placed refl plans written)
+      ap (λ (index : ℕ). keeps_all_numbers index i.parts library t) (index_made seat number i client part name (command.Partitions it) t there listens placed refl plans written)
       ∙ ap (λ (o : Option Part). is_within_in library.rate o t.effect && (not (begins_beyond (max_cut_in o) library.scan t.scan) && crosses (max_cut_in o))) placed
       ∙ ap (λ (e : Effect). is_within (player_after library.rate part e) && (not (begins_beyond part.player.max_cut library.scan t.scan) && crosses part.player.max_cut)) is
       ∙ ap (λ (p : PlayerState). is_within p && (not (begins_beyond part.player.max_cut library.scan t.scan) && crosses part.player.max_cut)) still
@@ -84,10 +84,10 @@ module _ (seat number : ℕ) (i : Image) (client : Client) (part : Part) (name :
   books_are : can_count_all (next_image seat i said).shared.books ≡ can_count_all i.shared.books
   unfolding next_image
   books_are =
-      ap (λ (t : TransitionData). can_count_all (books_after i.shared.books t.effect (report_of (place_at i said) i.parts library t)))
+      ap (λ (t : TransitionData). can_count_all (books_after i.shared.books t.effect (report_of (index_at i said) i.parts library t)))
       (event_makes seat number i client part name (command.Partitions it) t there listens placed refl plans written)
-      ∙ ap (λ (e : Effect). can_count_all (books_after i.shared.books e (report_of (place_at i said) i.parts library t))) is
-      ∙ same_books i.shared.books effect (report_of (place_at i said) i.parts library t)
+      ∙ ap (λ (e : Effect). can_count_all (books_after i.shared.books e (report_of (index_at i said) i.parts library t))) is
+      ∙ same_books i.shared.books effect (report_of (index_at i said) i.parts library t)
 
   -- what is left then for a player
   pub left_for : (left : ℕ) (q : PlayerState) → HasLeft seat (suc left) i part.player → q.cuts + left ≤ q.max_cut → q.starts + left ≤ q.max_cut → q.jobs ≤ q.max_cut
@@ -151,7 +151,7 @@ pub moves_moved : (m to left most : ℕ) (c : Carried) (ps : List Part) → c.mo
     → Each (CanMove left most) (map (moved_output m to (Some c)) ps)
 moves_moved m to left most c [] new all = tt
 moves_moved m to left most c (p ∷ ps) new all =
-    (λ n. moved_low m left most (p.place == to) c p.outputs n new (all.0 n), moves_moved m to left most c ps new all.1)
+    (λ n. moved_low m left most (p.index == to) c p.outputs n new (all.0 n), moves_moved m to left most c ps new all.1)
 
 one_known : (a b : Known) → ◌≡◌ {A = Option Known} (Some a) (Some b) → a ≡ b
 one_known a b e = cc

@@ -12,7 +12,7 @@ use Rattle.player_core.specs.Steps.{is_current}
 use Rattle.player_state.specs.Effects.{entries, played_entry, player_after, sought_entry}
 use Rattle.player_state.specs.Outputs.{FrameBooks, books_after, can_count, can_count_all, grown, total}
 use Rattle.player_state.specs.declared.effect.CommandEffect.{CommandEffect}
-use Rattle.player_state.specs.declared.effect.CommandEffect.TheVariants.{Edits, Pauses, PlaysPlace, Rests, Seeks, SetsConsume, SetsCrossfade, SetsRandom, SetsRepeat, SetsSingle, SetsVolume, Stops, Switches}
+use Rattle.player_state.specs.declared.effect.CommandEffect.TheVariants.{Edits, Pauses, PlaysPosition, Rests, Seeks, SetsConsume, SetsCrossfade, SetsRandom, SetsRepeat, SetsSingle, SetsVolume, Stops, Switches}
 use Rattle.player_state.specs.declared.effect.Effect.TheVariants.{ByCommand}
 use Rattle.player_state.specs.declared.report.Report.{Report}
 use Rattle.player_state.specs.declared.state.Part.{Part}
@@ -28,10 +28,10 @@ IsSmall (SetsRandom on) = Unit {0}
 IsSmall (SetsSingle mode) = Unit {0}
 IsSmall (SetsConsume mode) = Unit {0}
 IsSmall (SetsCrossfade seconds) = Unit {0}
-IsSmall (PlaysPlace place) = Unit {0}
+IsSmall (PlaysPosition position) = Unit {0}
 IsSmall (Pauses on) = Unit {0}
 IsSmall Stops = Unit {0}
-IsSmall (Seeks place frame) = Unit {0}
+IsSmall (Seeks position frame) = Unit {0}
 IsSmall (Switches output on) = Unit {0}
 IsSmall _ = ⊥
 
@@ -78,10 +78,10 @@ raises rate part (SetsRandom on) s = randomized part.player (entries part) on
 raises rate part (SetsSingle mode) s = small part.player (player_after rate part (ByCommand (SetsSingle mode))) refl refl refl refl
 raises rate part (SetsConsume mode) s = small part.player (player_after rate part (ByCommand (SetsConsume mode))) refl refl refl refl
 raises rate part (SetsCrossfade seconds) s = small part.player (player_after rate part (ByCommand (SetsCrossfade seconds))) refl refl refl refl
-raises rate part (PlaysPlace place) s = played part.player (slice_get (entries part) place)
+raises rate part (PlaysPosition position) s = played part.player (slice_get (entries part) position)
 raises rate part (Pauses on) s = raises_if (is_stopped part.player.playback) part.player _ _ (none part.player) (record { cuts = omega arith; starts = omega arith; jobs = refl; max_cut = refl })
 raises rate part Stops s = raises_if (is_stopped part.player.playback) part.player _ _ (none part.player) (record { cuts = omega arith; starts = omega arith; jobs = refl; max_cut = refl })
-raises rate part (Seeks place frame) s = sought part.player (slice_get (entries part) place) frame
+raises rate part (Seeks position frame) s = sought part.player (slice_get (entries part) position) frame
 raises rate part (Switches output on) s = none part.player
 raises rate part _ s = absurd s
 

@@ -5,12 +5,12 @@ use Rattle.std.specs.Prelude.{Ok}
 use Rattle.std.specs.declared.ops.Range.{Range as Places}
 use Rattle.std.proofs.lemmas.Bool.{eqb-true, le-ltb, lt-ltb}
 use Rattle.command_arguments.specs.Forms.{fade_of, song_mode_of, switch_of, volume_of}
-use Rattle.command_arguments.specs.declared.forms.Place.TheVariants.{At}
+use Rattle.command_arguments.specs.declared.forms.Position.TheVariants.{At}
 use Rattle.command_arguments.specs.declared.forms.SongMode.{SongMode}
 use Rattle.mpd_text.specs.Answers.Answer.{pair_line}
 use Rattle.mpd_text.specs.Answers.Millis.{millis, millis_of, seconds_of}
 use Rattle.mpd_text.specs.Answers.Number.{number_of}
-use Rattle.mpd_text.specs.Answers.Range.{places}
+use Rattle.mpd_text.specs.Answers.Range.{positions}
 use Rattle.mpd_text.specs.Songs.Song.{SongData}
 use Rattle.mpd_text.specs.declared.answers.answer.ErrorNumber.TheVariants.{System}
 use Rattle.mpd_text.specs.declared.answers.ranges.Range.TheVariants.{Lone}
@@ -30,7 +30,7 @@ use Rattle.player_state.specs.Effects.{part_after, sought_entry, played_entry}
 use Rattle.player_state.specs.Outputs.{has_failed, is_output}
 use Rattle.player_state.specs.declared.effect.Effect.TheVariants.{ByCommand}
 use Rattle.player_state.specs.declared.effect.CommandEffect.{CommandEffect}
-use Rattle.player_state.specs.declared.effect.CommandEffect.TheVariants.{Edits, Pauses as PausesIt, PlaysPlace, Rests, Seeks, SetsConsume, SetsCrossfade, SetsRandom, SetsRepeat, SetsSingle, SetsVolume, Stops as StopsIt, Switches}
+use Rattle.player_state.specs.declared.effect.CommandEffect.TheVariants.{Edits, Pauses as PausesIt, PlaysPosition, Rests, Seeks, SetsConsume, SetsCrossfade, SetsRandom, SetsRepeat, SetsSingle, SetsVolume, Stops as StopsIt, Switches}
 use Rattle.player_state.specs.declared.scan.ScanMove.TheVariants.{Stay}
 use Rattle.player_state.specs.declared.state.Library.{Library}
 use Rattle.player_state.specs.declared.state.Part.{Part}
@@ -40,7 +40,7 @@ use Rattle.transitions.specs.declared.asked.Asked.{Asked}
 use Rattle.transitions.specs.declared.reply.Next.TheVariants.{Goes}
 use Rattle.transitions.specs.declared.shelf_calls.ShelfWrite.TheVariants.{Nothing}
 use Rattle.queue_commands.specs.Playback.{frame_at, play, seek}
-use Rattle.queue_commands.specs.Queue.{CanAdd, add_id, add_one, all_within, consed, count, insert_where, lack, place_in, prio, prioritize, unless_lacking}
+use Rattle.queue_commands.specs.Queue.{CanAdd, add_id, add_one, all_within, consed, count, insert_where, lack, position_in, prio, prioritize, unless_lacking}
 use Rattle.status_commands.specs.Options.{consume_of, single_of}
 use Rattle.status_commands.specs.Outputs.{no_such_output, switch_known, switch_output}
 use Rattle.kept_state.specs.Reading.{Player, behind_one, front, prioritized as prioritized_reading, still, with_front}
@@ -78,30 +78,30 @@ options_same part other o volume modes fade h = record {
   crossfade = h.crossfade ∙ ap (λ (n : ℕ). Some n) (sym fade);
 }
 
-into_same : (rate : ℕ) (e f : Entry) (p q : PlayerState) (elapsed : List ℕ) → f.song ≡ e.song → q.place ≡ p.place → IsInto rate e p elapsed → IsInto rate f q elapsed
-into_same rate e f p q elapsed song place h = (h.0, h.1, place ∙ h.2 ∙ ap (λ (s : SongData). min (frame_at rate h.0) s.frames) (sym song))
+into_same : (rate : ℕ) (e f : Entry) (p q : PlayerState) (elapsed : List ℕ) → f.song ≡ e.song → q.offset ≡ p.offset → IsInto rate e p elapsed → IsInto rate f q elapsed
+into_same rate e f p q elapsed song offset h = (h.0, h.1, offset ∙ h.2 ∙ ap (λ (s : SongData). min (frame_at rate h.0) s.frames) (sym song))
 
-played_same : (rate : ℕ) (e f : Entry) (p q : PlayerState) (how : KeptPlayback) → f.song ≡ e.song → q.playback ≡ p.playback → q.place ≡ p.place
+played_same : (rate : ℕ) (e f : Entry) (p q : PlayerState) (how : KeptPlayback) → f.song ≡ e.song → q.playback ≡ p.playback → q.offset ≡ p.offset
     → IsPlayed rate e p how → IsPlayed rate f q how
-played_same rate e f p q playback.Stop song how place h = how ∙ h
-played_same rate e f p q (playback.Play elapsed) song how place h = (how ∙ h.0, into_same rate e f p q elapsed song place h.1)
-played_same rate e f p q (playback.Pause elapsed) song how place h = (how ∙ h.0, into_same rate e f p q elapsed song place h.1)
+played_same rate e f p q playback.Stop song how offset h = how ∙ h
+played_same rate e f p q (playback.Play elapsed) song how offset h = (how ∙ h.0, into_same rate e f p q elapsed song offset h.1)
+played_same rate e f p q (playback.Pause elapsed) song how offset h = (how ∙ h.0, into_same rate e f p q elapsed song offset h.1)
 
 -- the same song is current, and played so
 pub current_same : (rate : ℕ) (part other : Part) (song : Option (ℕ × KeptPlayback)) → queue_of other.queue ≡ queue_of part.queue
-    → other.player.current ≡ part.player.current → other.player.playback ≡ part.player.playback → other.player.place ≡ part.player.place
+    → other.player.current ≡ part.player.current → other.player.playback ≡ part.player.playback → other.player.offset ≡ part.player.offset
     → IsCurrent rate part song → IsCurrent rate other song
-current_same rate part other None queue current how place h = (current ∙ h.0, how ∙ h.1)
-current_same rate part other (Some song) queue current how place h =
-    (h.0, ap (λ (es : List Entry). slice_get es song.0) queue ∙ h.1, current ∙ h.2, played_same rate h.0 h.0 part.player other.player song.1 refl how place h.3)
+current_same rate part other None queue current how offset h = (current ∙ h.0, how ∙ h.1)
+current_same rate part other (Some song) queue current how offset h =
+    (h.0, ap (λ (es : List Entry). slice_get es song.0) queue ∙ h.1, current ∙ h.2, played_same rate h.0 h.0 part.player other.player song.1 refl how offset h.3)
 
--- the same, one place further on
+-- the same, one position further on
 current_behind : (rate : ℕ) (part other : Part) (first : Entry) (song : Option (ℕ × KeptPlayback)) → queue_of other.queue ≡ first ∷ queue_of part.queue
-    → other.player.current ≡ part.player.current → other.player.playback ≡ part.player.playback → other.player.place ≡ part.player.place
+    → other.player.current ≡ part.player.current → other.player.playback ≡ part.player.playback → other.player.offset ≡ part.player.offset
     → IsCurrent rate part song → IsCurrent rate other (behind_one song)
-current_behind rate part other first None queue current how place h = (current ∙ h.0, how ∙ h.1)
-current_behind rate part other first (Some song) queue current how place h =
-    (h.0, ap (λ (es : List Entry). slice_get es (suc song.0)) queue ∙ h.1, current ∙ h.2, played_same rate h.0 h.0 part.player other.player song.1 refl how place h.3)
+current_behind rate part other first None queue current how offset h = (current ∙ h.0, how ∙ h.1)
+current_behind rate part other first (Some song) queue current how offset h =
+    (h.0, ap (λ (es : List Entry). slice_get es (suc song.0)) queue ∙ h.1, current ∙ h.2, played_same rate h.0 h.0 part.player other.player song.1 refl how offset h.3)
 
 some_is : (a b : Entry) → ◌≡◌ {A = Option Entry} (Some a) (Some b) → a ≡ b
 some_is a b e = cc
@@ -109,21 +109,21 @@ some_is a b e = cc
 -- the same, where the first entry has another priority
 current_first : (rate : ℕ) (part other : Part) (e f : Entry) (es : List Entry) (song : Option (ℕ × KeptPlayback))
     → queue_of part.queue ≡ e ∷ es → queue_of other.queue ≡ f ∷ es → f.id ≡ e.id → f.song ≡ e.song
-    → other.player.current ≡ part.player.current → other.player.playback ≡ part.player.playback → other.player.place ≡ part.player.place
+    → other.player.current ≡ part.player.current → other.player.playback ≡ part.player.playback → other.player.offset ≡ part.player.offset
     → IsCurrent rate part song → IsCurrent rate other song
-current_first rate part other e f es None was is id song current how place h = (current ∙ h.0, how ∙ h.1)
-current_first rate part other e f es (Some (zero, kept)) was is id song current how place h =
+current_first rate part other e f es None was is id song current how offset h = (current ∙ h.0, how ∙ h.1)
+current_first rate part other e f es (Some (zero, kept)) was is id song current how offset h =
     let same : e ≡ h.0 = some_is e h.0 (sym (ap (λ (xs : List Entry). slice_get xs 0) was) ∙ h.1) in (
       f,
       ap (λ (xs : List Entry). slice_get xs 0) is,
       current ∙ h.2 ∙ ap (λ (n : ℕ). Some n) (sym (id ∙ ap (λ (x : Entry). x.id) same)),
-      played_same rate h.0 f part.player other.player kept (song ∙ ap (λ (x : Entry). x.song) same) how place h.3,
+      played_same rate h.0 f part.player other.player kept (song ∙ ap (λ (x : Entry). x.song) same) how offset h.3,
     )
-current_first rate part other e f es (Some (suc at, kept)) was is id song current how place h = (
+current_first rate part other e f es (Some (suc at, kept)) was is id song current how offset h = (
   h.0,
   ap (λ (xs : List Entry). slice_get xs (suc at)) is ∙ sym (ap (λ (xs : List Entry). slice_get xs (suc at)) was) ∙ h.1,
   current ∙ h.2,
-  played_same rate h.0 h.0 part.player other.player kept refl how place h.3,
+  played_same rate h.0 h.0 part.player other.player kept refl how offset h.3,
 )
 
 -- a player that does not stand still plays once it is sought
@@ -210,7 +210,7 @@ module _ (library : Library) (asked : Asked) (more : ℕ) (part : Part) (player 
             };
             outputs = h.outputs;
             queue = h.queue;
-            song = current_same rate part (part_after rate part (ByCommand (SetsRandom on))) player.song refl r.stays.current r.playback r.stays.place h.song;
+            song = current_same rate part (part_after rate part (ByCommand (SetsRandom on))) player.song refl r.stays.current r.playback r.stays.offset h.song;
           };
           room = room;
           scan = refl;
@@ -330,11 +330,11 @@ module _ (library : Library) (asked : Asked) (more : ℕ) (part : Part) (player 
 
     prioritized_at : (priority : ℕ) (e : Entry) (es : List Entry) → queue_of part.queue ≡ e ∷ es
         → IsRead rate more part player false (Some (record player { queue = record (kept_entry e) { priority = priority } ∷ map kept_entry es }))
-        (edits asked (Prioritize (places 0 1 ∷ []) priority) (codes ""))
+        (edits asked (Prioritize (positions 0 1 ∷ []) priority) (codes ""))
     prioritized_at priority e es is =
-        let other : Part = part_after rate part (ByCommand (Edits (Prioritize (places 0 1 ∷ []) priority))) in
+        let other : Part = part_after rate part (ByCommand (Edits (Prioritize (positions 0 1 ∷ []) priority))) in
         let now : queue_of other.queue ≡ record e { priority = priority } ∷ es = prioritized_first part.queue priority e es is in
-        let limits : SameLimits other.queue part.queue = edited_limits part.queue (with_priority (queue_of part.queue) (places 0 1 ∷ []) priority) in
+        let limits : SameLimits other.queue part.queue = edited_limits part.queue (with_priority (queue_of part.queue) (positions 0 1 ∷ []) priority) in
         let size : count other ≡ count part = ap length now ∙ sym (ap length is) in
         record {
           has = record {
@@ -366,8 +366,8 @@ module _ (library : Library) (asked : Asked) (more : ℕ) (part : Part) (player 
         subst (λ (r : CommandResult). IsRead rate more part player false (prioritized_with priority) r) (sym result) (rests (prioritized_with priority) (bad_index asked) read refl refl refl room)
     priority_cases priority (e ∷ es) is =
         let some : nat_lt 0 (count part) ≡ true = lt-ltb 0 (count part) (omega (arith, ap length is)) in
-        let made : CommandResult = edits asked (Prioritize (places 0 1 ∷ []) priority) (codes "") in
-        let result : prio asked part priority (Lone 0 ∷ []) ≡ made = ap (λ (b : Bool). prioritize asked part (bad_index asked) priority (consed (if b then Some (places 0 1) else None) (Some []))) some in
+        let made : CommandResult = edits asked (Prioritize (positions 0 1 ∷ []) priority) (codes "") in
+        let result : prio asked part priority (Lone 0 ∷ []) ≡ made = ap (λ (b : Bool). prioritize asked part (bad_index asked) priority (consed (if b then Some (positions 0 1) else None) (Some []))) some in
         let new : Player = record player { queue = record (kept_entry e) { priority = priority } ∷ map kept_entry es } in
         let read : prioritized_with priority ≡ Some new = ap (λ (q : List KeptEntry). option_map (λ queue. record player { queue = queue }) (prioritized_reading priority q)) (h.queue ∙ ap (map kept_entry) is) in
         subst (λ (r : CommandResult). IsRead rate more part player false (prioritized_with priority) r) (sym result)
@@ -398,7 +398,7 @@ module _ (library : Library) (asked : Asked) (more : ℕ) (part : Part) (player 
             options = options_same part other player.options volume starts.keeps.modes starts.keeps.crossfade h.options;
             outputs = subst (λ o. AreSwitched o player.outputs) (sym outputs) h.outputs;
             queue = h.queue ∙ ap (λ (q : QueueState). map kept_entry (queue_of q)) (sym queue);
-            song = (e, ap (λ (q : QueueState). slice_get (queue_of q) 0) queue ∙ ap (λ (xs : List Entry). slice_get xs 0) is, starts.current, (starts.playback, (time, told, starts.place)));
+            song = (e, ap (λ (q : QueueState). slice_get (queue_of q) 0) queue ∙ ap (λ (xs : List Entry). slice_get xs 0) is, starts.current, (starts.playback, (time, told, starts.offset)));
           };
           room = subst (λ (q : QueueState). (length (queue_of q) + more ≤ q.max_len) × (q.greatest_id + more ≤ q.max_id)) (sym queue) room;
           scan = refl;
@@ -444,20 +444,20 @@ module _ (library : Library) (asked : Asked) (more : ℕ) (part : Part) (player 
     play_cases : (es : List Entry) → queue_of part.queue ≡ es → IsRead rate more part player false (front_with (playback.Play (codes "0"))) (play asked part (Some 0))
     play_cases [] is =
         let none : nat_lt 0 (count part) ≡ false = ap (λ (es : List Entry). nat_lt 0 (length es)) is in
-        let result : play asked part (Some 0) ≡ bad_index asked = ap (λ (b : Bool). if b then does asked (PlaysPlace 0) else bad_index asked) none in
+        let result : play asked part (Some 0) ≡ bad_index asked = ap (λ (b : Bool). if b then does asked (PlaysPosition 0) else bad_index asked) none in
         subst (λ (r : CommandResult). IsRead rate more part player false (front_with (playback.Play (codes "0"))) r) (sym result)
         (rests (front_with (playback.Play (codes "0"))) (bad_index asked) (front_none (playback.Play (codes "0")) is) refl refl refl room)
     play_cases (e ∷ es) is =
         let some : nat_lt 0 (count part) ≡ true = lt-ltb 0 (count part) (omega (arith, ap length is)) in
-        let made : CommandResult = does asked (PlaysPlace 0) in
+        let made : CommandResult = does asked (PlaysPosition 0) in
         let result : play asked part (Some 0) ≡ made = ap (λ (b : Bool). if b then made else bad_index asked) some in
-        let steps_to : steps.start part.player state.Play e.id 0 ≡ (part_after rate part (ByCommand (PlaysPlace 0))).player = ap (λ (xs : List Entry). played_entry part.player (slice_get xs 0)) (sym is) in
+        let steps_to : steps.start part.player state.Play e.id 0 ≡ (part_after rate part (ByCommand (PlaysPosition 0))).player = ap (λ (xs : List Entry). played_entry part.player (slice_get xs 0)) (sym is) in
         let from : Starts part.player (steps.start part.player state.Play e.id 0) state.Play e.id (min (frame_at rate 0) e.song.frames) =
         subst (λ (n : ℕ). Starts part.player (steps.start part.player state.Play e.id 0) state.Play e.id n) (at_zero e.song.frames) (started part.player state.Play e.id 0) in
         let starts = subst (λ (q : PlayerState). Starts part.player q state.Play e.id (min (frame_at rate 0) e.song.frames)) steps_to from in
         subst (λ (r : CommandResult). IsRead rate more part player false (front_with (playback.Play (codes "0"))) r) (sym result)
         (subst (λ (o : Option Player). IsRead rate more part player false o made) (sym (front_some (playback.Play (codes "0")) e es is))
-        (starts_at (PlaysPlace 0) e es (codes "0") 0 tt is starts refl refl refl zero_told))
+        (starts_at (PlaysPosition 0) e es (codes "0") 0 tt is starts refl refl refl zero_told))
 
     pub play_read : IsRead rate more part player false (front_with (playback.Play (codes "0"))) (play asked part (Some 0))
     play_read = play_cases (queue_of part.queue) refl
@@ -474,10 +474,10 @@ module _ (library : Library) (asked : Asked) (more : ℕ) (part : Part) (player 
         (c.0, c.1, p.stays.current ∙ c.2, p.still (ap is_stopped c.3) ∙ c.3)
     still_current (Some (at, playback.Play elapsed)) c =
         let p : Pauses part.player paused_part.player = paused part.player in
-        (c.0, c.1, p.stays.current ∙ c.2, (p.paused (ap is_stopped c.3.0), into_same rate c.0 c.0 part.player paused_part.player elapsed refl p.stays.place c.3.1))
+        (c.0, c.1, p.stays.current ∙ c.2, (p.paused (ap is_stopped c.3.0), into_same rate c.0 c.0 part.player paused_part.player elapsed refl p.stays.offset c.3.1))
     still_current (Some (at, playback.Pause elapsed)) c =
         let p : Pauses part.player paused_part.player = paused part.player in
-        (c.0, c.1, p.stays.current ∙ c.2, (p.paused (ap is_stopped c.3.0), into_same rate c.0 c.0 part.player paused_part.player elapsed refl p.stays.place c.3.1))
+        (c.0, c.1, p.stays.current ∙ c.2, (p.paused (ap is_stopped c.3.0), into_same rate c.0 c.0 part.player paused_part.player elapsed refl p.stays.offset c.3.1))
 
     pub pause_read : IsRead rate more part player false (Some (record player { song = option_map (λ s. (s.0, still s.1)) player.song })) (does asked (PausesIt true))
     pause_read =
@@ -548,8 +548,8 @@ module _ (library : Library) (asked : Asked) (more : ℕ) (part : Part) (player 
           accepted = λ e. refl;
         }
 
-    front_place : place_in part (Some (At 0)) ≡ Ok 0
-    front_place = let none : nat_lt (count part) 0 ≡ false = le-ltb (count part) 0 (omega arith) in rw none refl
+    front_position : position_in part (Some (At 0)) ≡ Ok 0
+    front_position = let none : nat_lt (count part) 0 ≡ false = le-ltb (count part) 0 (omega arith) in rw none refl
 
     nothing_lacks : lack part 1 ≡ None
     nothing_lacks =
@@ -560,7 +560,7 @@ module _ (library : Library) (asked : Asked) (more : ℕ) (part : Part) (player 
 
     put_result : (song : SongData) → add_one asked part (Some song) (Some (At 0)) ≡ edits asked (Insert 0 (song ∷ [])) (id_line part)
     put_result song =
-        ap (λ place. insert_where asked part (song ∷ []) (id_line part) place) front_place
+        ap (λ position. insert_where asked part (song ∷ []) (id_line part) position) front_position
         ∙ ap (λ why. unless_lacking asked part why (edits asked (Insert 0 (song ∷ [])) (id_line part))) nothing_lacks
 
     put_cases : (uri : List ℕ) (o : Option SongData) → song_of library.songs uri ≡ o

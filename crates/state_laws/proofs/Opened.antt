@@ -16,15 +16,15 @@ use Rattle.state_laws.specs.Saying.{OpensEmpty, begun, first_options, songs_of}
 use Rattle.state_laws.proofs.Bytes.{bytes_are_read}
 use Rattle.state_laws.proofs.Whole.{state_comes_back}
 
-options_told : (openings : OpeningsData) (place : ℕ) (name : List ℕ) (outputs : OutputsData) → AreOptions (opening_part openings place name outputs) first_options
+options_told : (openings : OpeningsData) (index : ℕ) (name : List ℕ) (outputs : OutputsData) → AreOptions (opening_part openings index name outputs) first_options
 unfolding number_of
-options_told openings place name outputs = record { volume = refl; repeat = refl; random = refl; single = refl; consume = refl; crossfade = refl }
+options_told openings index name outputs = record { volume = refl; repeat = refl; random = refl; single = refl; consume = refl; crossfade = refl }
 
 -- a partition that is opened
-pub has_opening : (rate : ℕ) (openings : OpeningsData) (place : ℕ) (name : List ℕ) (outputs : OutputsData) → length outputs.enabled ≡ length outputs.here
-    → Has rate (opening_part openings place name outputs) (opened first_options)
-has_opening rate openings place name outputs known = record {
-  options = options_told openings place name outputs;
+pub has_opening : (rate : ℕ) (openings : OpeningsData) (index : ℕ) (name : List ℕ) (outputs : OutputsData) → length outputs.enabled ≡ length outputs.here
+    → Has rate (opening_part openings index name outputs) (opened first_options)
+has_opening rate openings index name outputs known = record {
+  options = options_told openings index name outputs;
   outputs = record { known = known; as_said = λ n on e here fine. cc };
   queue = refl;
   song = (refl, refl);

@@ -26,7 +26,7 @@ use Rattle.status_commands.specs.Options.{consume_of, single_of}
 use Rattle.status_commands.specs.Status.{consume_text, digit, single_text}
 use Rattle.kept_state.specs.Lines.{Line, alone, entries_steps, entry_lines, option_lines, playback_lines, priority_lines, queue_steps, song_steps, state_steps}
 use Rattle.kept_state.specs.Lines.{Line as lines}
-use Rattle.kept_state.specs.Reading.{entry_of, given_back, place_of, queue_of as reading_queue, song_there, there}
+use Rattle.kept_state.specs.Reading.{entry_of, given_back, position_of, queue_of as reading_queue, song_there, there}
 use Rattle.kept_state.specs.declared.kept.Kept.{Kept}
 use Rattle.kept_state.specs.declared.kept.KeptEntry.{KeptEntry}
 use Rattle.kept_state.specs.declared.kept.KeptOptions.{KeptOptions}
@@ -39,7 +39,7 @@ use Rattle.state_laws.specs.Own.{AreOutputsOf, AreThere, CanComeBack, IsBack, Is
 use Rattle.state_laws.specs.Saying.{AllAsk, CanAsk, EachAsks, HasRoom, PlayerHas, after_steps, begun, is_song, songs_in, songs_of}
 use Rattle.state_laws.specs.Bytes.{read_bytes}
 use Rattle.state_laws.proofs.Opened.{opened_comes_back}
-use Rattle.state_laws.proofs.Times.{duration_told, places_come_back}
+use Rattle.state_laws.proofs.Times.{duration_told, offsets_come_back}
 use Rattle.state_laws.proofs.Words.{number_decimal}
 
 -- what is told is read again
@@ -220,22 +220,22 @@ module _ (library : Library) (part other : Part) (can : CanComeBack library part
   rate = library.rate
 
   abbrev time : ℕ
-  time = millis rate part.player.place
+  time = millis rate part.player.offset
 
   told : millis_of (duration_text time) ≡ told_as time
   told = duration_told time can.time
 
-  just_before : (entry : Entry) (again : ℕ) → millis_of (duration_text time) ≡ told_as again → other.player.place ≡ min (frame_at rate again) entry.song.frames
-      → part.player.place ≤ entry.song.frames → IsJustBefore rate part.player.place other.player.place
-  just_before entry again is place inside =
+  just_before : (entry : Entry) (again : ℕ) → millis_of (duration_text time) ≡ told_as again → other.player.offset ≡ min (frame_at rate again) entry.song.frames
+      → part.player.offset ≤ entry.song.frames → IsJustBefore rate part.player.offset other.player.offset
+  just_before entry again is offset inside =
       let same : again ≡ time = ap value (sym is ∙ told) in
-      let back : IsJustBefore rate part.player.place (min (frame_at rate time) entry.song.frames) = places_come_back rate part.player.place entry.song.frames can.rate can.place inside in
-      subst (IsJustBefore rate part.player.place) (sym (place ∙ ap (λ (t : ℕ). min (frame_at rate t) entry.song.frames) same)) back
+      let back : IsJustBefore rate part.player.offset (min (frame_at rate time) entry.song.frames) = offsets_come_back rate part.player.offset entry.song.frames can.rate can.offset inside in
+      subst (IsJustBefore rate part.player.offset) (sym (offset ∙ ap (λ (t : ℕ). min (frame_at rate t) entry.song.frames) same)) back
 
   -- a song that is played as was told
   back_played : (how : Playback) (entry : Entry) → part.player.playback ≡ how → IsPlayed rate entry other.player (playback_of how (duration_text time))
       → (other.player.playback ≡ part.player.playback)
-      × (is_stopped part.player.playback ≡ false → part.player.place ≤ entry.song.frames → IsJustBefore rate part.player.place other.player.place)
+      × (is_stopped part.player.playback ≡ false → part.player.offset ≤ entry.song.frames → IsJustBefore rate part.player.offset other.player.offset)
   back_played state.Stop entry was h = (h ∙ sym was, λ s l. (let halts : is_stopped part.player.playback ≡ true = ap is_stopped was in cc))
   back_played state.Play entry was h = (h.0 ∙ sym was, λ s l. just_before entry h.1.0 h.1.1 h.1.2 l)
   back_played state.Pause entry was h = (h.0 ∙ sym was, λ s l. just_before entry h.1.0 h.1.1 h.1.2 l)
@@ -293,8 +293,8 @@ module _ (library : Library) (part other : Part) (can : CanComeBack library part
         ∙ ap (λ (song : Option KeptSong). kept.before.items ++ (entry_of song ++ there (is_song library) kept.after.items)) (one_there library kept.song song_is_there)
         ∙ ap (λ (xs : List KeptEntry). kept.before.items ++ (entry_of kept.song ++ xs)) (all_there library kept.after.items after_there)
 
-    place_is : place_of (is_song library) kept ≡ option_map (λ s. (length kept.before.items, s.playback)) kept.song
-    place_is =
+    position_is : position_of (is_song library) kept ≡ option_map (λ s. (length kept.before.items, s.playback)) kept.song
+    position_is =
         ap (λ (xs : List KeptEntry). option_map (λ (s : KeptSong). (length xs, s.playback)) (song_there (is_song library) kept.song)) (all_there library kept.before.items before_there)
         ∙ ap (option_map (λ (s : KeptSong). (length kept.before.items, s.playback))) (one_there library kept.song song_is_there)
 
@@ -314,7 +314,7 @@ module _ (library : Library) (part other : Part) (can : CanComeBack library part
               let on = said_on (said_of number kept.outputs.items) some in
               h.outputs.as_said number on.0 on.1 here fine ∙ sym (said_so part.outputs kept.outputs.items number on.0 is.outputs on.1);
           queue = sym h.queue ∙ queue_is ∙ is.queue;
-          song = back_at kept.song (length kept.before.items) is.song (subst (IsCurrent rate other) place_is h.song);
+          song = back_at kept.song (length kept.before.items) is.song (subst (IsCurrent rate other) position_is h.song);
         }
 
 pub players_come_back : PlayersComeBack

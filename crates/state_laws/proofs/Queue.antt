@@ -3,7 +3,7 @@ use Rattle.std.proofs.Common.{◌≡◌, inl, inr, ℕ, ◌+◌, ◌<◌, false,
 use Rattle.std.specs.List.{enumerate_from}
 use Rattle.std.proofs.lemmas.Bool.Decides.{nat_tests}
 use Rattle.mpd_text.specs.Songs.Song.{SongData}
-use Rattle.mpd_text.specs.Answers.Range.{places}
+use Rattle.mpd_text.specs.Answers.Range.{positions}
 use Rattle.song_queue.specs.declared.entry.Entry.{Entry}
 use Rattle.song_queue.specs.Entries.{is_named, with_priority}
 use Rattle.song_queue.specs.State.{QueueState, edited, inserted, prioritized, queue_of}
@@ -17,25 +17,25 @@ fresh q song = record { id = q.greatest_id + 1; song = song; priority = 0 }
 pub put_first : (q : QueueState) (song : SongData) → queue_of (inserted q 0 (song ∷ [])) ≡ fresh q song ∷ queue_of q
 put_first q song = queue_of-edited q (fresh q song ∷ queue_of q)
 
--- no place after the first is named
-unnamed : (n : ℕ) → 0 < n → is_named (places 0 1 ∷ []) n ≡ false
+-- no position after the first is named
+unnamed : (n : ℕ) → 0 < n → is_named (positions 0 1 ∷ []) n ≡ false
 unnamed n some = grind (arith, nat_tests)
 
 unnamed_stay : (priority n : ℕ) (es : List Entry) → 0 < n
-    → map (λ (p : ℕ × Entry). if is_named (places 0 1 ∷ []) p.0 then record p.1 { priority = priority } else p.1) (enumerate_from n es) ≡ es
+    → map (λ (p : ℕ × Entry). if is_named (positions 0 1 ∷ []) p.0 then record p.1 { priority = priority } else p.1) (enumerate_from n es) ≡ es
 unnamed_stay priority n [] some = refl
 unnamed_stay priority n (e ∷ es) some =
-    let head : (if is_named (places 0 1 ∷ []) n then record e { priority = priority } else e) ≡ e = ap (λ b. if b then record e { priority = priority } else e) (unnamed n some) in
+    let head : (if is_named (positions 0 1 ∷ []) n then record e { priority = priority } else e) ≡ e = ap (λ b. if b then record e { priority = priority } else e) (unnamed n some) in
     λ i. head i ∷ unnamed_stay priority (n + 1) es (omega arith) i
 
-first_has : (priority : ℕ) (e : Entry) (es : List Entry) → with_priority (e ∷ es) (places 0 1 ∷ []) priority ≡ record e { priority = priority } ∷ es
+first_has : (priority : ℕ) (e : Entry) (es : List Entry) → with_priority (e ∷ es) (positions 0 1 ∷ []) priority ≡ record e { priority = priority } ∷ es
 first_has priority e es = ap (λ (more : List Entry). record e { priority = priority } ∷ more) (unnamed_stay priority 1 es (omega arith))
 
 pub prioritized_first : (q : QueueState) (priority : ℕ) (e : Entry) (es : List Entry) → queue_of q ≡ e ∷ es
-    → queue_of (prioritized q (places 0 1 ∷ []) priority) ≡ record e { priority = priority } ∷ es
+    → queue_of (prioritized q (positions 0 1 ∷ []) priority) ≡ record e { priority = priority } ∷ es
 prioritized_first q priority e es is =
-    queue_of-edited q (with_priority (queue_of q) (places 0 1 ∷ []) priority)
-    ∙ ap (λ (xs : List Entry). with_priority xs (places 0 1 ∷ []) priority) is ∙ first_has priority e es
+    queue_of-edited q (with_priority (queue_of q) (positions 0 1 ∷ []) priority)
+    ∙ ap (λ (xs : List Entry). with_priority xs (positions 0 1 ∷ []) priority) is ∙ first_has priority e es
 
 -- an edit leaves the limits of a queue, and the greatest id that was given
 pub record SameLimits (p q : QueueState) : Type 0 where

@@ -45,7 +45,7 @@ use Rattle.state_laws.proofs.Within.{EndsFar, none_made, steps_within}
 -- ---- the state of a partition
 
 -- the last partition keeps its number
-last_numbered : (n : ℕ) (front : List Part) (p q : Part) → q.place ≡ p.place → AreNumbered n (front ++ p ∷ []) → AreNumbered n (front ++ q ∷ [])
+last_numbered : (n : ℕ) (front : List Part) (p q : Part) → q.index ≡ p.index → AreNumbered n (front ++ p ∷ []) → AreNumbered n (front ++ q ∷ [])
 last_numbered n [] p q same are = (same ∙ are.0, tt)
 last_numbered n (f ∷ front) p q same are = (are.0, last_numbered (suc n) front p q same are.1)
 
@@ -65,8 +65,8 @@ module _ (seat number : ℕ) (library : Library) (setup : Setup) where
   abbrev names : List (List ℕ)
   names = setup.outputs.names
 
-  module _ (places : ℕ → List ℕ) (kept : List KeptPartition) (q : KeptPartition) (i : Image)
-      (f : Filling number library setup places kept q.name (songs_of (state_steps q.kept)) i) (ask : EachAsks (state_steps q.kept)) where
+  module _ (homes : ℕ → List ℕ) (kept : List KeptPartition) (q : KeptPartition) (i : Image)
+      (f : Filling number library setup homes kept q.name (songs_of (state_steps q.kept)) i) (ask : EachAsks (state_steps q.kept)) where
     abbrev songs : ℕ
     songs = songs_of (state_steps q.kept)
 
@@ -80,7 +80,7 @@ module _ (seat number : ℕ) (library : Library) (setup : Setup) where
       there = f.there;
       listens = f.listens;
       part = f.own;
-      placed = ap (part_at f.client.place) f.parts ∙ ap (λ (n : ℕ). part_at n (f.front ++ f.own ∷ [])) (sym f.place) ∙ found_behind f.own.place f.front f.own [] f.apart refl;
+      placed = ap (part_at f.client.index) f.parts ∙ ap (λ (n : ℕ). part_at n (f.front ++ f.own ∷ [])) (sym f.index) ∙ found_behind f.own.index f.front f.own [] f.apart refl;
       has = f.has;
       room = (omega (arith, f.room.0), omega (arith, f.room.1));
     }
@@ -88,7 +88,7 @@ module _ (seat number : ℕ) (library : Library) (setup : Setup) where
     alone : ChangesAlone number f.front f.own [] i after
     alone = steps_alone seat number library read_bytes bytes_are_read f.front [] (state_steps q.kept) 0 f.own i (opened first_options) ask
         (state_fits seat number library read_bytes bytes_are_read q.kept first_options) begins_with
-        (record { client = f.client; there = f.there; place = f.place; apart = f.apart; parts = f.parts })
+        (record { client = f.client; there = f.there; index = f.index; apart = f.apart; parts = f.parts })
 
     comes_back : PlayerHas library number 0 after (given_back (is_song library) q.kept)
     comes_back = state_comes_back seat number 0 library read_bytes i q.kept first_options bytes_are_read ask begins_with
@@ -96,20 +96,20 @@ module _ (seat number : ℕ) (library : Library) (setup : Setup) where
     abbrev there : IsIn number f.front alone.other [] after
     there = alone.there
 
-    there_now : part_at there.client.place after.parts ≡ Some alone.other
+    there_now : part_at there.client.index after.parts ≡ Some alone.other
     there_now =
-        ap (part_at there.client.place) there.parts ∙ ap (λ (n : ℕ). part_at n (f.front ++ alone.other ∷ [])) (sym there.place)
-        ∙ found_behind alone.other.place f.front alone.other [] there.apart refl
+        ap (part_at there.client.index) there.parts ∙ ap (λ (n : ℕ). part_at n (f.front ++ alone.other ∷ [])) (sym there.index)
+        ∙ found_behind alone.other.index f.front alone.other [] there.apart refl
 
     same_part : comes_back.part ≡ alone.other
     same_part =
         let same_client : comes_back.client ≡ there.client = one_client comes_back.client there.client (sym comes_back.there ∙ there.there) in
-        one_part comes_back.part alone.other (sym comes_back.placed ∙ ap (λ (k : Client). part_at k.place after.parts) same_client ∙ there_now)
+        one_part comes_back.part alone.other (sym comes_back.placed ∙ ap (λ (k : Client). part_at k.index after.parts) same_client ∙ there_now)
 
     parts_are : after.parts ≡ f.front ++ alone.other ∷ []
     parts_are = there.parts
 
-    abbrev is_filled : Ready number library setup places (kept ++ q ∷ []) after
+    abbrev is_filled : Ready number library setup homes (kept ++ q ∷ []) after
     is_filled = record {
       same = comes_back.same;
       openings = alone.openings ∙ f.openings;
@@ -118,10 +118,10 @@ module _ (seat number : ℕ) (library : Library) (setup : Setup) where
       listens = comes_back.listens;
       part = comes_back.part;
       placed = comes_back.placed;
-      numbered = subst (AreNumbered 0) (sym parts_are) (last_numbered 0 f.front f.own alone.other alone.keeps.place f.numbered);
-      fit = subst (Each (Fit names places)) (sym parts_are)
-          (each_with (Fit names places) f.front alone.other (first_of (Fit names places) f.front f.own f.fit)
-          (fit_kept names places f.own alone.other alone.keeps (last_of (Fit names places) f.front f.own f.fit)));
+      numbered = subst (AreNumbered 0) (sym parts_are) (last_numbered 0 f.front f.own alone.other alone.keeps.index f.numbered);
+      fit = subst (Each (Fit names homes)) (sym parts_are)
+          (each_with (Fit names homes) f.front alone.other (first_of (Fit names homes) f.front f.own f.fit)
+          (fit_kept names homes f.own alone.other alone.keeps (last_of (Fit names homes) f.front f.own f.fit)));
       have = subst (λ (ps : List Part). Pairwise (HasBack library) ps (kept ++ q ∷ [])) (sym parts_are)
           (pairwise_with (HasBack library) f.front kept alone.other q f.have
           (record {
@@ -129,8 +129,8 @@ module _ (seat number : ℕ) (library : Library) (setup : Setup) where
             has = subst (λ (p : Part). Has library.rate p (given_back (is_song library) q.kept)) same_part comes_back.has;
           }));
       inside = λ n less.
-          ap (λ (ps : List Part). is_named (places n) (names_of ps)) parts_are
-          ∙ ap (is_named (places n)) (names_with f.front f.own alone.other alone.keeps.name) ∙ f.inside n less;
+          ap (λ (ps : List Part). is_named (homes n) (names_of ps)) parts_are
+          ∙ ap (is_named (homes n)) (names_with f.front f.own alone.other alone.keeps.name) ∙ f.inside n less;
       outside = f.outside;
     }
 
@@ -145,7 +145,7 @@ module _ (seat number : ℕ) (library : Library) (setup : Setup) where
         (state_fits seat number library read_bytes bytes_are_read q.kept first_options) begins_with far in
         let client : ends.1.0 ≡ comes_back.client = one_client ends.1.0 comes_back.client (sym ends.1.2 ∙ comes_back.there) in
         let part : ends.1.1 ≡ comes_back.part =
-        one_part ends.1.1 comes_back.part (sym ends.1.3 ∙ ap (λ (k : Client). part_at k.place after.parts) client ∙ comes_back.placed) in
+        one_part ends.1.1 comes_back.part (sym ends.1.3 ∙ ap (λ (k : Client). part_at k.index after.parts) client ∙ comes_back.placed) in
         let low : Each (CanMove left setup.limits.max_cut) (f.front ++ f.own ∷ []) =
         subst (Each (CanMove left setup.limits.max_cut)) f.parts (fewer_moves left (lines_of (state_steps q.kept) + left) setup.limits.max_cut i.parts (omega arith) h.moves) in
         let last : CanMove left setup.limits.max_cut alone.other =
@@ -170,44 +170,44 @@ module _ (seat number : ℕ) (library : Library) (setup : Setup) where
       ∙ lines_joined seat number (map bytes_of_step xs) (map bytes_of_step ys) i
 
   module _ (sets : AreSetUp setup.outputs) where
-    one_told : (places : ℕ → List ℕ) (kept : List KeptPartition) (q : KeptPartition) (i : Image) → Ready number library setup places kept i
+    one_told : (homes : ℕ → List ℕ) (kept : List KeptPartition) (q : KeptPartition) (i : Image) → Ready number library setup homes kept i
         → is_partition_name q.name ≡ true → is_named q.name (names_of i.parts) ≡ false → length i.parts < 16 → CanBeTold setup q
-        → Ready number library setup (home_by_all setup.outputs q.outputs.items q.name places) (kept ++ q ∷ []) (told (partition_steps q) i)
-    one_told places kept q i r valid new few can =
+        → Ready number library setup (home_by_all setup.outputs q.outputs.items q.name homes) (kept ++ q ∷ []) (told (partition_steps q) i)
+    one_told homes kept q i r valid new few can =
         let songs : ℕ = songs_of (state_steps q.kept) in
-        let now : ℕ → List ℕ = home_by_all setup.outputs q.outputs.items q.name places in
+        let now : ℕ → List ℕ = home_by_all setup.outputs q.outputs.items q.name homes in
         let opening : List PlayerStep = step.Open q.name ∷ step.Go q.name ∷ [] in
         let bringing : List PlayerStep = map step.Bring q.outputs.items in
         let first : Image = told opening i in
         let second : Image = told bringing first in
-        let fills : Filling number library setup places kept q.name songs first =
-        opens_and_fills seat number library setup places kept q.name songs i r valid new few can.1 in
+        let fills : Filling number library setup homes kept q.name songs first =
+        opens_and_fills seat number library setup homes kept q.name songs i r valid new few can.1 in
         let brought : Filling number library setup now kept q.name songs second =
-        brings_all seat number library setup sets kept q.name songs q.outputs.items places first fills in
+        brings_all seat number library setup sets kept q.name songs q.outputs.items homes first fills in
         let last : told (partition_steps q) i ≡ after_steps seat number read_bytes (state_steps q.kept) second =
         told_joined bringing (own_steps q) first ∙ own_all seat number (state_steps q.kept) second in
         subst (Ready number library setup now (kept ++ q ∷ [])) (sym last) (is_filled now kept q second brought can.0)
 
     -- the same, where its lines pass no limit
     abbrev ReadyWithin : (ℕ → List ℕ) → List KeptPartition → ℕ → Image → Image → Type 0
-    ReadyWithin places kept left i j = (r : Ready number library setup places kept j) × (LeadsWithin i j × IsFarFrom seat left setup.limits.max_cut r.part j)
+    ReadyWithin homes kept left i j = (r : Ready number library setup homes kept j) × (LeadsWithin i j × IsFarFrom seat left setup.limits.max_cut r.part j)
 
     abbrev lines_of_one : KeptPartition → ℕ
     lines_of_one q = length q.outputs.items + lines_of (state_steps q.kept)
 
-    one_within : (left : ℕ) (places : ℕ → List ℕ) (kept : List KeptPartition) (q : KeptPartition) (i : Image) (r : Ready number library setup places kept i)
+    one_within : (left : ℕ) (homes : ℕ → List ℕ) (kept : List KeptPartition) (q : KeptPartition) (i : Image) (r : Ready number library setup homes kept i)
         → is_partition_name q.name ≡ true → is_named q.name (names_of i.parts) ≡ false → length i.parts < 16 → CanBeTold setup q
         → IsFarFrom seat (suc (suc (length q.outputs.items + (lines_of (state_steps q.kept) + left)))) setup.limits.max_cut r.part i
-        → ReadyWithin (home_by_all setup.outputs q.outputs.items q.name places) (kept ++ q ∷ []) left i (told (partition_steps q) i)
-    one_within left places kept q i r valid new few can h =
+        → ReadyWithin (home_by_all setup.outputs q.outputs.items q.name homes) (kept ++ q ∷ []) left i (told (partition_steps q) i)
+    one_within left homes kept q i r valid new few can h =
         let songs : ℕ = songs_of (state_steps q.kept) in
-        let now : ℕ → List ℕ = home_by_all setup.outputs q.outputs.items q.name places in
+        let now : ℕ → List ℕ = home_by_all setup.outputs q.outputs.items q.name homes in
         let bringing : List PlayerStep = map step.Bring q.outputs.items in
         let first : Image = told (step.Open q.name ∷ step.Go q.name ∷ []) i in
         let second : Image = told bringing first in
         let third : Image = after_steps seat number read_bytes (state_steps q.kept) second in
-        let opens = opens_within seat number library setup places kept q.name songs i r valid new few can.1 (length q.outputs.items + (lines_of (state_steps q.kept) + left)) h in
-        let brings = brings_within seat number library setup sets kept q.name songs q.outputs.items (lines_of (state_steps q.kept) + left) places first opens.0 opens.1.1 in
+        let opens = opens_within seat number library setup homes kept q.name songs i r valid new few can.1 (length q.outputs.items + (lines_of (state_steps q.kept) + left)) h in
+        let brings = brings_within seat number library setup sets kept q.name songs q.outputs.items (lines_of (state_steps q.kept) + left) homes first opens.0 opens.1.1 in
         let owns = own_far now kept q second brings.0 can.0 left brings.1.1 in
         let last : told (partition_steps q) i ≡ third = told_joined bringing (own_steps q) first ∙ own_all seat number (state_steps q.kept) second in
         subst (ReadyWithin now (kept ++ q ∷ []) left i) (sym last)
@@ -215,8 +215,8 @@ module _ (seat number : ℕ) (library : Library) (setup : Setup) where
 
     -- the homes that partitions give to outputs, one after the other
     abbrev homes_by : List KeptPartition → (ℕ → List ℕ) → ℕ → List ℕ
-    homes_by [] places = places
-    homes_by (q ∷ more) places = homes_by more (home_by_all setup.outputs q.outputs.items q.name places)
+    homes_by [] homes = homes
+    homes_by (q ∷ more) homes = homes_by more (home_by_all setup.outputs q.outputs.items q.name homes)
 
     abbrev CanFollow : KeptPartition → Type 0
     CanFollow q = (is_partition_name q.name ≡ true) × CanBeTold setup q
@@ -236,17 +236,17 @@ module _ (seat number : ℕ) (library : Library) (setup : Setup) where
     abbrev called : List KeptPartition → List (List ℕ)
     called qs = map (λ (q : KeptPartition). q.name) qs
 
-    all_told : (more : List KeptPartition) (places : ℕ → List ℕ) (kept : List KeptPartition) (i : Image) → Ready number library setup places kept i
+    all_told : (more : List KeptPartition) (homes : ℕ → List ℕ) (kept : List KeptPartition) (i : Image) → Ready number library setup homes kept i
         → AreNew (called kept) more → length kept + length more ≤ 16 → Each CanFollow more
-        → Ready number library setup (homes_by more places) (kept ++ more) (told (flat_map partition_steps more) i)
-    all_told [] places kept i r new few can = subst (λ (qs : List KeptPartition). Ready number library setup places qs i) (sym (append-nil kept)) r
-    all_told (q ∷ more) places kept i r new few can =
+        → Ready number library setup (homes_by more homes) (kept ++ more) (told (flat_map partition_steps more) i)
+    all_told [] homes kept i r new few can = subst (λ (qs : List KeptPartition). Ready number library setup homes qs i) (sym (append-nil kept)) r
+    all_told (q ∷ more) homes kept i r new few can =
         let next : Image = told (partition_steps q) i in
-        let now : ℕ → List ℕ = home_by_all setup.outputs q.outputs.items q.name places in
+        let now : ℕ → List ℕ = home_by_all setup.outputs q.outputs.items q.name homes in
         let so : names_of i.parts ≡ called kept = names_kept i.parts kept r.have in
         let many : length i.parts ≡ length kept = length_kept i.parts kept r.have in
         let one : Ready number library setup now (kept ++ q ∷ []) next =
-        one_told places kept q i r can.0.0 (ap (is_named q.name) so ∙ new.0) (omega (arith, few, many)) can.0.1 in
+        one_told homes kept q i r can.0.0 (ap (is_named q.name) so ∙ new.0) (omega (arith, few, many)) can.0.1 in
         let longer : called (kept ++ q ∷ []) ≡ called kept ++ q.name ∷ [] = map-append (λ (q : KeptPartition). q.name) kept (q ∷ []) in
         let rest : Ready number library setup (homes_by more now) ((kept ++ q ∷ []) ++ more) (told (flat_map partition_steps more) next) =
         all_told more now (kept ++ q ∷ []) next one (subst (λ (ns : List (List ℕ)). AreNew ns more) (sym longer) new.1)
@@ -259,19 +259,19 @@ module _ (seat number : ℕ) (library : Library) (setup : Setup) where
     lines_of_all [] = 0
     lines_of_all (q ∷ more) = suc (suc (lines_of_one q)) + lines_of_all more
 
-    all_within : (more : List KeptPartition) (left : ℕ) (places : ℕ → List ℕ) (kept : List KeptPartition) (i : Image) (r : Ready number library setup places kept i)
+    all_within : (more : List KeptPartition) (left : ℕ) (homes : ℕ → List ℕ) (kept : List KeptPartition) (i : Image) (r : Ready number library setup homes kept i)
         → AreNew (called kept) more → length kept + length more ≤ 16 → Each CanFollow more
         → IsFarFrom seat (lines_of_all more + left) setup.limits.max_cut r.part i → LeadsWithin i (told (flat_map partition_steps more) i)
-    all_within [] left places kept i r new few can h = ([], refl, tt, tt)
-    all_within (q ∷ more) left places kept i r new few can h =
+    all_within [] left homes kept i r new few can h = ([], refl, tt, tt)
+    all_within (q ∷ more) left homes kept i r new few can h =
         let next : Image = told (partition_steps q) i in
-        let now : ℕ → List ℕ = home_by_all setup.outputs q.outputs.items q.name places in
+        let now : ℕ → List ℕ = home_by_all setup.outputs q.outputs.items q.name homes in
         let so : names_of i.parts ≡ called kept = names_kept i.parts kept r.have in
         let many : length i.parts ≡ length kept = length_kept i.parts kept r.have in
         let far : IsFarFrom seat (suc (suc (length q.outputs.items + (lines_of (state_steps q.kept) + (lines_of_all more + left))))) setup.limits.max_cut r.part i =
         subst (λ (n : ℕ). IsFarFrom seat n setup.limits.max_cut r.part i) (omega arith) h in
         let one : ReadyWithin now (kept ++ q ∷ []) (lines_of_all more + left) i next =
-        one_within (lines_of_all more + left) places kept q i r can.0.0 (ap (is_named q.name) so ∙ new.0) (omega (arith, few, many)) can.0.1 far in
+        one_within (lines_of_all more + left) homes kept q i r can.0.0 (ap (is_named q.name) so ∙ new.0) (omega (arith, few, many)) can.0.1 far in
         let longer : called (kept ++ q ∷ []) ≡ called kept ++ q.name ∷ [] = map-append (λ (q : KeptPartition). q.name) kept (q ∷ []) in
         let rest : LeadsWithin next (told (flat_map partition_steps more) next) =
         all_within more left now (kept ++ q ∷ []) next one.0 (subst (λ (ns : List (List ℕ)). AreNew ns more) (sym longer) new.1)
@@ -298,7 +298,7 @@ module _ (seat number : ℕ) (library : Library) (setup : Setup) where
           listens = refl;
           front = [];
           own = first_part setup;
-          place = refl;
+          index = refl;
           parts = refl;
           numbered = (refl, tt);
           apart = refl;

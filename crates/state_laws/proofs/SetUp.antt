@@ -20,7 +20,7 @@ use Rattle.state_laws.proofs.Numbers.{same_text, text_same}
 texts_differ : (one other : List ℕ) → one ≢ other → bytes_eq one other ≡ false
 texts_differ one other apart = false_from_ne_true (bytes_eq one other) (λ e. apart (same_text one other e))
 
--- a name that is another one than each before it is found at its own place
+-- a name that is another one than each before it is found at its own index
 found_by_name : (names : List (List ℕ)) (number : ℕ) → AllPairs (λ one other. one ≢ other) names → number < length names
     → position (λ name. bytes_eq name (slice_index_or names number [])) names ≡ Some number
 found_by_name names number apart within =

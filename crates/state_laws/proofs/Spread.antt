@@ -140,7 +140,7 @@ has_outputs rate p player outputs switched h = record {
 }
 
 -- a partition to which an output does not come has what it had
-pub has_left : (rate m to : ℕ) (c : Option Carried) (p : Part) (player : Player) → (p.place == to) ≡ false → Has rate p player → Has rate (moved_output m to c p) player
+pub has_left : (rate m to : ℕ) (c : Option Carried) (p : Part) (player : Player) → (p.index == to) ≡ false → Has rate p player → Has rate (moved_output m to c p) player
 has_left rate m to None p player other h = h
 has_left rate m to (Some c) p player other h =
     let left : AreSwitched (outputs_moved m false c p.outputs) player.outputs =
@@ -153,9 +153,9 @@ has_left rate m to (Some c) p player other h =
 pub has_more : (rate m to : ℕ) (c : Option Carried) (p : Part) (player : Player) → player.outputs ≡ [] → Has rate p player → Has rate (moved_output m to c p) player
 has_more rate m to None p player none h = h
 has_more rate m to (Some c) p player none h =
-    has_outputs rate p player (outputs_moved m (p.place == to) c p.outputs)
-    (subst (AreSwitched (outputs_moved m (p.place == to) c p.outputs)) (sym none)
-    (unsaid (outputs_moved m (p.place == to) c p.outputs) (known_after m c (p.place == to) p.outputs h.outputs.known))) h
+    has_outputs rate p player (outputs_moved m (p.index == to) c p.outputs)
+    (subst (AreSwitched (outputs_moved m (p.index == to) c p.outputs)) (sym none)
+    (unsaid (outputs_moved m (p.index == to) c p.outputs) (known_after m c (p.index == to) p.outputs h.outputs.known))) h
 
 -- ---- all partitions
 
@@ -170,16 +170,16 @@ home_cases false comes x name new old e f = f
 
 -- the partition of a name is the one of a number
 abbrev pub IsNamedSo : ℕ → List ℕ → Part → Type 0
-IsNamedSo to name p = (p.place == to) ≡ bytes_eq name p.name
+IsNamedSo to name p = (p.index == to) ≡ bytes_eq name p.name
 
 pub fit_moved : (names : List (List ℕ)) (home : ℕ → List ℕ) (m to : ℕ) (name : List ℕ) (c : Carried) (p : Part) → m < 8 → c.failed ≡ false
     → IsNamedSo to name p → Fit names home p → Fit names (moved_home m name home) (moved_output m to (Some c) p)
 fit_moved names home m to name c p low sound is h = record {
-  all = names_after m c (p.place == to) p.outputs ∙ h.all;
-  here = length_after m c (p.place == to) p.outputs ∙ h.here;
-  stands = λ n. here_after m c (p.place == to) p.outputs n (omega (arith, low, h.here))
-      ∙ home_cases (n == m) (p.place == to) (is_output p.outputs n) p.name name (home n) is (h.stands n);
-  sound = λ n. sound_after m c (p.place == to) p.outputs n sound (h.sound n);
+  all = names_after m c (p.index == to) p.outputs ∙ h.all;
+  here = length_after m c (p.index == to) p.outputs ∙ h.here;
+  stands = λ n. here_after m c (p.index == to) p.outputs n (omega (arith, low, h.here))
+      ∙ home_cases (n == m) (p.index == to) (is_output p.outputs n) p.name name (home n) is (h.stands n);
+  sound = λ n. sound_after m c (p.index == to) p.outputs n sound (h.sound n);
 }
 
 pub all_fit_moved : (names : List (List ℕ)) (home : ℕ → List ℕ) (m to : ℕ) (name : List ℕ) (c : Carried) (ps : List Part) → m < 8 → c.failed ≡ false

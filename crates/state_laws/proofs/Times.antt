@@ -16,13 +16,13 @@ use Rattle.mpd_text.specs.Answers.Range.{after, before, has_byte}
 use Rattle.mpd_text.proofs.Digits.{own}
 use Rattle.queue_commands.specs.Playback.{frame_at}
 use Rattle.song_db.specs.Lines.{duration_text, millis}
-use Rattle.state_laws.specs.Own.{IsJustBefore, PlacesComeBack}
+use Rattle.state_laws.specs.Own.{IsJustBefore, OffsetsComeBack}
 use Rattle.state_laws.proofs.Words.{number_decimal}
 
--- a time is told of a place, the frame of that time is a place again, and a time is told of that
-rounds : (rate time place frame back : ℕ) → 1000 ≤ rate → time * rate ≤ place * 1000 → frame * 1000 ≤ time * rate → time * rate < frame * 1000 + 1000
-    → back * rate ≤ frame * 1000 → frame * 1000 < back * rate + rate → (frame ≤ place) × (back ≤ time) × (time ≤ back + 1)
-rounds rate time place frame back fast a b c d e =
+-- a time is told of an offset, the frame of that time is an offset again, and a time is told of that
+rounds : (rate time offset frame back : ℕ) → 1000 ≤ rate → time * rate ≤ offset * 1000 → frame * 1000 ≤ time * rate → time * rate < frame * 1000 + 1000
+    → back * rate ≤ frame * 1000 → frame * 1000 < back * rate + rate → (frame ≤ offset) × (back ≤ time) × (time ≤ back + 1)
+rounds rate time offset frame back fast a b c d e =
     let low : back ≤ time = elim (cases_lt time back) [
       | inl less ↦
           let more : suc time * rate ≤ back * rate = mul-le (suc time) rate back rate (omega arith) (omega arith) in
@@ -39,20 +39,20 @@ rounds rate time place frame back fast a b c d e =
     ] in
     (omega arith, low, high)
 
-pub places_come_back : PlacesComeBack
-places_come_back rate place frames fast small inside =
-    let time : ℕ = millis rate place in
+pub offsets_come_back : OffsetsComeBack
+offsets_come_back rate offset frames fast small inside =
+    let time : ℕ = millis rate offset in
     let frame : ℕ = time * rate / 1000 in
     let back : ℕ = millis rate frame in
-    let t = div-add-mod' (place * 1000) rate in
-    let tm = mod_below (place * 1000) rate (omega arith) in
+    let t = div-add-mod' (offset * 1000) rate in
+    let tm = mod_below (offset * 1000) rate (omega arith) in
     let f = div-add-mod' (time * rate) 1000 in
     let fm = mod_below (time * rate) 1000 (omega arith) in
     let b = div-add-mod' (frame * 1000) rate in
     let bm = mod_below (frame * 1000) rate (omega arith) in
-    let all : (frame ≤ place) × (back ≤ time) × (time ≤ back + 1) = rounds rate time place frame back fast (omega arith) (omega arith) (omega arith) (omega arith) (omega arith) in
+    let all : (frame ≤ offset) × (back ≤ time) × (time ≤ back + 1) = rounds rate time offset frame back fast (omega arith) (omega arith) (omega arith) (omega arith) (omega arith) in
     let same : min (frame_at rate time) frames ≡ frame = omega (arith, all.0) in
-    subst (IsJustBefore rate place) (sym same) (record { earlier = all.0; no_later = all.1; told = all.2 })
+    subst (IsJustBefore rate offset) (sym same) (record { earlier = all.0; no_later = all.1; told = all.2 })
 
 -- a text of a time is read as this time
 no_point : (front back : List ℕ) → list_all is_ascii_digit front ≡ true → position_or_len (λ (c : ℕ). c == 46) (front ++ (46 ∷ back)) ≡ length front

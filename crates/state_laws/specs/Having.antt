@@ -53,14 +53,14 @@ pub record AreSwitched (outputs : OutputsData) (said : List KeptOutput) : Type 0
 -- the player is so many seconds into a song, or at its end where it is shorter
 abbrev pub IsInto : ℕ → Entry → PlayerState → List ℕ → Type 0
 IsInto rate entry p elapsed =
-    (time : ℕ) × (millis_of elapsed ≡ millis time) × (p.place ≡ min (frame_at rate time) entry.song.frames)
+    (time : ℕ) × (millis_of elapsed ≡ millis time) × (p.offset ≡ min (frame_at rate time) entry.song.frames)
 
 abbrev pub IsPlayed : ℕ → Entry → PlayerState → KeptPlayback → Type 0
 IsPlayed rate entry p playback.Stop = p.playback ≡ state.Stop
 IsPlayed rate entry p (playback.Play elapsed) = (p.playback ≡ state.Play) × IsInto rate entry p elapsed
 IsPlayed rate entry p (playback.Pause elapsed) = (p.playback ≡ state.Pause) × IsInto rate entry p elapsed
 
--- the song at a place is the current one, and is played or stands still so; without one the player is stopped
+-- the song at a position is the current one, and is played or stands still so; without one the player is stopped
 abbrev pub IsCurrent : ℕ → Part → Option (ℕ × KeptPlayback) → Type 0
 IsCurrent rate part None = (part.player.current ≡ None) × (part.player.playback ≡ state.Stop)
 IsCurrent rate part (Some song) =

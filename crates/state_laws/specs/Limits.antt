@@ -32,9 +32,9 @@ pub record HasLeft (seat events : ℕ) (i : Image) (player : PlayerState) : Type
 abbrev pub IsFar : ℕ → ℕ → ℕ → Image → Type 0
 IsFar seat number events i =
     (client : Client) × (part : Part) × (client_of number i.clients ≡ Some client)
-    × (part_at client.place i.parts ≡ Some part) × HasLeft seat events i part.player
+    × (part_at client.index i.parts ≡ Some part) × HasLeft seat events i part.player
 
--- events led from a daemon to another: each was told what the player of one thread tells at its place, and none
+-- events led from a daemon to another: each was told what the player of one thread tells at its position, and none
 -- passed a limit
 abbrev pub LeadsWithin : Image → Image → Type 0
 LeadsWithin i j = (entries : List LogEntry) × (j ≡ replay i entries) × AreTold i entries × AllWithin i entries

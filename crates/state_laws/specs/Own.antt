@@ -31,17 +31,17 @@ use Rattle.state_laws.specs.Bytes.{read_bytes}
 use Rattle.state_laws.specs.Having.{kept_entry, said_of}
 use Rattle.state_laws.specs.Saying.{HasRoom, after_steps, begun, is_song}
 
--- a place in a song is not behind another one, and is told as the same time or as a thousandth of a second less
-pub record IsJustBefore (rate place back : ℕ) : Type 0 where
-  pub earlier : back ≤ place
-  pub no_later : millis rate back ≤ millis rate place
-  pub told : millis rate place ≤ millis rate back + 1
+-- an offset in a song is not behind another one, and is told as the same time or as a thousandth of a second less
+pub record IsJustBefore (rate offset back : ℕ) : Type 0 where
+  pub earlier : back ≤ offset
+  pub no_later : millis rate back ≤ millis rate offset
+  pub told : millis rate offset ≤ millis rate back + 1
 
--- a place in a song whose time is told, and that is sought by this time
-abbrev pub PlacesComeBack : Type 0
-PlacesComeBack =
-    (rate place frames : ℕ) → 1000 ≤ rate → place < 2 ^ 64 → place ≤ frames
-    → IsJustBefore rate place (min (frame_at rate (millis rate place)) frames)
+-- an offset in a song whose time is told, and that is sought by this time
+abbrev pub OffsetsComeBack : Type 0
+OffsetsComeBack =
+    (rate offset frames : ℕ) → 1000 ≤ rate → offset < 2 ^ 64 → offset ≤ frames
+    → IsJustBefore rate offset (min (frame_at rate (millis rate offset)) frames)
 
 -- the texts by which a player tells what it is set to
 abbrev pub options_of : Part → KeptOptions
@@ -66,12 +66,12 @@ playback_of state.Stop elapsed = playback.Stop
 playback_of state.Play elapsed = playback.Play elapsed
 playback_of state.Pause elapsed = playback.Pause elapsed
 
--- the current song is the one at this place, or there is none
+-- the current song is the one at this position, or there is none
 abbrev pub IsSongOf : ℕ → Part → ℕ → Option KeptSong → Type 0
-IsSongOf rate part place None = part.player.current ≡ None
-IsSongOf rate part place (Some song) =
-    (entry : Entry) × (slice_get (queue_of part.queue) place ≡ Some entry) × (part.player.current ≡ Some entry.id)
-    × (song.playback ≡ playback_of part.player.playback (duration_text (millis rate part.player.place)))
+IsSongOf rate part position None = part.player.current ≡ None
+IsSongOf rate part position (Some song) =
+    (entry : Entry) × (slice_get (queue_of part.queue) position ≡ Some entry) × (part.player.current ≡ Some entry.id)
+    × (song.playback ≡ playback_of part.player.playback (duration_text (millis rate part.player.offset)))
 
 -- what is kept is what a player tells of itself
 pub record IsKeptOf (rate : ℕ) (part : Part) (kept : Kept) : Type 0 where
@@ -94,19 +94,19 @@ pub record CanComeBack (library : Library) (part : Part) : Type 0 where
   pub volume : part.volume ≤ 100
   pub crossfade : part.player.crossfade ≤ 3600
   pub rate : 1000 ≤ library.rate
-  pub place : part.player.place < 2 ^ 64
-  pub time : millis library.rate part.player.place < 1000000000000
+  pub offset : part.player.offset < 2 ^ 64
+  pub time : millis library.rate part.player.offset < 1000000000000
   pub songs : AreThere library (map kept_entry (queue_of part.queue))
 
--- the song at this place is the current one again, and is played or stands still as before. Where it is as long as
+-- the song at this position is the current one again, and is played or stands still as before. Where it is as long as
 -- before, it is at the same time, or a thousandth of a second before that.
 abbrev pub IsBackAt : ℕ → Part → Part → ℕ → Option KeptSong → Type 0
-IsBackAt rate part other place None = (other.player.current ≡ None) × (other.player.playback ≡ state.Stop)
-IsBackAt rate part other place (Some song) =
-    (entry : Entry) × (slice_get (queue_of other.queue) place ≡ Some entry) × (other.player.current ≡ Some entry.id)
+IsBackAt rate part other position None = (other.player.current ≡ None) × (other.player.playback ≡ state.Stop)
+IsBackAt rate part other position (Some song) =
+    (entry : Entry) × (slice_get (queue_of other.queue) position ≡ Some entry) × (other.player.current ≡ Some entry.id)
     × (other.player.playback ≡ part.player.playback)
-    × (is_stopped part.player.playback ≡ false → part.player.place ≤ entry.song.frames
-    → IsJustBefore rate part.player.place other.player.place)
+    × (is_stopped part.player.playback ≡ false → part.player.offset ≤ entry.song.frames
+    → IsJustBefore rate part.player.offset other.player.offset)
 
 -- A player has all that another one told, but for ids and versions: also outputs, but those that it does not have or
 -- that have failed.
@@ -127,7 +127,7 @@ pub record IsBack (rate : ℕ) (part other : Part) (kept : Kept) : Type 0 where
 abbrev pub IsBackFor : ℕ → ℕ → Part → Kept → Image → Type 0
 IsBackFor rate number part kept i =
     (client : Client) × (other : Part) × (client_of number i.clients ≡ Some client)
-    × (part_at client.place i.parts ≡ Some other) × IsBack rate part other kept
+    × (part_at client.index i.parts ≡ Some other) × IsBack rate part other kept
 
 -- A player that was just opened, that is told by their bytes the lines of a state which another one told, is as that
 -- one was, but for ids and versions.

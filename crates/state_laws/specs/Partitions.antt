@@ -154,7 +154,7 @@ pub record ShareOutputs (outputs : OutputsData) (parts : List Part) : Type 0 whe
       → (part : Part) × (filter (λ (p : Part). is_output p.outputs number) parts ≡ part ∷ [])
   pub no_more : Each (HasNoMore outputs) parts
 
--- A partition is as another one was: its queue, modes, volume, current song and the place in it, and just those outputs
+-- A partition is as another one was: its queue, modes, volume, current song and the offset in it, and just those outputs
 -- stand in it that stood in the other one, each on or off as it was.
 pub record IsPartitionBack (rate : ℕ) (part other : Part) (kept : Kept) : Type 0 where
   pub back : IsBack rate part other kept

@@ -1,7 +1,7 @@
 -- The lines of a state, said to the player of one thread (MPD protocol reference, Command reference).
 use Rattle.std.specs.Prelude.{ℕ, ◌≡◌, ◌≤◌, ◌+◌, Bool, true, false, List, [], ◌∷◌, length, Option, Some, None, codes, is_some, if◌then◌else◌}
 use Rattle.command_arguments.specs.Forms.{fade_of, song_mode_of, switch_of, uri_of, volume_of}
-use Rattle.command_arguments.specs.declared.forms.Place.TheVariants.{At}
+use Rattle.command_arguments.specs.declared.forms.Position.TheVariants.{At}
 use Rattle.connected_clients.specs.Clients.{client_of}
 use Rattle.kept_state.specs.Lines.{Line, state_steps}
 use Rattle.kept_state.specs.Lines.{Line as lines}
@@ -131,13 +131,13 @@ pub record PlayerHas (library : Library) (number songs : ℕ) (i : Image) (playe
   pub there : client_of number i.clients ≡ Some client
   pub listens : client.pending.waiting ≡ None
   pub part : Part
-  pub placed : part_at client.place i.parts ≡ Some part
+  pub placed : part_at client.index i.parts ≡ Some part
   pub has : Has library.rate part player
   pub room : CanAdd part songs
 
 -- whether a player stands still
 abbrev pub stands_still : Option (ℕ × KeptPlayback) → Bool
-stands_still (Some (place, kept_playback.Pause elapsed)) = true
+stands_still (Some (position, kept_playback.Pause elapsed)) = true
 stands_still _ = false
 
 -- a seek leaves a paused player paused, where a reading says that the song is played: so the player must not be
@@ -198,7 +198,7 @@ OpensEmpty =
     (seat number songs : ℕ) (setup : Setup) (library : Library) → HasRoom setup songs
     → PlayerHas library number songs (begun seat number setup library) (opened first_options)
 
--- events led from a daemon to another, each told what the player of one thread tells at its place
+-- events led from a daemon to another, each told what the player of one thread tells at its position
 abbrev pub LeadsTo : Image → Image → Type 0
 LeadsTo i j = (entries : List LogEntry) × (j ≡ replay i entries) × AreTold i entries
 

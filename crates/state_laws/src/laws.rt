@@ -2,7 +2,7 @@
 ghost use Rattle.state_laws.specs.Assumed.{AssumptionsAreMet, SettingsAreSetUp, SettingsLeaveRoom};
 ghost use Rattle.state_laws.specs.Bytes.{BytesAreRead, LinesEnd, OpenedComesBack};
 ghost use Rattle.state_laws.specs.Limits.{AllStayWithin, OpenedStaysWithin};
-ghost use Rattle.state_laws.specs.Own.{PlacesComeBack, PlayersComeBack};
+ghost use Rattle.state_laws.specs.Own.{OffsetsComeBack, PlayersComeBack};
 ghost use Rattle.state_laws.specs.Partitions.{AllLinesHappen, AllPlayersComeBack, PartitionsComeBack};
 ghost use Rattle.state_laws.specs.Saying.{LineIsRead, OpensEmpty, StateComesBack, StepsHappen};
 ghost use Rattle.state_laws.specs.Telling.{LinesAreOfState, StepsAreTold, TextComesBack, TextIsSteps, ToldPlayersComeBack};
@@ -29,9 +29,9 @@ pub fn texts_come_back()
 {}
 
 /// A player that was just opened, and is told what another one told of itself, is as that one was, but for ids and
-/// versions; a place in a song may be up to a thousandth of a second earlier.
+/// versions; an offset in a song may be up to a thousandth of a second earlier.
 pub fn players_come_back()
-    ensures places { PlacesComeBack }
+    ensures offsets { OffsetsComeBack }
     ensures players { PlayersComeBack }
 {}
 

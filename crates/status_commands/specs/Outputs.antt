@@ -30,7 +30,7 @@ output_lines outputs row = output_name_lines row.0 row.1 ++ (plugin_line ++ enab
 abbrev pub lines_if_here : OutputsData → ℕ × List ℕ → List ℕ
 lines_if_here outputs row = if is_output outputs row.0 then output_lines outputs row else []
 
--- the outputs of the partition, by number: the place of the name among those of all outputs
+-- the outputs of the partition, by number: the index of the name among those of all outputs
 abbrev pub outputs : Asked → Part → CommandResult
 outputs asked part = shows asked (flat_map (lines_if_here part.outputs) (enumerate_from 0 part.outputs.names))
 

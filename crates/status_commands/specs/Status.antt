@@ -115,20 +115,20 @@ queue_lines name version length playback =
 abbrev pub queue_lines_of : Part → List ℕ
 queue_lines_of part = queue_lines part.name part.queue.version (length (queue_of part.queue)) part.player.playback
 
--- a song that is there, by its place and its id
-unfoldable pub song_place_lines : ℕ → ℕ → List ℕ
-song_place_lines place id = pair_line (codes "song") (decimal place) ++ pair_line (codes "songid") (decimal id)
+-- a song that is there, by its position and its id
+unfoldable pub song_position_lines : ℕ → ℕ → List ℕ
+song_position_lines position id = pair_line (codes "song") (decimal position) ++ pair_line (codes "songid") (decimal id)
 
-unfoldable pub next_place_lines : ℕ → ℕ → List ℕ
-next_place_lines place id = pair_line (codes "nextsong") (decimal place) ++ pair_line (codes "nextsongid") (decimal id)
+unfoldable pub next_position_lines : ℕ → ℕ → List ℕ
+next_position_lines position id = pair_line (codes "nextsong") (decimal position) ++ pair_line (codes "nextsongid") (decimal id)
 
 abbrev pub song_lines_at : Option ℕ → ℕ → List ℕ
 song_lines_at None id = []
-song_lines_at (Some place) id = song_place_lines place id
+song_lines_at (Some position) id = song_position_lines position id
 
 abbrev pub next_lines_at : Option ℕ → ℕ → List ℕ
 next_lines_at None id = []
-next_lines_at (Some place) id = next_place_lines place id
+next_lines_at (Some position) id = next_position_lines position id
 
 -- the current song
 abbrev pub current_lines : QueueState → Option ℕ → List ℕ
@@ -149,7 +149,7 @@ audio_text rate = decimal rate ++ codes ":16:2"
 
 -- how far a song is, how long it is, and what its frames are
 unfoldable pub elapsed_line : ℕ → ℕ → List ℕ
-elapsed_line rate place = pair_line (codes "elapsed") (duration_text (millis rate place))
+elapsed_line rate offset = pair_line (codes "elapsed") (duration_text (millis rate offset))
 
 unfoldable pub duration_line : ℕ → ℕ → List ℕ
 duration_line rate frames = pair_line (codes "duration") (duration_text (millis rate frames))
@@ -171,23 +171,23 @@ whole_seconds rate frames = seconds_rounded (millis rate frames)
 
 -- how far a song is and how long it is
 unfoldable pub time_line : ℕ → ℕ → ℕ → List ℕ
-time_line rate place frames = pair_line (codes "time") (decimal (whole_seconds rate place) ++ codes ":" ++ decimal (whole_seconds rate frames))
+time_line rate offset frames = pair_line (codes "time") (decimal (whole_seconds rate offset) ++ codes ":" ++ decimal (whole_seconds rate frames))
 
 abbrev pub time_of : ℕ → ℕ → Option Entry → List ℕ
-time_of rate place None = []
-time_of rate place (Some entry) = time_line rate place entry.song.frames
+time_of rate offset None = []
+time_of rate offset (Some entry) = time_line rate offset entry.song.frames
 
 -- in the everyday profile, how far the current song is and how long it is, if there is one
 abbrev pub current_time : ℕ → Part → Bool → List ℕ
 current_time rate part false = []
-current_time rate part true = time_of rate part.player.place (current_entry part.player (queue_of part.queue))
+current_time rate part true = time_of rate part.player.offset (current_entry part.player (queue_of part.queue))
 
 -- these are shown where the player does not stand still
 abbrev pub progress_lines : ℕ → Part → Bool → List ℕ
 progress_lines rate part everyday =
     if is_stopped part.player.playback then []
     else current_time rate part everyday
-    ++ (elapsed_line rate part.player.place ++ (current_duration rate part ++ audio_line rate))
+    ++ (elapsed_line rate part.player.offset ++ (current_duration rate part ++ audio_line rate))
 
 -- why the player stopped, where that was an error
 abbrev pub error_line : Option (List ℕ) → List ℕ

@@ -3,7 +3,7 @@
 ghost use Rattle.std.specs.Prelude.{◌≡◌, IfOk, OnOk, ◌++◌, codes, Some, option_map};
 ghost use Rattle.idle_notes.specs.Notes.{waits, notice_of};
 ghost use Rattle.std.specs.Option.{option_copied};
-ghost use Rattle.status_commands.specs.Status.{ToWait, ToGoOn, audio_line, consume_text as consume_text_lem, current_duration, current_lines, current_time, digit as digit_lem, duration_line, elapsed_line, error_line, fade_line, idles, last_lines, mode_lines, next_lines_of, next_place_lines, progress_lines, queue_lines, queue_lines_of, result_of, resumes, scan_line, shown_next, single_text as single_text_lem, song_place_lines, state_text as state_text_lem, status as status_lem, time_line, whole_seconds as whole_seconds_lem, wish_of, wished};
+ghost use Rattle.status_commands.specs.Status.{ToWait, ToGoOn, audio_line, consume_text as consume_text_lem, current_duration, current_lines, current_time, digit as digit_lem, duration_line, elapsed_line, error_line, fade_line, idles, last_lines, mode_lines, next_lines_of, next_position_lines, progress_lines, queue_lines, queue_lines_of, result_of, resumes, scan_line, shown_next, single_text as single_text_lem, song_position_lines, state_text as state_text_lem, status as status_lem, time_line, whole_seconds as whole_seconds_lem, wish_of, wished};
 ghost use Rattle.mpd_text.specs.declared.answers.answer.ErrorNumber.TheVariants.{Argument};
 ghost use Rattle.transitions.specs.Answers.{Responds, refuses_command, stays};
 ghost use Rattle.mpd_command.specs.declared.command.Command.TheVariants.{Connection};
@@ -140,16 +140,16 @@ fn push_current(lines: &mut Answer, part: &Part) -> Result<(), AllocError>
         return Ok(());
     };
     match part.queue.position_of(id) {
-        Some(place) => push_song_place(lines, place, id),
+        Some(position) => push_song_position(lines, position, id),
         None => Ok(()),
     }
 }
 
-#[tactic(auto, unfolding(crate::specs::Status::song_place_lines))]
-fn push_song_place(lines: &mut Answer, place: usize, id: u32) -> Result<(), AllocError>
-    ensures { OnOk result (lines.new ≡ lines.old ++ song_place_lines place id) }
+#[tactic(auto, unfolding(crate::specs::Status::song_position_lines))]
+fn push_song_position(lines: &mut Answer, position: usize, id: u32) -> Result<(), AllocError>
+    ensures { OnOk result (lines.new ≡ lines.old ++ song_position_lines position id) }
 {
-    lines.pair("song", place)?;
+    lines.pair("song", position)?;
     lines.pair("songid", id)
 }
 
@@ -161,16 +161,16 @@ fn push_next(lines: &mut Answer, part: &Part) -> Result<(), AllocError>
         return Ok(());
     };
     match part.queue.position_of(entry.id) {
-        Some(place) => push_next_place(lines, place, entry.id),
+        Some(position) => push_next_position(lines, position, entry.id),
         None => Ok(()),
     }
 }
 
-#[tactic(auto, unfolding(crate::specs::Status::next_place_lines))]
-fn push_next_place(lines: &mut Answer, place: usize, id: u32) -> Result<(), AllocError>
-    ensures { OnOk result (lines.new ≡ lines.old ++ next_place_lines place id) }
+#[tactic(auto, unfolding(crate::specs::Status::next_position_lines))]
+fn push_next_position(lines: &mut Answer, position: usize, id: u32) -> Result<(), AllocError>
+    ensures { OnOk result (lines.new ≡ lines.old ++ next_position_lines position id) }
 {
-    lines.pair("nextsong", place)?;
+    lines.pair("nextsong", position)?;
     lines.pair("nextsongid", id)
 }
 
@@ -189,7 +189,7 @@ fn push_progress(
         return Ok(());
     }
     push_time(alloc, lines, part, rate, everyday)?;
-    push_elapsed(alloc, lines, part.player.place(), rate)?;
+    push_elapsed(alloc, lines, part.player.offset(), rate)?;
     push_duration(alloc, lines, part, rate)?;
     push_audio(alloc, lines, rate)
 }
@@ -210,7 +210,7 @@ fn push_time(
     match part.player.current_entry(&part.queue) {
         Some(entry) => {
             let frames = entry.song.song().frames();
-            push_time_line(alloc, lines, part.player.place(), frames, rate)
+            push_time_line(alloc, lines, part.player.offset(), frames, rate)
         }
         None => Ok(()),
     }
@@ -220,13 +220,13 @@ fn push_time(
 fn push_time_line(
     alloc: Global,
     lines: &mut Answer,
-    place: u64,
+    offset: u64,
     frames: u64,
     rate: &Rate,
 ) -> Result<(), AllocError>
-    ensures { OnOk result (lines.new ≡ lines.old ++ time_line rate.now place frames) }
+    ensures { OnOk result (lines.new ≡ lines.old ++ time_line rate.now offset frames) }
 {
-    let elapsed = whole_seconds(place, rate);
+    let elapsed = whole_seconds(offset, rate);
     let length = whole_seconds(frames, rate);
     let text = format!(in alloc; "{elapsed}:{length}")?;
     lines.pair("time", text.as_str())
@@ -243,12 +243,12 @@ fn whole_seconds(frames: u64, rate: &Rate) -> u128
 fn push_elapsed(
     alloc: Global,
     lines: &mut Answer,
-    place: u64,
+    offset: u64,
     rate: &Rate,
 ) -> Result<(), AllocError>
-    ensures { OnOk result (lines.new ≡ lines.old ++ elapsed_line rate.now place) }
+    ensures { OnOk result (lines.new ≡ lines.old ++ elapsed_line rate.now offset) }
 {
-    let text = duration(alloc, length_of(place, rate))?;
+    let text = duration(alloc, length_of(offset, rate))?;
     lines.pair("elapsed", text.as_str())
 }
 

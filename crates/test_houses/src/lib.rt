@@ -5,7 +5,7 @@
 ghost use Rattle.frame_ledger.specs.Shares.{HasAllParts};
 ghost use Rattle.std.specs.Prelude.{◌≡◌, ◌+◌, ◌<◌, IfOk, OnOk};
 ghost use Rattle.held_player.specs.Blanks.{AreFor};
-ghost use Rattle.counted_player.specs.Seats.{place};
+ghost use Rattle.counted_player.specs.Seats.{seat_count};
 
 use command_lists::ListForm;
 use counted_player::{Ledgers, Seat};
@@ -46,7 +46,7 @@ pub fn comes<L: Ledgers>(
     seat: &mut Seat<L>,
     client: u32,
 ) -> Result<(), PartitionFault>
-    ensures { OnOk result (seat.old.number < 4 → seat.new ≡ place seat.old.number (seat.old.made + 1)) }
+    ensures { OnOk result (seat.old.number < 4 → seat.new ≡ seat_count seat.old.number (seat.old.made + 1)) }
 {
     let _greeted = house.notice(rt, seat, News::Comes(client))?;
     Ok(())
@@ -60,7 +60,7 @@ pub fn adds_a_song<L: Ledgers>(
     seat: &mut Seat<L>,
     client: u32,
 ) -> Result<(), PartitionFault>
-    ensures { OnOk result (seat.old.number < 4 → seat.new ≡ place seat.old.number (seat.old.made + 1)) }
+    ensures { OnOk result (seat.old.number < 4 → seat.new ≡ seat_count seat.old.number (seat.old.made + 1)) }
 {
     let mut shelf = MemShelf::new(alloc);
     let request = Request::of_line(alloc, "add a.wav", CommandSet::base())?;

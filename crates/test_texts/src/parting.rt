@@ -9,31 +9,31 @@ pub(crate) struct Parting<'a> {
     pub(crate) line: u64,
     /// The three lines before it, which both texts have.
     pub(crate) before: [&'a str; 3],
-    pub(crate) told: &'a str,
-    pub(crate) wanted: &'a str,
+    pub(crate) observed: &'a str,
+    pub(crate) expected: &'a str,
 }
 
 impl<'a> Parting<'a> {
-    /// Where what was told parts from what was wanted. Of texts with the same lines, as where one lacks its last
+    /// Where what was observed parts from what was expected. Of texts with the same lines, as where one lacks its last
     /// newline, it is behind the last one.
-    pub(crate) fn of(told: &'a str, wanted: &'a str) -> Parting<'a> {
+    pub(crate) fn of(observed: &'a str, expected: &'a str) -> Parting<'a> {
         let mut parting = Parting {
             line: 1,
             before: [NO_LINE; 3],
-            told: NO_LINE,
-            wanted: NO_LINE,
+            observed: NO_LINE,
+            expected: NO_LINE,
         };
-        let mut others = wanted.lines();
-        for line in told.lines() {
+        let mut others = expected.lines();
+        for line in observed.lines() {
             let other = others.next();
             if other != Some(line) {
-                parting.told = line;
-                parting.wanted = other.unwrap_or(NO_LINE);
+                parting.observed = line;
+                parting.expected = other.unwrap_or(NO_LINE);
                 return parting;
             }
             parting.pass(line);
         }
-        parting.wanted = others.next().unwrap_or(NO_LINE);
+        parting.expected = others.next().unwrap_or(NO_LINE);
         parting
     }
 

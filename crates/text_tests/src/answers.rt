@@ -3,13 +3,13 @@ use crate::tables::{Reads, all_agree, repeated};
 use mpd_text::{Answer, ErrorNumber, SharedText, Text, number};
 use std::alloc::{AllocError, Global};
 use std::test::Fail;
-use test_texts::{Told, wants, wants_made};
+use test_texts::{Recorder, wants, wants_made};
 
 /// Adds the number of a text, or that there is none.
-pub fn add_number(told: &mut Told, text: &str) {
+pub fn add_number(recorder: &mut Recorder, text: &str) {
     match number(text) {
-        Some(number) => told.add(number),
-        None => told.add("none"),
+        Some(number) => recorder.add(number),
+        None => recorder.add("none"),
     }
 }
 
@@ -27,7 +27,7 @@ const NUMBERS: &str = "0 => 0
 \u{663} => none";
 
 /// Whether its bytes are those of its text, the same of what an answer is shared as, and the text of a clone.
-fn shared_told(alloc: Global, answer: Answer) -> Result<String, AllocError> {
+fn shared_observed(alloc: Global, answer: Answer) -> Result<String, AllocError> {
     let is_answer = answer.bytes() == answer.as_str().as_bytes();
     let shared = SharedText::of(answer.into_string())?;
     let is_shared = shared.bytes() == shared.as_str().as_bytes();
@@ -44,10 +44,10 @@ fn fill(answer: &mut Answer) -> Result<(), AllocError> {
     answer.ack(ErrorNumber::NoExist, 2, "add", "no such song")
 }
 
-fn told_of_each(alloc: Global) -> Result<String, AllocError> {
+fn observed_of_each(alloc: Global) -> Result<String, AllocError> {
     let mut answer = Answer::new(alloc);
     fill(&mut answer)?;
-    shared_told(alloc, answer)
+    shared_observed(alloc, answer)
 }
 
 /// Adds lines of numbers, and lines that a text is already.
@@ -90,11 +90,11 @@ const ERRORS: [ErrorNumber; 9] = [
 ];
 
 fn error_numbers(alloc: Global) -> Result<String, AllocError> {
-    let mut told = Told::new(alloc);
+    let mut recorder = Recorder::new(alloc);
     for error in ERRORS.iter() {
-        told.add(format_args!("{} ", error.number()));
+        recorder.add(format_args!("{} ", error.number()));
     }
-    told.into_text()
+    recorder.into_text()
 }
 
 /// What texts are read as, and the numbers of the errors.
@@ -114,10 +114,10 @@ fn fill_long(answer: &mut Answer) -> Result<(), AllocError> {
     answer.ok()
 }
 
-fn told_of_long(alloc: Global) -> Result<String, AllocError> {
+fn observed_of_long(alloc: Global) -> Result<String, AllocError> {
     let mut answer = Answer::new(alloc);
     fill_long(&mut answer)?;
-    shared_told(alloc, answer)
+    shared_observed(alloc, answer)
 }
 
 /// Two texts, and one that was a `Text` for a while.
@@ -132,12 +132,12 @@ fn texts(alloc: Global) -> Result<String, AllocError> {
 #[test]
 fn answers_and_texts(rt: HostRuntime) -> Result<(), Fail> {
     wants(
-        told_of_each(rt.alloc()),
+        observed_of_each(rt.alloc()),
         "true true volume: 100\npartition: default\nOK\nlist_OK\nACK [50@2] {add} no such song\n",
     )?;
     wants(numbered(rt.alloc()), NUMBERED)?;
     wants_made(
-        told_of_long(rt.alloc()),
+        observed_of_long(rt.alloc()),
         repeated(rt.alloc(), "true true ", LINE, 2_000, "OK\n"),
     )?;
     wants(texts(rt.alloc()), "a.wav evening OK")

@@ -78,8 +78,8 @@ fn read_here<M: Media>(media: &mut M, buf: &mut [u8]) -> Result<usize, ErrorKind
     answer(media.read_here(buf))
 }
 
-fn seek<M: Media>(media: &mut M, place: u64) -> Result<(), ErrorKind> {
-    answer(media.seek_to(place))
+fn seek<M: Media>(media: &mut M, offset: u64) -> Result<(), ErrorKind> {
+    answer(media.seek_to(offset))
 }
 
 /// What a seek to the end gives.
@@ -87,9 +87,9 @@ pub fn end<M: Media>(media: &mut M) -> Result<u64, ErrorKind> {
     answer(media.seek_to_end())
 }
 
-/// What a read at a place gives.
-pub fn read_at<M: Media>(media: &mut M, place: u64, buf: &mut [u8]) -> Result<usize, ErrorKind> {
-    seek(media, place)?;
+/// What a read at an offset gives.
+pub fn read_at<M: Media>(media: &mut M, offset: u64, buf: &mut [u8]) -> Result<usize, ErrorKind> {
+    seek(media, offset)?;
     read_here(media, buf)
 }
 
@@ -102,17 +102,17 @@ enum Output {
 
 fn takes<W: Sink>(out: &mut W, step: &Output) -> bool {
     match step {
-        Output::Write(text, wanted) => written(out, text.as_bytes()) == *wanted,
-        Output::Flush(wanted) => flushed(out) == *wanted,
+        Output::Write(text, expected) => written(out, text.as_bytes()) == *expected,
+        Output::Flush(expected) => flushed(out) == *expected,
         Output::Counts(failures, blocked, calls) => counts(out) == (*failures, *blocked, *calls),
     }
 }
 
-/// The place of the first call that is answered otherwise.
+/// The index of the first call that is answered otherwise.
 fn first_untaken<W: Sink>(out: &mut W, steps: &[Output]) -> Option<usize> {
-    for (place, step) in steps.iter().enumerate() {
+    for (index, step) in steps.iter().enumerate() {
         if !takes(out, step) {
-            return Some(place);
+            return Some(index);
         }
     }
     None
@@ -139,17 +139,17 @@ fn gives<M: Media>(media: &mut M, room: &mut [u8], step: &Input) -> bool {
         Input::Read(count, text) => is_filled(read(media, room), *count, room, text),
         Input::ReadFails(kind) => read(media, room) == Err(*kind),
         Input::ReadHere(count, text) => is_filled(read_here(media, room), *count, room, text),
-        Input::Seek(place, wanted) => seek(media, *place) == *wanted,
-        Input::End(wanted) => end(media) == *wanted,
+        Input::Seek(offset, expected) => seek(media, *offset) == *expected,
+        Input::End(expected) => end(media) == *expected,
         Input::Counts(failures, blocked, calls) => counts(media) == (*failures, *blocked, *calls),
     }
 }
 
-/// The place of the first call that is answered otherwise.
+/// The index of the first call that is answered otherwise.
 fn first_ungiven<M: Media>(media: &mut M, room: &mut [u8], steps: &[Input]) -> Option<usize> {
-    for (place, step) in steps.iter().enumerate() {
+    for (index, step) in steps.iter().enumerate() {
         if !gives(media, room, step) {
-            return Some(place);
+            return Some(index);
         }
     }
     None
@@ -284,15 +284,15 @@ fn has_length<R: ReadSeek>(reader: &mut R, length: u64) -> bool {
     answer(reader.move_to_end()) == Ok(length)
 }
 
-fn found<R: ReadSeek>(reader: &mut R, place: u64, room: &mut [u8]) -> Result<usize, ErrorKind> {
-    answer(reader.move_to(place))?;
+fn found<R: ReadSeek>(reader: &mut R, offset: u64, room: &mut [u8]) -> Result<usize, ErrorKind> {
+    answer(reader.move_to(offset))?;
     answer(reader.read_on(room))
 }
 
-/// Whether a read into a room of two zeros at a place gives so many bytes, and the room is this then.
-fn has_at<R: ReadSeek>(reader: &mut R, place: u64, count: usize, text: &str) -> bool {
+/// Whether a read into a room of two zeros at an offset gives so many bytes, and the room is this then.
+fn has_at<R: ReadSeek>(reader: &mut R, offset: u64, count: usize, text: &str) -> bool {
     let mut room = [0; 2];
-    let read = found(reader, place, &mut room);
+    let read = found(reader, offset, &mut room);
     is_filled(read, count, &room, text)
 }
 
@@ -301,8 +301,8 @@ fn cursor_moves() -> bool {
     has_length(&mut cursor, 6) && has_at(&mut cursor, 1, 2, "bc")
 }
 
-fn fails_to_move(device: &mut FailAt, place: u64) -> bool {
-    device.move_to(place).is_err()
+fn fails_to_move(device: &mut FailAt, offset: u64) -> bool {
+    device.move_to(offset).is_err()
 }
 
 fn sought(device: &mut FailAt, to: SeekFrom) -> Result<u64, ErrorKind> {

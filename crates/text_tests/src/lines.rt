@@ -3,7 +3,7 @@ use crate::tables::repeated;
 use mpd_text::{Line, SplitFault, Splitter, any_cut, lines_make_the_stream, pieces_do_not_matter};
 use std::alloc::{AllocError, Global};
 use std::test::Fail;
-use test_texts::{Told, wants, wants_made};
+use test_texts::{Recorder, wants, wants_made};
 
 fn text_of(line: &Line) -> &str {
     match line {
@@ -13,38 +13,38 @@ fn text_of(line: &Line) -> &str {
 }
 
 /// Adds the lines with a bar after each, and `!` for a line that is not text.
-fn add_lines(told: &mut Told, lines: &[Line]) {
+fn add_lines(recorder: &mut Recorder, lines: &[Line]) {
     for line in lines {
-        told.add(format_args!("{}|", text_of(line)));
+        recorder.add(format_args!("{}|", text_of(line)));
     }
-    told.add("\n");
+    recorder.add("\n");
 }
 
 /// Adds the lines that a piece gives, after `too long: ` where the line after them is.
-fn feed(splitter: &mut Splitter, piece: &[u8], told: &mut Told) {
+fn feed(splitter: &mut Splitter, piece: &[u8], recorder: &mut Recorder) {
     match splitter.feed(piece) {
-        Ok(lines) => add_lines(told, lines.as_slice()),
+        Ok(lines) => add_lines(recorder, lines.as_slice()),
         Err(SplitFault::LineTooLong(lines)) => {
-            told.add("too long: ");
-            add_lines(told, lines.as_slice());
+            recorder.add("too long: ");
+            add_lines(recorder, lines.as_slice());
         }
-        Err(SplitFault::NoMemory) => told.fail(),
+        Err(SplitFault::NoMemory) => recorder.fail(),
     }
 }
 
 /// What each of these pieces of a stream gives, and whether the splitter is closed after them.
 fn fed(alloc: Global, pieces: &[&[u8]]) -> Result<String, AllocError> {
-    let mut told = Told::new(alloc);
+    let mut recorder = Recorder::new(alloc);
     let mut splitter = Splitter::new(alloc);
     for piece in pieces {
-        feed(&mut splitter, piece, &mut told);
+        feed(&mut splitter, piece, &mut recorder);
     }
-    told.add(if splitter.is_closed() {
+    recorder.add(if splitter.is_closed() {
         "closed"
     } else {
         "open"
     });
-    told.into_text()
+    recorder.into_text()
 }
 
 /// Lines in pieces, an empty one, one that is not text, and one whose character is cut.

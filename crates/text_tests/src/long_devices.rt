@@ -8,11 +8,11 @@ use std::io::{Cursor, ErrorKind};
 use std::test::Fail;
 use test_texts::wants;
 
-/// 40,000 bytes, each known by its place.
+/// 40,000 bytes, each known by its offset.
 fn pattern(alloc: Global) -> Result<Vec<u8>, AllocError> {
     let mut bytes = Vec::new(alloc);
-    for place in 0..40_000u32 {
-        bytes.push((place % 251) as u8)?;
+    for offset in 0..40_000u32 {
+        bytes.push((offset % 251) as u8)?;
     }
     Ok(bytes)
 }
@@ -80,10 +80,10 @@ fn two_long_reads(alloc: Global, bytes: &[u8], room: &mut [u8]) -> Result<bool, 
     )
 }
 
-/// How many bytes a read of one byte gives at a place, and which.
-fn byte_of(media: &mut Counting<FailAt>, place: u64) -> Result<(usize, u8), ErrorKind> {
+/// How many bytes a read of one byte gives at an offset, and which.
+fn byte_of(media: &mut Counting<FailAt>, offset: u64) -> Result<(usize, u8), ErrorKind> {
     let mut room = [0; 1];
-    let count = read_at(media, place, &mut room)?;
+    let count = read_at(media, offset, &mut room)?;
     Ok((count, room[0]))
 }
 
@@ -105,7 +105,7 @@ fn long_read(alloc: Global, bytes: &[u8]) -> Result<bool, AllocError> {
 }
 
 /// Whether a long write is handed on whole; a write fails at its byte; a long read is handed on whole; and a seek
-/// is, to its place.
+/// is, to its offset.
 fn long_calls(alloc: Global) -> Result<String, AllocError> {
     let bytes = pattern(alloc)?;
     let bytes = bytes.as_slice();

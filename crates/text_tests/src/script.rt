@@ -4,14 +4,14 @@ use crate::tables::{Reads, all_agree, read, repeated};
 use script_lines::{JobStep, LimitName, ScriptLine, Step};
 use std::alloc::{AllocError, Global};
 use std::test::Fail;
-use test_texts::{Told, wants, wants_made};
+use test_texts::{Recorder, wants, wants_made};
 
 /// Adds whose line it is, and what follows in brackets.
-pub fn add_head(told: &mut Told, line: &str) {
+pub fn add_head(recorder: &mut Recorder, line: &str) {
     match ScriptLine::of(line) {
-        ScriptLine::Client(client, text) => told.add(format_args!("client {client} [{text}]")),
-        ScriptLine::Step(text) => told.add(format_args!("step [{text}]")),
-        ScriptLine::Bad => told.add("neither"),
+        ScriptLine::Client(client, text) => recorder.add(format_args!("client {client} [{text}]")),
+        ScriptLine::Step(text) => recorder.add(format_args!("step [{text}]")),
+        ScriptLine::Bad => recorder.add("neither"),
     }
 }
 
@@ -36,38 +36,38 @@ fn heads(rt: HostRuntime) -> Result<(), Fail> {
 }
 
 /// Adds what a step says, or that it is bad.
-pub fn add_step(told: &mut Told, alloc: Global, rest: &str) {
+pub fn add_step(recorder: &mut Recorder, alloc: Global, rest: &str) {
     match Step::of_line(alloc, false, rest) {
-        Ok(Some(step)) => add_said(told, &step),
-        Ok(None) => told.add("bad"),
-        Err(_) => told.fail(),
+        Ok(Some(step)) => add_said(recorder, &step),
+        Ok(None) => recorder.add("bad"),
+        Err(_) => recorder.fail(),
     }
 }
 
-fn add_said(told: &mut Told, step: &Step) {
+fn add_said(recorder: &mut Recorder, step: &Step) {
     match step {
-        Step::Song(song) => songs::add_song(told, song),
-        Step::Limit(name, value) => told.add(format_args!("{name:?} {value}")),
-        Step::Gone(number) => told.add(format_args!("gone {number}")),
-        Step::Scanned => told.add("scanned"),
-        Step::Window => told.add("window"),
-        Step::Job(job) => add_job(told, job),
+        Step::Song(song) => songs::add_song(recorder, song),
+        Step::Limit(name, value) => recorder.add(format_args!("{name:?} {value}")),
+        Step::Gone(number) => recorder.add(format_args!("gone {number}")),
+        Step::Scanned => recorder.add("scanned"),
+        Step::Window => recorder.add("window"),
+        Step::Job(job) => add_job(recorder, job),
         Step::JobIn(name, job) => {
-            told.add(format_args!("in {} ", name.as_str()));
-            add_job(told, job);
+            recorder.add(format_args!("in {} ", name.as_str()));
+            add_job(recorder, job);
         }
         Step::Turn(written, discarded, failed) => {
-            told.add(format_args!("turn {written} {discarded} {failed}"));
+            recorder.add(format_args!("turn {written} {discarded} {failed}"));
         }
     }
 }
 
 /// Adds what a step of the decoder says.
-fn add_job(told: &mut Told, step: &JobStep) {
+fn add_job(recorder: &mut Recorder, step: &JobStep) {
     match step {
-        JobStep::Want => told.add("want"),
-        JobStep::Have(job, count) => told.add(format_args!("have {job} {count}")),
-        JobStep::Failed(job, partner) => told.add(format_args!("failed {job} {partner}")),
+        JobStep::Want => recorder.add("want"),
+        JobStep::Have(job, count) => recorder.add(format_args!("have {job} {count}")),
+        JobStep::Failed(job, partner) => recorder.add(format_args!("failed {job} {partner}")),
     }
 }
 
@@ -137,14 +137,14 @@ const NAMES: &str = "everyday|history|max_cut|max_id|max_queue|max_version";
 
 /// The limits that words name, each with its greatest value.
 fn greatest(alloc: Global) -> Result<String, AllocError> {
-    let mut told = Told::new(alloc);
+    let mut recorder = Recorder::new(alloc);
     for word in NAMES.split('|') {
         match LimitName::of_word(word) {
-            Some(name) => told.add(format_args!("{name:?} {}|", name.greatest())),
-            None => told.add("none"),
+            Some(name) => recorder.add(format_args!("{name:?} {}|", name.greatest())),
+            None => recorder.add("none"),
         }
     }
-    told.into_text()
+    recorder.into_text()
 }
 
 const JOBS: &str = "want => want

@@ -2,13 +2,13 @@
 use mpd_text::{BASE_TAG_NAMES, Song, TAG_NAMES, Tag, TagName, text_of_tag};
 use std::alloc::{AllocError, Global};
 use std::test::Fail;
-use test_texts::{Told, wants, wants_made};
+use test_texts::{Recorder, wants, wants_made};
 
 /// Adds the URI, the frames, and each tag after a bar.
-pub fn add_song(told: &mut Told, song: &Song) {
-    told.add(format_args!("{} {}", song.uri(), song.frames()));
+pub fn add_song(recorder: &mut Recorder, song: &Song) {
+    recorder.add(format_args!("{} {}", song.uri(), song.frames()));
     for tag in song.tags() {
-        told.add(format_args!("|{:?}={}", tag.name(), tag.text()));
+        recorder.add(format_args!("|{:?}={}", tag.name(), tag.text()));
     }
 }
 
@@ -31,15 +31,15 @@ fn made_and_shown(
 ) -> Result<String, AllocError> {
     let uri = String::from_str(alloc, uri)?;
     let song = Song::new(uri, tags(alloc, names, text)?, frames);
-    let mut told = Told::new(alloc);
+    let mut recorder = Recorder::new(alloc);
     match song {
-        Some(song) => add_song(&mut told, &song),
-        None => told.add("a newline"),
+        Some(song) => add_song(&mut recorder, &song),
+        None => recorder.add("a newline"),
     }
-    told.into_text()
+    recorder.into_text()
 }
 
-fn longest_told(alloc: Global) -> Result<String, AllocError> {
+fn longest_observed(alloc: Global) -> Result<String, AllocError> {
     let uri = "u".repeat(alloc, 1_024)?;
     let text = "x".repeat(alloc, 1_024)?;
     made_and_shown(
@@ -62,11 +62,11 @@ fn longest(alloc: Global) -> Result<String, AllocError> {
 }
 
 fn names_in_order(alloc: Global, names: &[TagName]) -> Result<String, AllocError> {
-    let mut told = Told::new(alloc);
+    let mut recorder = Recorder::new(alloc);
     for name in names {
-        told.add(format_args!("{}|", name.text()));
+        recorder.add(format_args!("{}|", name.text()));
     }
-    told.into_text()
+    recorder.into_text()
 }
 
 /// The text that is read of each tag of a song with these tags, a bar after each.
@@ -75,11 +75,11 @@ fn texts_read(alloc: Global, given: &[(TagName, &str)]) -> Result<String, AllocE
     for (name, text) in given {
         tags.push(Tag::new(*name, String::from_str(alloc, text)?))?;
     }
-    let mut told = Told::new(alloc);
+    let mut recorder = Recorder::new(alloc);
     for name in TAG_NAMES.iter() {
-        told.add(format_args!("{}|", text_of_tag(&tags, *name)));
+        recorder.add(format_args!("{}|", text_of_tag(&tags, *name)));
     }
-    told.into_text()
+    recorder.into_text()
 }
 
 /// The first of two titles is read; without an artist of the album that is the artist.
@@ -106,11 +106,11 @@ fn texts_of_tags(rt: HostRuntime) -> Result<(), Fail> {
 /// A song and one that is refused, the longest texts, and the order of tags.
 #[test]
 fn songs_and_tags(rt: HostRuntime) -> Result<(), Fail> {
-    let told = made_and_shown(rt.alloc(), "folder/b.wav", &[TagName::Title], "Bee", 16_000);
-    wants(told, "folder/b.wav 16000|Title=Bee")?;
+    let observed = made_and_shown(rt.alloc(), "folder/b.wav", &[TagName::Title], "Bee", 16_000);
+    wants(observed, "folder/b.wav 16000|Title=Bee")?;
     let refused = made_and_shown(rt.alloc(), "a\n.wav", &[], "", 1);
     wants(refused, "a newline")?;
-    wants_made(longest_told(rt.alloc()), longest(rt.alloc()))?;
+    wants_made(longest_observed(rt.alloc()), longest(rt.alloc()))?;
     wants(
         names_in_order(rt.alloc(), &TAG_NAMES),
         "Title|Artist|Album|Date|Genre|Comment|AlbumArtist|Track|Disc|Composer|",

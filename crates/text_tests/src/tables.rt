@@ -3,7 +3,7 @@ use crate::{answers, script, words};
 use mpd_text::quote;
 use std::alloc::{AllocError, Global};
 use std::test::Fail;
-use test_texts::{Told, wants};
+use test_texts::{Recorder, wants};
 
 /// What reads the left side of a line of a table.
 #[derive(Clone, Copy)]
@@ -22,20 +22,20 @@ pub enum Reads {
 
 /// What is read of a text.
 pub fn read(alloc: Global, reads: Reads, text: &str) -> Result<String, AllocError> {
-    let mut told = Told::new(alloc);
+    let mut recorder = Recorder::new(alloc);
     match reads {
-        Reads::Number => answers::add_number(&mut told, text),
-        Reads::Words => words::add_words(&mut told, alloc, text),
-        Reads::Quoted => told.add_made(quote(alloc, text)),
-        Reads::Head => script::add_head(&mut told, text),
-        Reads::Step => script::add_step(&mut told, alloc, text),
+        Reads::Number => answers::add_number(&mut recorder, text),
+        Reads::Words => words::add_words(&mut recorder, alloc, text),
+        Reads::Quoted => recorder.add_made(quote(alloc, text)),
+        Reads::Head => script::add_head(&mut recorder, text),
+        Reads::Step => script::add_step(&mut recorder, alloc, text),
     }
-    told.into_text()
+    recorder.into_text()
 }
 
 fn agrees(alloc: Global, reads: Reads, line: &str) -> Result<(), Fail> {
-    let (given, wanted) = line.split_once(" => ").unwrap_or((line, "?"));
-    wants(read(alloc, reads, given), wanted)
+    let (given, expected) = line.split_once(" => ").unwrap_or((line, "?"));
+    wants(read(alloc, reads, given), expected)
 }
 
 /// Passes where each line of a table says what is read of its left side.

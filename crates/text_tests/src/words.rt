@@ -3,20 +3,20 @@ use crate::tables::{Reads, all_agree, read, repeated};
 use mpd_text::{WordsFault, one_reading, some_reading, words, words_read_quotes};
 use std::alloc::{AllocError, Global};
 use std::test::Fail;
-use test_texts::{Told, wants, wants_made};
+use test_texts::{Recorder, wants, wants_made};
 
-fn add_each(told: &mut Told, words: &[String]) {
+fn add_each(recorder: &mut Recorder, words: &[String]) {
     for word in words {
-        told.add(format_args!("{word}|"));
+        recorder.add(format_args!("{word}|"));
     }
 }
 
 /// Adds the words with a bar after each, or the fault's name.
-pub fn add_words(told: &mut Told, alloc: Global, line: &str) {
+pub fn add_words(recorder: &mut Recorder, alloc: Global, line: &str) {
     match words(alloc, line) {
-        Ok(found) => add_each(told, found.as_slice()),
-        Err(WordsFault::NoMemory) => told.fail(),
-        Err(fault) => told.add(format_args!("{fault:?}")),
+        Ok(found) => add_each(recorder, found.as_slice()),
+        Err(WordsFault::NoMemory) => recorder.fail(),
+        Err(fault) => recorder.add(format_args!("{fault:?}")),
     }
 }
 

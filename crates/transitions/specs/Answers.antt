@@ -31,7 +31,7 @@ pub record ResponseData : Type 0 where
 
 -- a text, what becomes of the client, whether it was a refusal, and what the client does
 abbrev pub response_of : List ℕ → Next → Bool → Move → ResponseData
-response_of text next refused moves = record { answer = record { text = text; next = next; refused = refused }; move = moves }
+response_of text next refused client_move = record { answer = record { text = text; next = next; refused = refused }; move = client_move }
 
 -- unless there is no memory, the response is this one
 abbrev pub Responds : Result ResponseData AllocError → ResponseData → Type 0

@@ -7,7 +7,7 @@ use Rattle.shelf.specs.declared.faults.ShelfFault.TheVariants.{NoMemory, StoreFa
 use Rattle.shelf.specs.Calls as calls
 use Rattle.shelf.specs.Calls.{Call}
 use Rattle.shelf.specs.Shelf.{AnswersCall, maps_once_done}
-use Rattle.shelf.specs.Maps.{Maps, Standing, Trusted, Turns, AreKeys, AreEntries, no_refusal, refusal_of_list, refusal_of_target, refusal_of_sticker}
+use Rattle.shelf.specs.Maps.{Maps, Standing, Trusted, Changes, AreKeys, AreEntries, no_refusal, refusal_of_list, refusal_of_target, refusal_of_sticker}
 use Rattle.transitions.specs.declared.shelf_calls.StoreReply.{StoreReply}
 use Rattle.transitions.specs.declared.shelf_calls.Read.{Read}
 use Rattle.transitions.specs.declared.shelf_calls.Read.TheVariants as read_variant
@@ -116,8 +116,8 @@ is_ok_read (Ok read) = is_read read
 is_ok_read (Err e) = false
 
 -- a call that asks leaves the shelf's maps
-abbrev pub TurnsByReading : {S E : Type 0} → (S → Standing) → S → S → Result Read E → Type 0
-TurnsByReading standing old new result = Turns (standing old) (standing new) (is_ok_read result) (standing old).maps
+abbrev pub ChangesByReading : {S E : Type 0} → (S → Standing) → S → S → Result Read E → Type 0
+ChangesByReading standing old new result = Changes (standing old) (standing new) (is_ok_read result) (standing old).maps
 
 -- what was read answers the question, where the shelf can be trusted and memory was not wanting
 abbrev pub ReadsFor : {S E : Type 0} → (S → Standing) → (S → S → Call → Type 0) → S → S → Question → Result Read E → Type 0
@@ -144,9 +144,9 @@ is_ok_write write (Ok x) = is_written write
 is_ok_write write (Err fault) = false
 
 -- whether a refusal is for want of memory
-abbrev pub is_wanting : Option ShelfFault → Bool
-is_wanting (Some NoMemory) = true
-is_wanting _ = false
+abbrev pub is_out_of_memory : Option ShelfFault → Bool
+is_out_of_memory (Some NoMemory) = true
+is_out_of_memory _ = false
 
 module _ {S : Type 0} (standing : S → Standing) (failed : S → S → Call → Type 0) where
   -- What a lent shelf does for an event: it is asked at most one question, and then at most one thing is
@@ -154,16 +154,16 @@ module _ {S : Type 0} (standing : S → Standing) (failed : S → S → Call →
   -- for is none.
   pub record Serves (old new : S) (question : Question) (write : ShelfWrite) (heard : StoreReply) : Type 0 where
     pub between : S
-    pub asked : Turns (standing old) (standing between) (is_read heard.read) (standing old).maps
+    pub asked : Changes (standing old) (standing between) (is_read heard.read) (standing old).maps
     pub read : Trusted (standing old) (standing between) → IsRead (failed old between) (standing old).maps question heard.read
-    pub written : Turns (standing between) (standing new) (is_ok_write write (answered heard.refused)) (maps_after write (standing between).maps)
+    pub written : Changes (standing between) (standing new) (is_ok_write write (answered heard.refused)) (maps_after write (standing between).maps)
     pub answers : Trusted (standing between) (standing new) → IsAnswered (failed between new) (standing between).maps write (answered heard.refused)
-    pub ample : is_wanting heard.refused ≡ false
+    pub ample : is_out_of_memory heard.refused ≡ false
 
   -- What is left of a lent shelf where an event was refused: it was asked, and nothing was written.
   pub record LeavesUnchanged (old new : S) : Type 0 where
     pub between : S
     pub was_read : Bool
-    pub asked : Turns (standing old) (standing between) was_read (standing old).maps
+    pub asked : Changes (standing old) (standing between) was_read (standing old).maps
     pub after : Maps
-    pub written : Turns (standing between) (standing new) false after
+    pub written : Changes (standing between) (standing new) false after

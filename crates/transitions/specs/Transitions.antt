@@ -95,15 +95,15 @@ crosses asked crossing = record (quiet (stays (succeeds asked.stand (codes "")))
 
 -- the client that asks goes to the partition of a number: its channels and its messages end in the other
 abbrev pub enters : Asked → ℕ → TransitionData
-enters asked place = leaves asked.client (record { answer = succeeds asked.stand (codes ""); move = Enter place })
+enters asked index = leaves asked.client (record { answer = succeeds asked.stand (codes ""); move = Enter index })
 
 -- what a part of the daemon is told that is no client, by an event of the partition of a number
 abbrev pub report_of : ℕ → List Part → Library → TransitionData → Report
-report_of place parts library t = report_in library.rate (part_at place parts) t.effect t.report
+report_of index parts library t = report_in library.rate (part_at index parts) t.effect t.report
 
 -- the partitions after an event of the one of a number, and after what passes between them
 abbrev pub parts_after : ℕ → ℕ → TransitionData → List Part → List Part
-parts_after rate place t parts = parts_moved t.crossing (changed rate place t.effect parts)
+parts_after rate index t parts = parts_moved t.crossing (changed rate index t.effect parts)
 
 -- the limit of numbers of a partition
 abbrev pub max_cut_in : Option Part → ℕ
@@ -113,7 +113,7 @@ max_cut_in (Some part) = part.player.max_cut
 -- whether a transition leaves the numbers of cuts, starts, jobs and scans at or below their limit, and how often
 -- each output was moved
 abbrev pub keeps_all_numbers : ℕ → List Part → Library → TransitionData → Bool
-keeps_all_numbers place parts library t =
-    let max_cut = max_cut_in (part_at place parts) in
-    is_within_in library.rate (part_at place parts) t.effect
+keeps_all_numbers index parts library t =
+    let max_cut = max_cut_in (part_at index parts) in
+    is_within_in library.rate (part_at index parts) t.effect
     && (not (begins_beyond max_cut library.scan t.scan) && not (crosses_beyond max_cut t.crossing (map known parts)))

@@ -15,13 +15,16 @@ use std::marker::Model;
 /// What an event answers, and what its client does.
 pub struct Response {
     reply: Reply,
-    moves: Move,
+    client_move: Move,
 }
 
 // Written out, so that a proof goes through one call where it lets one go (docs/DECISIONS.md).
 impl Drop for Response {
     fn drop(self) {
-        let Response { reply: _, moves: _ } = self;
+        let Response {
+            reply: _,
+            client_move: _,
+        } = self;
     }
 }
 
@@ -30,12 +33,12 @@ impl Model for Response {
 
     ghost Value = { ResponseData };
 
-    ghost view = { λ t. record { answer = t.reply; move = t.moves } };
+    ghost view = { λ t. record { answer = t.reply; move = t.client_move } };
 }
 
 impl Response {
-    pub fn of(text: String, next: Next, refused: bool, moves: Move) -> Response
-        ensures { result ≡ response_of (string_bytes text) next refused moves }
+    pub fn of(text: String, next: Next, refused: bool, client_move: Move) -> Response
+        ensures { result ≡ response_of (string_bytes text) next refused client_move }
     {
         Response {
             reply: Reply {
@@ -43,7 +46,7 @@ impl Response {
                 next,
                 refused,
             },
-            moves,
+            client_move,
         }
     }
 
@@ -53,25 +56,28 @@ impl Response {
         self.reply.next
     }
 
-    pub fn moves(&self) -> Move
+    pub fn client_move(&self) -> Move
         ensures { result ≡ self.now.move }
     {
-        self.moves
+        self.client_move
     }
 
     pub fn into_reply(self) -> Reply
         ensures { result ≡ self.answer }
     {
-        let Response { reply, moves: _ } = self;
+        let Response {
+            reply,
+            client_move: _,
+        } = self;
         reply
     }
 }
 
 /// These lines, after which the client's next line may come.
-pub fn tells(text: String, moves: Move) -> Response
-    ensures { result ≡ record { answer = tells_lem (string_bytes text); move = moves } }
+pub fn tells(text: String, client_move: Move) -> Response
+    ensures { result ≡ record { answer = tells_lem (string_bytes text); move = client_move } }
 {
-    Response::of(text, Next::Goes, false, moves)
+    Response::of(text, Next::Goes, false, client_move)
 }
 
 /// A success that shows no lines.
@@ -82,12 +88,12 @@ pub fn succeeds(alloc: Global, asked: Asked) -> Result<Response, AllocError>
 }
 
 /// A success that shows no lines, by which the client that asks does this.
-pub fn succeeds_and(alloc: Global, asked: Asked, moves: Move) -> Result<Response, AllocError>
-    ensures { Responds result (record { answer = succeeds_lem asked.stand (codes ""); move = moves }) }
+pub fn succeeds_and(alloc: Global, asked: Asked, client_move: Move) -> Result<Response, AllocError>
+    ensures { Responds result (record { answer = succeeds_lem asked.stand (codes ""); move = client_move }) }
 {
     let mut nothing = Answer::new(alloc);
     end(&mut nothing, asked.stand)?;
-    Ok(tells(nothing.into_string(), moves))
+    Ok(tells(nothing.into_string(), client_move))
 }
 
 /// A success that shows these lines.

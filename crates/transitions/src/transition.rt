@@ -347,12 +347,12 @@ impl Transition {
     }
 
     /// The client that asks goes to the partition of a number; its channels and its messages end in the other.
-    pub fn enters(alloc: Global, asked: Asked, place: u8) -> Result<Transition, AllocError>
-        ensures { IfOk result (λ transition. transition ≡ enters_lem asked place) }
+    pub fn enters(alloc: Global, asked: Asked, index: u8) -> Result<Transition, AllocError>
+        ensures { IfOk result (λ transition. transition ≡ enters_lem asked index) }
     {
         Ok(Transition::leaves(
             asked.client,
-            succeeds_and(alloc, asked, Move::Enter(place))?,
+            succeeds_and(alloc, asked, Move::Enter(index))?,
         ))
     }
 
@@ -361,20 +361,20 @@ impl Transition {
     pub fn carry_out(
         self,
         parts: &mut Parts,
-        place: u8,
+        index: u8,
         library: &mut Library,
     ) -> Result<Telling, PlayerFault>
-        requires { FitsIn (part_at place parts.old) self.effect }
-        ensures parts { OnOk result (parts.new ≡ parts_after library.old.rate place self parts.old) }
+        requires { FitsIn (part_at index parts.old) self.effect }
+        ensures parts { OnOk result (parts.new ≡ parts_after library.old.rate index self parts.old) }
         ensures library { OnOk result (library.new ≡ library_after library.old self.scan) }
         ensures response { IfOk result (λ telling. telling.response ≡ self.response) }
-        ensures report { IfOk result (λ telling. telling.report ≡ report_of place parts.old library.old self) }
-        ensures within { OnOk result (keeps_all_numbers place parts.old library.old self ≡ true) }
-        ensures limit { IsErrOf result PlayerFault.CutsAtLimit → keeps_all_numbers place parts.old library.old self ≡ false }
+        ensures report { IfOk result (λ telling. telling.report ≡ report_of index parts.old library.old self) }
+        ensures within { OnOk result (keeps_all_numbers index parts.old library.old self ≡ true) }
+        ensures limit { IsErrOf result PlayerFault.CutsAtLimit → keeps_all_numbers index parts.old library.old self ≡ false }
         ensures err { OnErr result (parts.new ≡ parts.old) }
         ensures err_library { OnErr result (library.new ≡ library.old) }
     {
-        let max_cut = max_cut_at(parts, place);
+        let max_cut = max_cut_at(parts, index);
         if library.scan.begins_beyond(max_cut, &self.scan) {
             return Err(PlayerFault::CutsAtLimit);
         }
@@ -389,7 +389,7 @@ impl Transition {
             report,
             crossing,
         } = self;
-        let report = parts.apply(place, &library.rate, effect, report.into_report())?;
+        let report = parts.apply(index, &library.rate, effect, report.into_report())?;
         parts.cross(crossing);
         move_scan(library, scan);
         Ok(Telling { response, report })
@@ -397,10 +397,10 @@ impl Transition {
 }
 
 /// The limit of numbers of the partition of a number.
-fn max_cut_at(parts: &Parts, place: u8) -> u64
-    ensures { result ≡ max_cut_in (part_at place parts.now) }
+fn max_cut_at(parts: &Parts, index: u8) -> u64
+    ensures { result ≡ max_cut_in (part_at index parts.now) }
 {
-    match parts.at(place) {
+    match parts.at(index) {
         Some(part) => part.player.max_cut(),
         None => 9_223_372_036_854_775_807,
     }

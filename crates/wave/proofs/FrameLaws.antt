@@ -14,7 +14,7 @@ use Rattle.wave.specs.declared.format.Layout.{Layout}
 use Rattle.wave.specs.Formats.{block, frames_of}
 use Rattle.pcm_mix.specs.Layouts.{width, count, sample_at, frame_at}
 
--- two lists hold the same sample at two places
+-- two lists hold the same sample at two offsets
 pub sample_same : (depth : Depth) (xs ys : List ℕ) (p q : ℕ) → ((j : ℕ) → j < width depth → get_or xs (p + j) 0 ≡ get_or ys (q + j) 0) → sample_at depth xs p ≡ sample_at depth ys q
 sample_same Eight xs ys p q h =
     let a : get_or xs p 0 ≡ get_or ys q 0 = grind (arith, h 0 (omega arith)) in rw a refl
@@ -110,42 +110,42 @@ part_is depth channels read samples frames from n e h f =
     (λ p h. let w : p < n * b = omega arith in ap (λ xs. get_or xs p 0) e ∙ get_or-take (n * b) (drop (from * b) samples) p 0 w ∙ get_or-drop (from * b) samples p 0) ∙ sym right)
 
 -- asking for more than there is changes nothing
-pub clamped : (frames : List (List ℤ)) (from n first wanted all : ℕ) → length frames ≤ all → first ≡ min from all → wanted ≡ min n (all - first) → take wanted (drop first frames) ≡ take n (drop from frames)
-clamped frames from n first wanted all h e f =
-    let long : length (take wanted (drop first frames)) ≡ min wanted (length frames - first) = simp (length-take, length-drop) refl in
+pub clamped : (frames : List (List ℤ)) (from n first frame_count all : ℕ) → length frames ≤ all → first ≡ min from all → frame_count ≡ min n (all - first) → take frame_count (drop first frames) ≡ take n (drop from frames)
+clamped frames from n first frame_count all h e f =
+    let long : length (take frame_count (drop first frames)) ≡ min frame_count (length frames - first) = simp (length-take, length-drop) refl in
     let other : length (take n (drop from frames)) ≡ min n (length frames - from) = simp (length-take, length-drop) refl in
-    same_lists (take wanted (drop first frames)) (take n (drop from frames)) (long ∙ omega arith ∙ sym other) (λ k d within.
-    get_or-take wanted _ k d (omega arith) ∙ get_or-drop first frames k d ∙ ap (λ p. get_or frames p d) (omega arith)
+    same_lists (take frame_count (drop first frames)) (take n (drop from frames)) (long ∙ omega arith ∙ sym other) (λ k d within.
+    get_or-take frame_count _ k d (omega arith) ∙ get_or-drop first frames k d ∙ ap (λ p. get_or frames p d) (omega arith)
     ∙ sym (get_or-drop from frames k d) ∙ sym (get_or-take n _ k d (omega arith)))
 
 -- the bytes read lie in the data
-pub read_is : (read bytes : List ℕ) (place len first wanted b : ℕ) → (wanted + first) * b ≤ len →
-    read ≡ take (wanted * b) (drop (place + first * b) bytes) → read ≡ take (wanted * b) (drop (first * b) (take len (drop place bytes)))
-read_is read bytes place len first wanted b h e =
+pub read_is : (read bytes : List ℕ) (offset len first frame_count b : ℕ) → (frame_count + first) * b ≤ len →
+    read ≡ take (frame_count * b) (drop (offset + first * b) bytes) → read ≡ take (frame_count * b) (drop (first * b) (take len (drop offset bytes)))
+read_is read bytes offset len first frame_count b h e =
     let whole : len ≡ first * b + (len - first * b) = omega arith in
-    let part : drop (first * b) (take len (drop place bytes)) ≡ take (len - first * b) (drop (first * b) (drop place bytes)) =
-    ap (λ n. drop (first * b) (take n (drop place bytes))) whole ∙ drop-take (first * b) (len - first * b) (drop place bytes) in
-    e ∙ ap (take (wanted * b)) (sym (drop-drop (first * b) place bytes)) ∙ sym (take-take (wanted * b) (len - first * b) (drop (first * b) (drop place bytes)) (omega arith)) ∙ ap (take (wanted * b)) (sym part)
+    let part : drop (first * b) (take len (drop offset bytes)) ≡ take (len - first * b) (drop (first * b) (drop offset bytes)) =
+    ap (λ n. drop (first * b) (take n (drop offset bytes))) whole ∙ drop-take (first * b) (len - first * b) (drop offset bytes) in
+    e ∙ ap (take (frame_count * b)) (sym (drop-drop (first * b) offset bytes)) ∙ sym (take-take (frame_count * b) (len - first * b) (drop (first * b) (drop offset bytes)) (omega arith)) ∙ ap (take (frame_count * b)) (sym part)
 
-pub fits_in : (len b first wanted from n : ℕ) → first ≡ min from (len / b) → wanted ≡ min n (len / b - first) → (wanted + first) * b ≤ len
-fits_in len b first wanted from n e f =
-    let m = mul-le (wanted + first) b (len / b) b (omega arith) (omega arith) in
+pub fits_in : (len b first frame_count from n : ℕ) → first ≡ min from (len / b) → frame_count ≡ min n (len / b - first) → (frame_count + first) * b ≤ len
+fits_in len b first frame_count from n e f =
+    let m = mul-le (frame_count + first) b (len / b) b (omega arith) (omega arith) in
     let d = div-mul-le_self len b in omega arith
 
-pub frames_are : (depth : Depth) (channels : Channels) (read bytes : List ℕ) (place len from n first wanted : ℕ) →
-    0 < width depth * count channels → first ≡ min from (len / (width depth * count channels)) → wanted ≡ min n (len / (width depth * count channels) - first) →
-    read ≡ take (wanted * (width depth * count channels)) (drop (place + first * (width depth * count channels)) bytes) →
+pub frames_are : (depth : Depth) (channels : Channels) (read bytes : List ℕ) (offset len from n first frame_count : ℕ) →
+    0 < width depth * count channels → first ≡ min from (len / (width depth * count channels)) → frame_count ≡ min n (len / (width depth * count channels) - first) →
+    read ≡ take (frame_count * (width depth * count channels)) (drop (offset + first * (width depth * count channels)) bytes) →
     map (frame_at depth channels read) (range_with_len 0 (length read / (width depth * count channels)))
-    ≡ take n (drop from (map (frame_at depth channels (take len (drop place bytes))) (range_with_len 0 (length (take len (drop place bytes)) / (width depth * count channels)))))
-frames_are depth channels read bytes place len from n first wanted h e f r =
+    ≡ take n (drop from (map (frame_at depth channels (take len (drop offset bytes))) (range_with_len 0 (length (take len (drop offset bytes)) / (width depth * count channels)))))
+frames_are depth channels read bytes offset len from n first frame_count h e f r =
     let b = width depth * count channels in
-    let samples = take len (drop place bytes) in
-    let fits : (wanted + first) * b ≤ len = fits_in len b first wanted from n e f in
-    let inside : read ≡ take (wanted * b) (drop (first * b) samples) = read_is read bytes place len first wanted b fits r in
+    let samples = take len (drop offset bytes) in
+    let fits : (frame_count + first) * b ≤ len = fits_in len b first frame_count from n e f in
+    let inside : read ≡ take (frame_count * b) (drop (first * b) samples) = read_is read bytes offset len first frame_count b fits r in
     let short : length samples ≤ len = simp length-take (omega arith) in
     let fewer : length samples / b ≤ len / b = (le-div_iff_mul-le h).1 (omega (arith, div-mul-le_self (length samples) b)) in
     let all : length (map (frame_at depth channels samples) (range_with_len 0 (length samples / b))) ≤ len / b = rw (length-map-range_with_len (frame_at depth channels samples) 0 (length samples / b)) fewer in
-    part_is depth channels read samples _ first wanted inside h refl ∙ clamped (map (frame_at depth channels samples) (range_with_len 0 (length samples / b))) from n first wanted (len / b) all e f
+    part_is depth channels read samples _ first frame_count inside h refl ∙ clamped (map (frame_at depth channels samples) (range_with_len 0 (length samples / b))) from n first frame_count (len / b) all e f
 
 pub positive : (depth : Depth) (channels : Channels) → 0 < width depth * count channels
 positive Eight Mono = omega arith
@@ -169,21 +169,21 @@ whole_part layout samples n e =
     part_is layout.depth layout.channels (take (n * block layout) samples) samples _ 0 n zeroth (positive layout.depth layout.channels) refl
     ∙ take_all n (frames layout samples) (rw (length_frames layout samples) (omega arith))
 
-pub samples_whole : (layout : Layout) (place len : ℕ) (bytes : List ℕ) → length (take len (drop place bytes)) ≡ len
-    → (frames_of layout (take (len / block layout * block layout) (drop place bytes)) ≡ frames_of layout (take len (drop place bytes)))
-    × (length (frames_of layout (take (len / block layout * block layout) (drop place bytes))) ≡ len / block layout)
-samples_whole layout place len bytes h =
-    let samples = take len (drop place bytes) in
+pub samples_whole : (layout : Layout) (offset len : ℕ) (bytes : List ℕ) → length (take len (drop offset bytes)) ≡ len
+    → (frames_of layout (take (len / block layout * block layout) (drop offset bytes)) ≡ frames_of layout (take len (drop offset bytes)))
+    × (length (frames_of layout (take (len / block layout * block layout) (drop offset bytes))) ≡ len / block layout)
+samples_whole layout offset len bytes h =
+    let samples = take len (drop offset bytes) in
     let n = len / block layout in
     let fits : n * block layout ≤ len = div-mul-le_self len (block layout) in
-    let part : take (n * block layout) (drop place bytes) ≡ take (n * block layout) samples = sym (take-take (n * block layout) len (drop place bytes) fits) in
-    let same : frames layout (take (n * block layout) (drop place bytes)) ≡ frames layout samples =
+    let part : take (n * block layout) (drop offset bytes) ≡ take (n * block layout) samples = sym (take-take (n * block layout) len (drop offset bytes) fits) in
+    let same : frames layout (take (n * block layout) (drop offset bytes)) ≡ frames layout samples =
     ap (frames layout) part ∙ whole_part layout samples n (ap (λ m. m / block layout) (sym h)) in
     (same, ap length same ∙ length_frames layout samples ∙ ap (λ m. m / block layout) h)
 
 -- as many frames as there is room for in some bytes
-pub few_frames : (layout : Layout) (samples : List ℕ) (wanted : ℕ) → length samples ≤ wanted * block layout → length (frames_of layout samples) ≤ wanted
-few_frames layout samples wanted h =
+pub few_frames : (layout : Layout) (samples : List ℕ) (frame_count : ℕ) → length samples ≤ frame_count * block layout → length (frames_of layout samples) ≤ frame_count
+few_frames layout samples frame_count h =
     rw (length_frames layout samples) (div-le_of_le-mul (block layout) (omega arith))
 
 pub frames_back : (layout : Layout) (n : ℕ) → n * block layout / block layout ≡ n

@@ -13,15 +13,15 @@ use Rattle.wave.proofs.Filling.{start_is}
 use Rattle.wave.proofs.Starts.{take_both}
 
 -- the first ten bytes of a chunk
-pub head_read : (n len place : ℕ) (buf bytes : List ℕ) → length buf ≡ 10 → take n buf ≡ take (length buf) (drop place bytes) → tag_len (take (min n len) buf) ≡ tag_len (take 10 (take len (drop place bytes)))
-head_read n len place buf bytes h e = ap tag_len (start_is 10 n len buf (drop place bytes) h e)
+pub head_read : (n len offset : ℕ) (buf bytes : List ℕ) → length buf ≡ 10 → take n buf ≡ take (length buf) (drop offset bytes) → tag_len (take (min n len) buf) ≡ tag_len (take 10 (take len (drop offset bytes)))
+head_read n len offset buf bytes h e = ap tag_len (start_is 10 n len buf (drop offset bytes) h e)
 
 -- as much of a chunk as counts
-pub texts_read : (n room len place : ℕ) (buf bytes : List ℕ) → length buf ≡ room → room ≡ min (tag_len (take 10 (take len (drop place bytes)))) len → take n buf ≡ take (length buf) (drop place bytes)
-    → id3_texts (take n buf) ≡ id3_texts (take len (drop place bytes))
-texts_read n room len place buf bytes l m e =
-    let content = take len (drop place bytes) in
-    ap id3_texts (e ∙ ap (λ k. take k (drop place bytes)) (l ∙ m) ∙ sym (take_both (tag_len (take 10 content)) len (drop place bytes)))
+pub texts_read : (n room len offset : ℕ) (buf bytes : List ℕ) → length buf ≡ room → room ≡ min (tag_len (take 10 (take len (drop offset bytes)))) len → take n buf ≡ take (length buf) (drop offset bytes)
+    → id3_texts (take n buf) ≡ id3_texts (take len (drop offset bytes))
+texts_read n room len offset buf bytes l m e =
+    let content = take len (drop offset bytes) in
+    ap id3_texts (e ∙ ap (λ k. take k (drop offset bytes)) (l ∙ m) ∙ sym (take_both (tag_len (take 10 content)) len (drop offset bytes)))
     ∙ texts_of_start content (tag_len (take 10 content)) (omega arith)
 
 -- the chunks before it

@@ -17,8 +17,8 @@ use Rattle.wave.proofs.Filling.{start_is}
 use Rattle.wave.proofs.Found.{and_false}
 use Rattle.wave.proofs.EverydayTexts.{text_of_start}
 
-pub text_read : (everyday : Bool) (n len place : ℕ) (buf bytes : List ℕ) → length buf ≡ 1025 → take n buf ≡ take (length buf) (drop place bytes) → text_in everyday (take (min n len) buf) ≡ text_in everyday (take len (drop place bytes))
-text_read everyday n len place buf bytes h e = ap (text_in everyday) (start_is 1025 n len buf (drop place bytes) h e) ∙ text_of_start everyday (take len (drop place bytes))
+pub text_read : (everyday : Bool) (n len offset : ℕ) (buf bytes : List ℕ) → length buf ≡ 1025 → take n buf ≡ take (length buf) (drop offset bytes) → text_in everyday (take (min n len) buf) ≡ text_in everyday (take len (drop offset bytes))
+text_read everyday n len offset buf bytes h e = ap (text_in everyday) (start_is 1025 n len buf (drop offset bytes) h e) ∙ text_of_start everyday (take len (drop offset bytes))
 
 -- the text of an item of a name
 abbrev named : (List ℕ → Option (List ℕ)) → List ℕ → Chunk → Option (List ℕ)
@@ -68,15 +68,15 @@ pub puts : (read : List ℕ → Option (List ℕ)) (name : ItemName) (texts : Te
 puts read name texts item text more e w k = puts_named read name texts item.name item.content text item.size more ((bytes_eq-Decides item.name (letters name)).0 e) w k
 
 -- a list of texts
-within_list : (bytes : List ℕ) (part : FoundChunk) → chunks_within bytes (part.place + 4) (part.place + part.len) ≡ chunks (drop 4 (content_of bytes part))
-within_list bytes part = ap chunks (sym (drop-drop 4 part.place (take (part.place + part.len) bytes)) ∙ ap (drop 4) (drop-take part.place part.len bytes))
+within_list : (bytes : List ℕ) (part : FoundChunk) → chunks_within bytes (part.offset + 4) (part.offset + part.len) ≡ chunks (drop 4 (content_of bytes part))
+within_list bytes part = ap chunks (sym (drop-drop 4 part.offset (take (part.offset + part.len) bytes)) ∙ ap (drop 4) (drop-take part.offset part.len bytes))
 
 items_of_list : (chunk : Chunk) (more : List Chunk) → is_info chunk ≡ true → items (chunk ∷ more) ≡ chunks (drop 4 chunk.content) ++ items more
 items_of_list chunk more e = ap (λ b. cond b (chunks (drop 4 chunk.content)) [] ++ items more) e
 
 pub list_taken : (bytes : List ℕ) (at end : ℕ) (part : FoundChunk) (found : Option FoundChunk) (b : Bool) (read : List ℕ → Option (List ℕ)) (texts next meaning : Texts) → joined read texts (items (chunks_within bytes at end)) ≡ meaning
     → StartsWith bytes at end found → found ≡ Some part → b ≡ is_info (chunk_of bytes part) → b ≡ true
-    → ((more : List Chunk) → joined read next more ≡ joined read texts (chunks_within bytes (part.place + 4) (part.place + part.len) ++ more))
+    → ((more : List Chunk) → joined read next more ≡ joined read texts (chunks_within bytes (part.offset + 4) (part.offset + part.len) ++ more))
     → joined read next (items (chunks_within bytes part.next end)) ≡ meaning
 list_taken bytes at end part found b read texts next meaning goes starts e i t all =
     let here = (subst (StartsWith bytes at end) e starts).0 in

@@ -44,10 +44,10 @@ means_wave everyday rate end bytes result size e h =
     subst (MeansWave bytes result) (sym (riff everyday rate bytes e))
     (means everyday rate bytes (chunks (drop 12 bytes)) result (subst (λ parts. MeansChunks everyday rate bytes parts result) (all_within bytes end size) h))
 
-pub head_is : (everyday : Bool) (rate : ℕ) (bytes : List ℕ) (parts : List Chunk) (head : Head) (layout : Layout) (place len : ℕ) (tags : List TagData)
-    → sound_of rate parts ≡ Ok (record { layout = layout; samples = take len (drop place bytes) }) → length (take len (drop place bytes)) ≡ len
-    → head.tags.items ≡ tags → tags ≡ file_tags everyday parts → head.layout ≡ layout → head.frames ≡ len / block layout → head.place ≡ place
+pub head_is : (everyday : Bool) (rate : ℕ) (bytes : List ℕ) (parts : List Chunk) (head : Head) (layout : Layout) (offset len : ℕ) (tags : List TagData)
+    → sound_of rate parts ≡ Ok (record { layout = layout; samples = take len (drop offset bytes) }) → length (take len (drop offset bytes)) ≡ len
+    → head.tags.items ≡ tags → tags ≡ file_tags everyday parts → head.layout ≡ layout → head.frames ≡ len / block layout → head.offset ≡ offset
     → MeansChunks everyday rate bytes parts (Ok head)
-head_is everyday rate bytes parts head layout place len tags s long ht t hl hf hp =
-    let whole = samples_whole layout place len bytes long in
+head_is everyday rate bytes parts head layout offset len tags s long ht t hl hf hp =
+    let whole = samples_whole layout offset len bytes long in
     rw (ht ∙ t, hl, hf, hp) (ap (with_tags (file_tags everyday parts)) s ∙ ap (λ frames. Ok (record { layout = layout; tags = file_tags everyday parts; frames = frames })) (sym whole.0), whole.1)

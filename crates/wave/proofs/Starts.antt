@@ -1,4 +1,4 @@
--- The chunk at a place of bytes that go up to an end.
+-- The chunk at an offset of bytes that go up to an end.
 use Rattle.std.proofs.Common.{ℕ, ◌+◌, ◌-◌, ◌%◌, ◌^◌, ◌<◌, ◌≤◌, ◌≡◌, List, [], ◌∷◌, length, take, drop, min, sym, ap, ◌∙◌, arith, length-drop, length-take}
 use Rattle.std.proofs.lemmas.List.{drop-drop, drop-take, drop_min, take_min, take-take}
 use Rattle.wave.specs.Chunks.{Chunk, chunks, first_chunk, first_size, after_first, little_endian}
@@ -11,7 +11,7 @@ take_both m n xs =
     sym (take_min m (take n xs)) ∙ ap (λ k. take k (take n xs)) (simp length-take (omega arith)) ∙ take-take (min (min m n) (length xs)) n xs (omega arith)
     ∙ take_min (min m n) xs
 
--- a place that stops at the greatest number drops the same bytes
+-- an offset that stops at the greatest number drops the same bytes
 pub drop_after : (at k : ℕ) (bytes : List ℕ) → length bytes < 2 ^ 64 → drop (min (at + k) (2 ^ 64 - 1)) bytes ≡ drop k (drop at bytes)
 drop_after at k bytes h =
     let e : min (min (at + k) (2 ^ 64 - 1)) (length bytes) ≡ min (at + k) (length bytes) = omega arith in
@@ -20,7 +20,7 @@ drop_after at k bytes h =
 size_of_eight : (xs : List ℕ) → first_size (take 8 xs) ≡ first_size xs
 size_of_eight xs = ap little_endian (ap (take 4) (drop-take 4 4 xs) ∙ take-take 4 4 (drop 4 xs) (omega arith))
 
--- the bytes from a place up to an end that lies after its next n
+-- the bytes from an offset up to an end that lies after its next n
 pub window : (at n end : ℕ) (bytes : List ℕ) → at + n ≤ end → drop at (take end bytes) ≡ take (n + (end - (at + n))) (drop at bytes)
 window at n end bytes h =
     let e : end ≡ at + (n + (end - (at + n))) = omega arith in

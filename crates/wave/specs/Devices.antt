@@ -5,11 +5,11 @@ use Rattle.counted_devices.specs.CallCounts.{HasFailed}
 use Rattle.wave.specs.declared.fault.WaveFault.{WaveFault}
 use Rattle.wave.specs.declared.fault.WaveFault.TheVariants.{NotRiff, NoFormat, Unsupported, NoData, ReadFault, NoMemory}
 
--- the start of the buffer holds the bytes from a place on: as many as it has room for, or all there are
+-- the start of the buffer holds the bytes from an offset on: as many as it has room for, or all there are
 abbrev pub FillsFrom : List ℕ → ℕ → ℕ → List ℕ → Type 0
 FillsFrom bytes at n buf = take n buf ≡ take (length buf) (drop at bytes)
 
--- what remains to be read are the bytes from this place on
+-- what remains to be read are the bytes from this offset on
 abbrev pub RemainsAt : ℕ → List ℕ → Option (List ℕ) → Type 0
 RemainsAt at bytes remaining = remaining ≡ Some (drop at bytes)
 

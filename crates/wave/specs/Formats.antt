@@ -11,7 +11,7 @@ use Rattle.pcm_mix.specs.declared.layout.Channels.{Channels}
 use Rattle.pcm_mix.specs.declared.layout.Channels.TheVariants.{Mono, Stereo}
 use Rattle.pcm_mix.specs.Layouts.{width, count, frame_at}
 
--- the numbers of two and of four bytes at a place, the low byte first
+-- the numbers of two and of four bytes at an offset, the low byte first
 abbrev pub short_at : List ℕ → ℕ → ℕ
 short_at bytes at = slice_index bytes at + 256 * slice_index bytes (at + 1)
 

@@ -31,8 +31,8 @@ abbrev pub missing : Option Layout → WaveFault
 missing None = NoFormat
 missing (Some layout) = NoData
 
--- the place and length are those of the samples that the bytes mean
+-- the offset and length are those of the samples that the bytes mean
 abbrev pub MeansSound : List ℕ → Result Samples WaveFault → Result Sound WaveFault → Type 0
 MeansSound bytes (Ok found) meaning =
-    (meaning ≡ Ok (record { layout = found.layout; samples = take found.len (drop found.place bytes) })) × (length (take found.len (drop found.place bytes)) ≡ found.len)
+    (meaning ≡ Ok (record { layout = found.layout; samples = take found.len (drop found.offset bytes) })) × (length (take found.len (drop found.offset bytes)) ≡ found.len)
 MeansSound bytes (Err fault) meaning = Refuses fault meaning

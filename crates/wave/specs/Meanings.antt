@@ -13,7 +13,7 @@ use Rattle.wave.specs.Heads.{Refuses}
 
 -- the frames that lie where the head says
 abbrev pub frames_in : List ℕ → Head → List (List ℤ)
-frames_in bytes head = frames_of head.layout (take (head.frames * block head.layout) (drop head.place bytes))
+frames_in bytes head = frames_of head.layout (take (head.frames * block head.layout) (drop head.offset bytes))
 
 -- what is given are n frames of the bytes from a frame on, or fewer where they have no more
 abbrev pub GivesFrames : {E : Type 0} → Option (List ℕ) → Head → ℕ → ℕ → Result (Vec (List ℤ)) E → Type 0

@@ -1,4 +1,4 @@
-//! Reads of a device at a place, with an end to how often it is called.
+//! Reads of a device at an offset, with an end to how often it is called.
 ghost use Rattle.std.specs.Prelude.{◌≡◌, ◌+◌, ◌-◌, ◌^◌, ◌≤◌, ◌<◌, length, min, take, IfSome, IfOk, OnOk, OnErr};
 ghost use Rattle.std.specs.Io.KnownBytes.{Consumes, IsAtEnd};
 ghost use Rattle.counted_devices.specs.CallCounts.{NoFewer};
@@ -35,7 +35,7 @@ pub(crate) fn size<M: Media>(media: &mut M, limit: u64) -> Result<u64, Unread>
     }
 }
 
-/// Reads the bytes from a place on, until the buffer is full or they end.
+/// Reads the bytes from an offset on, until the buffer is full or they end.
 pub(crate) fn read_at<M: Media>(
     media: &mut M,
     limit: u64,
@@ -69,7 +69,7 @@ fn seek<M: Media>(media: &mut M, limit: u64, at: u64) -> Result<(), Unread>
     }
 }
 
-/// Reads from the device's place on, until the buffer is full or its bytes end.
+/// Reads from the device's offset on, until the buffer is full or its bytes end.
 fn fill<M: Media>(media: &mut M, limit: u64, buf: &mut [u8]) -> Result<usize, Unread>
     ensures bound { IfOk result (λ n. n ≤ length buf.new) }
     ensures bytes { IfOk result (λ n. Consumes (M.remaining media.old) (M.remaining media.new) (take n buf.new)) }

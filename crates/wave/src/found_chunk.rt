@@ -23,7 +23,7 @@ pub(crate) struct FoundChunk {
     /// The size of its content as it is written.
     pub(crate) size: u32,
     /// Where its content begins.
-    pub(crate) place: u64,
+    pub(crate) offset: u64,
     /// How many bytes of the content are there.
     pub(crate) len: u64,
     /// Where the next chunk begins.
@@ -53,26 +53,26 @@ fn header_of(bytes: &[u8]) -> Option<Header>
     }
 }
 
-/// The chunk that begins at a place, of bytes that go up to an end.
+/// The chunk that begins at an offset, of bytes that go up to an end.
 fn part_of(header: Header, at: u64, end: u64) -> FoundChunk
     requires { at + 8 ≤ end }
     ensures starts { IsChunkOfHeader header at end result }
-    ensures within { result.place + result.len ≤ end }
+    ensures within { result.offset + result.len ≤ end }
     ensures onward { at < result.next }
 {
     let Header { name, size } = header;
-    let place = at + 8;
+    let offset = at + 8;
     let long = u64::from(size);
     FoundChunk {
         name,
         size,
-        place,
-        len: long.min(end - place),
-        next: place.saturating_add(long + long % 2),
+        offset,
+        len: long.min(end - offset),
+        next: offset.saturating_add(long + long % 2),
     }
 }
 
-/// The first of the chunks from a place up to an end.
+/// The first of the chunks from an offset up to an end.
 pub(crate) fn chunk_at<M: Media>(
     media: &mut M,
     limit: u64,
@@ -81,7 +81,7 @@ pub(crate) fn chunk_at<M: Media>(
 ) -> Result<Option<FoundChunk>, Unread>
     requires { IfSome (M.all_bytes media.old) (λ bytes. end ≤ length bytes) }
     ensures value { IfSome (M.all_bytes media.old) (λ bytes. IfOk result (StartsWith bytes at end)) }
-    ensures within { IfOk result (λ found. IfSome found (λ part. part.place + part.len ≤ end)) }
+    ensures within { IfOk result (λ found. IfSome found (λ part. part.offset + part.len ≤ end)) }
     ensures onward { IfOk result (λ found. IfSome found (λ part. (at < part.next) × (at < end))) }
     ensures stays { M.all_bytes media.new ≡ M.all_bytes media.old }
     ensures ends { OnErr result (Ends limit (M.call_counts media.old) (M.call_counts media.new)) }

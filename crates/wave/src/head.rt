@@ -12,8 +12,8 @@ pub struct Head {
     pub(crate) layout: Layout,
     pub(crate) frames: u64,
     pub(crate) tags: Vec<Tag>,
-    pub(crate) place: u64,
-    ghost ends: { place + frames * block layout < 2 ^ 64 },
+    pub(crate) offset: u64,
+    ghost ends: { offset + frames * block layout < 2 ^ 64 },
 }
 
 impl Head {
@@ -61,9 +61,9 @@ impl Head {
     }
 
     /// Where the first frame begins, in bytes from the start of the file.
-    pub fn place(&self) -> u64
-        ensures { result ≡ self.now.place }
+    pub fn offset(&self) -> u64
+        ensures { result ≡ self.now.offset }
     {
-        self.place
+        self.offset
     }
 }

@@ -77,7 +77,7 @@ fn texts_at<M: Media>(
 {
     let len = tag_len_at(media, limit, part)?;
     let mut bytes = vec![in alloc; 0u8; len as usize]?;
-    let n = read_at(media, limit, part.place, &mut bytes)?;
+    let n = read_at(media, limit, part.offset, &mut bytes)?;
     Ok(texts_of(alloc, &bytes.as_slice()[..n])?)
 }
 
@@ -92,6 +92,6 @@ fn tag_len_at<M: Media>(media: &mut M, limit: u64, part: FoundChunk) -> Result<u
     ensures calm { NoFewer (M.call_counts media.old) (M.call_counts media.new) }
 {
     let mut head = [0u8; 10];
-    let n = read_at(media, limit, part.place, &mut head)?;
+    let n = read_at(media, limit, part.offset, &mut head)?;
     Ok(tag_len(&head[..n.min(part.len as usize)]).min(part.len))
 }

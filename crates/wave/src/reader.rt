@@ -69,10 +69,10 @@ impl<R: Media> Reader<R> {
         let Layout { depth, channels } = self.head.layout;
         let block = depth.width() * channels.count();
         let first = from.min(self.head.frames);
-        let wanted = (n as u64).min(self.head.frames - first);
-        let mut bytes = sized(alloc, self.bytes.take(), wanted as usize * block)?;
-        let place = self.head.place + first * block as u64;
-        let got = read_at(&mut self.media, limit, place, &mut bytes)?;
+        let frame_count = (n as u64).min(self.head.frames - first);
+        let mut bytes = sized(alloc, self.bytes.take(), frame_count as usize * block)?;
+        let offset = self.head.offset + first * block as u64;
+        let got = read_at(&mut self.media, limit, offset, &mut bytes)?;
         let frames = decoded(alloc, &bytes.as_slice()[..got], self.head.layout);
         self.bytes = Some(bytes);
         frames

@@ -111,17 +111,21 @@ fn is_riff(bytes: &[u8]) -> bool
 }
 
 fn head_of(samples: Samples, tags: Vec<Tag>) -> Head
-    requires { samples.place + samples.len < 2 ^ 64 }
+    requires { samples.offset + samples.len < 2 ^ 64 }
     ensures layout { result.layout ≡ samples.layout }
     ensures frames { result.frames ≡ samples.len / block samples.layout }
     ensures tags { result.tags ≡ tags }
-    ensures place { result.place ≡ samples.place }
+    ensures offset { result.offset ≡ samples.offset }
 {
-    let Samples { layout, place, len } = samples;
+    let Samples {
+        layout,
+        offset,
+        len,
+    } = samples;
     Head {
         layout,
         frames: len / layout.block() as u64,
         tags,
-        place,
+        offset,
     }
 }

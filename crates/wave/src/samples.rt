@@ -18,7 +18,7 @@ use counted_devices::Media;
 #[derive(Clone, Copy)]
 pub(crate) struct Samples {
     pub(crate) layout: Layout,
-    pub(crate) place: u64,
+    pub(crate) offset: u64,
     pub(crate) len: u64,
 }
 
@@ -31,7 +31,7 @@ pub(crate) fn find_samples<M: Media>(
 ) -> Result<Samples, WaveFault>
     requires { IfSome (M.all_bytes media.old) (λ bytes. end ≤ length bytes) }
     ensures value { IfSome (M.all_bytes media.old) (λ bytes. MeansSound bytes result (file_sound rate bytes end)) }
-    ensures within { IfOk result (λ found. found.place + found.len ≤ end) }
+    ensures within { IfOk result (λ found. found.offset + found.len ≤ end) }
     ensures fault { IsErrOf result WaveFault.NoMemory → ⊥ }
     ensures ends { ReadFaultEnds limit (M.call_counts media.old) (M.call_counts media.new) result }
     ensures stays { M.all_bytes media.new ≡ M.all_bytes media.old }
@@ -65,14 +65,14 @@ fn samples_in(part: FoundChunk, layout: Option<Layout>) -> Result<Samples, WaveF
     requires { bytes_eq part.name (codes "data") ≡ true }
     ensures value { (bytes : List ℕ) (rate : ℕ) (more : List Chunk) → length (content_of bytes part) ≡ part.len
         → MeansSound bytes result (sound_after rate layout (chunk_of bytes part ∷ more)) }
-    ensures place { IfOk result (λ found. (found.place ≡ part.place) × (found.len ≡ part.len)) }
+    ensures offset { IfOk result (λ found. (found.offset ≡ part.offset) × (found.len ≡ part.len)) }
     ensures fault { IfErr result (λ fault. fault ≡ WaveFault.NoFormat) }
 {
     match layout {
         None => Err(WaveFault::NoFormat),
         Some(layout) => Ok(Samples {
             layout,
-            place: part.place,
+            offset: part.offset,
             len: part.len,
         }),
     }
@@ -127,6 +127,6 @@ fn layout_at<M: Media>(
     ensures calm { NoFewer (M.call_counts media.old) (M.call_counts media.new) }
 {
     let mut content = [0u8; 40];
-    let n = read_at(media, limit, part.place, &mut content)?;
+    let n = read_at(media, limit, part.offset, &mut content)?;
     Ok(layout_of(&content[..n.min(part.len as usize)], rate))
 }

@@ -63,7 +63,7 @@ fn is_list<M: Media>(media: &mut M, limit: u64, part: FoundChunk) -> Result<bool
         return Ok(false);
     }
     let mut kind = [0u8; 4];
-    let n = read_at(media, limit, part.place, &mut kind)?;
+    let n = read_at(media, limit, part.offset, &mut kind)?;
     Ok(kind[..n] == [73, 78, 70, 79])
 }
 
@@ -77,16 +77,16 @@ fn read_list<M: Media>(
     everyday: bool,
 ) -> Result<Texts, WaveFault>
     requires long { 4 ≤ list.len }
-    requires within { IfSome (M.all_bytes media.old) (λ bytes. list.place + list.len ≤ length bytes) }
-    requires fits { list.place + list.len < 2 ^ 64 }
+    requires within { IfSome (M.all_bytes media.old) (λ bytes. list.offset + list.len ≤ length bytes) }
+    requires fits { list.offset + list.len < 2 ^ 64 }
     ensures value { GivesWithList (M.all_bytes media.old) everyday list texts result }
     ensures fault { IfErr result (IsOutside limit (M.call_counts media.old) (M.call_counts media.new)) }
     ensures stays { M.all_bytes media.new ≡ M.all_bytes media.old }
     ensures keeps { KeepsTo limit (M.call_counts media.old) (M.call_counts media.new) }
     ensures calm { NoFewer (M.call_counts media.old) (M.call_counts media.new) }
 {
-    let end = list.place + list.len;
-    let mut at = list.place + 4;
+    let end = list.offset + list.len;
+    let mut at = list.offset + 4;
     while let Some(item) = chunk_at(media, limit, at, end)? {
         texts = take_item(alloc, media, limit, item, texts, everyday)?;
         at = item.next;
@@ -137,6 +137,6 @@ fn text_at<M: Media>(
     ensures calm { NoFewer (M.call_counts media.old) (M.call_counts media.new) }
 {
     let mut content = [0u8; MAX_TEXT + 1];
-    let n = read_at(media, limit, item.place, &mut content)?;
+    let n = read_at(media, limit, item.offset, &mut content)?;
     Ok(text_in(alloc, &content[..n.min(item.len as usize)], everyday)?)
 }

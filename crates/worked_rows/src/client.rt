@@ -141,9 +141,9 @@ impl Client {
         }
     }
 
-    fn prints(&mut self, mark: &str, line: &str) {
+    fn prints(&mut self, prefix: &str, line: &str) {
         if self.ended.is_ok() {
-            self.ended = println!(self.rt; "{mark}{line}");
+            self.ended = println!(self.rt; "{prefix}{line}");
         }
     }
 

@@ -1,5 +1,5 @@
 //! What a script printed, beside what its row wants.
-use crate::row::{Kind, Wanted};
+use crate::row::{Expected, Kind};
 use std::alloc::{AllocError, Global};
 
 /// How many lines are shown before a line that differs, and behind it.
@@ -31,28 +31,28 @@ impl<'a> Printed<'a> {
         line
     }
 
-    /// Whether a wanted line is met from here on.
-    fn meets(&mut self, wanted: &Wanted) -> bool {
-        match wanted.kind {
+    /// Whether an expected line is met from here on.
+    fn meets(&mut self, expected: &Expected) -> bool {
+        match expected.kind {
             Kind::Exact => match self.next() {
-                Some(line) => line.as_bytes() == wanted.text.as_slice(),
+                Some(line) => line.as_bytes() == expected.text.as_slice(),
                 None => false,
             },
-            Kind::Has => self.has(wanted),
-            Kind::Lacks => self.lacks(wanted),
+            Kind::Has => self.has(expected),
+            Kind::Lacks => self.lacks(expected),
         }
     }
 
     /// Whether the answer has a line, from here on; what comes before it is passed over.
-    fn has(&mut self, wanted: &Wanted) -> bool {
+    fn has(&mut self, expected: &Expected) -> bool {
         for _ in self.at..self.lines.len() {
             let Some(line) = self.next() else {
                 return false;
             };
-            if line.as_bytes() == wanted.text.as_slice() {
+            if line.as_bytes() == expected.text.as_slice() {
                 return true;
             }
-            if ends_answer(line.as_bytes(), wanted.sender) {
+            if ends_answer(line.as_bytes(), expected.sender) {
                 return false;
             }
         }
@@ -61,14 +61,14 @@ impl<'a> Printed<'a> {
 
     /// Whether no line of the answer begins so, from here on. An answer without an end is none. A line that begins so
     /// is passed over.
-    fn lacks(&mut self, unwanted: &Wanted) -> bool {
+    fn lacks(&mut self, unexpected: &Expected) -> bool {
         let first = self.at;
         for line in self.lines.iter().skip(first) {
             self.at = self.at.saturating_add(1);
-            if line.as_bytes().starts_with(unwanted.text.as_slice()) {
+            if line.as_bytes().starts_with(unexpected.text.as_slice()) {
                 return false;
             }
-            if ends_answer(line.as_bytes(), unwanted.sender) {
+            if ends_answer(line.as_bytes(), unexpected.sender) {
                 self.at = first;
                 return true;
             }
@@ -111,16 +111,16 @@ fn ends_answer(line: &[u8], sender: u8) -> bool {
     }
 }
 
-/// An answer of which not each line is wanted: its rest is passed over before the next answer.
+/// An answer of which not each line is expected: its rest is passed over before the next answer.
 #[derive(Clone, Copy)]
 struct Open {
     sender: u8,
     step: u64,
 }
 
-/// The answer that is open behind a wanted line.
-fn open_after(line: &Wanted) -> Option<Open> {
-    let Wanted {
+/// The answer that is open behind an expected line.
+fn open_after(line: &Expected) -> Option<Open> {
+    let Expected {
         kind,
         sender,
         step,
@@ -140,15 +140,15 @@ fn open_after(line: &Wanted) -> Option<Open> {
 #[derive(Drop)]
 enum Fault<'w> {
     /// This line is not met, or the answer before it is no success.
-    At(&'w Wanted),
+    At(&'w Expected),
     /// All lines are met; the last answer is no success, or more is printed.
     AtEnd,
 }
 
-/// Compares what was printed with the wanted lines, up to the first that is not met.
-fn compare<'w>(printed: &mut Printed<'_>, wanted: &'w [Wanted]) -> Result<(), Fault<'w>> {
+/// Compares what was printed with the expected lines, up to the first that is not met.
+fn compare<'w>(printed: &mut Printed<'_>, expected: &'w [Expected]) -> Result<(), Fault<'w>> {
     let mut open: Option<Open> = None;
-    for line in wanted {
+    for line in expected {
         if let Some(Open { sender, step }) = open
             && (step != line.step || line.kind == Kind::Exact)
             && !printed.skip_answer(sender)
@@ -171,23 +171,27 @@ fn compare<'w>(printed: &mut Printed<'_>, wanted: &'w [Wanted]) -> Result<(), Fa
     }
 }
 
-/// What differs: the line of the row, and the lines that were printed around the place.
-fn told(alloc: Global, fault: Fault<'_>, printed: &Printed<'_>) -> Result<String, AllocError> {
+/// What differs: the line of the row, and the lines that were printed around it.
+fn description(
+    alloc: Global,
+    fault: Fault<'_>,
+    printed: &Printed<'_>,
+) -> Result<String, AllocError> {
     let around = printed.around(alloc)?;
     match fault {
         Fault::AtEnd => {
             format!(in alloc; "\n  the row wants no more, and the script printed{around}")
         }
-        Fault::At(wanted) => {
-            let mark = match wanted.kind {
+        Fault::At(expected) => {
+            let prefix = match expected.kind {
                 Kind::Exact => "<",
                 Kind::Has => "<~",
                 Kind::Lacks => "<!",
             };
-            let text = str::from_utf8(wanted.text.as_slice()).unwrap_or("no text");
+            let text = str::from_utf8(expected.text.as_slice()).unwrap_or("no text");
             format!(in alloc;
-                "\n  line {} wants\n    {mark} {text}\n  and the script printed{around}",
-                wanted.line
+                "\n  line {} wants\n    {prefix} {text}\n  and the script printed{around}",
+                expected.line
             )
         }
     }
@@ -196,15 +200,15 @@ fn told(alloc: Global, fault: Fault<'_>, printed: &Printed<'_>) -> Result<String
 /// Nothing where an output is as a row wants it; else what differs.
 pub(crate) fn difference(
     alloc: Global,
-    wanted: &[Wanted],
+    expected: &[Expected],
     output: &[u8],
 ) -> Result<Option<String>, AllocError> {
     let Ok(text) = str::from_utf8(output) else {
         return Ok(Some(String::from_str(alloc, "\n  the script printed no text")?));
     };
     let mut printed = Printed::of(alloc, text)?;
-    match compare(&mut printed, wanted) {
+    match compare(&mut printed, expected) {
         Ok(()) => Ok(None),
-        Err(fault) => Ok(Some(told(alloc, fault, &printed)?)),
+        Err(fault) => Ok(Some(description(alloc, fault, &printed)?)),
     }
 }

@@ -40,7 +40,7 @@ fn went_well<F: Display + Drop>(rt: &HostRuntime, who: &str, ended: Result<(), F
     match ended {
         Ok(()) => true,
         Err(fault) => {
-            let _told = eprintln!(rt; "{who}: {fault}");
+            let _printed = eprintln!(rt; "{who}: {fault}");
             false
         }
     }

@@ -45,16 +45,16 @@ fn says(alloc: Global) -> Result<String, AllocError> {
     format!(in alloc; "{filling}1 plchangesposid 0\n{pings}1 add {long}\n1 delete 0\n2 status\n")
 }
 
-fn push_row(all: &mut String, place: u32) -> Result<(), AllocError> {
-    let id = place.saturating_add(1);
-    all.write_fmt(format_args!("1 cpos: {place}\n1 Id: {id}\n"))
+fn push_row(all: &mut String, position: u32) -> Result<(), AllocError> {
+    let id = position.saturating_add(1);
+    all.write_fmt(format_args!("1 cpos: {position}\n1 Id: {id}\n"))
 }
 
-/// What shows all entries: the one at each place has the id that is one above it.
+/// What shows all entries: the one at each position has the id that is one above it.
 fn rows(alloc: Global) -> Result<String, AllocError> {
     let mut all = String::new(alloc);
-    for place in 0..ENTRIES {
-        push_row(&mut all, place)?;
+    for position in 0..ENTRIES {
+        push_row(&mut all, position)?;
     }
     all.push_str("1 OK\n")?;
     Ok(all)
@@ -85,14 +85,14 @@ fn prints(alloc: Global, rows: &str) -> Result<String, AllocError> {
 }
 
 /// Whether the answer that shows all entries has more than 64 KiB, and whether the session ends well and
-/// prints what is wanted.
+/// prints what is expected.
 pub(crate) fn long_session(alloc: Global) -> Result<String, AllocError> {
     let rows = rows(alloc)?;
-    let wanted = prints(alloc, rows.as_str())?;
-    let told = run_whole(alloc, says(alloc)?.as_str())?;
+    let expected = prints(alloc, rows.as_str())?;
+    let observed = run_whole(alloc, says(alloc)?.as_str())?;
     let is_long = size_of(rows.as_str()) > 65_536;
-    let is_wanted = told.as_str() == wanted.as_str();
-    format!(in alloc; "long: {is_long}, as wanted: {is_wanted}")
+    let is_expected = observed.as_str() == expected.as_str();
+    format!(in alloc; "long: {is_long}, as wanted: {is_expected}")
 }
 
 /// How many lines `add a.wav` a list of 2,097,152 bytes holds.

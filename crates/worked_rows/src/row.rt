@@ -4,7 +4,7 @@ ghost use Rattle.std.specs.Prelude.{◌<◌, IfSome};
 
 use std::alloc::Global;
 
-/// How an output line is wanted.
+/// How an output line is expected.
 #[derive(Clone, Copy, PartialEq, Eq)]
 pub(crate) enum Kind {
     /// The next line is this one.
@@ -15,9 +15,9 @@ pub(crate) enum Kind {
     Lacks,
 }
 
-/// A wanted output line.
+/// An expected output line.
 #[derive(Drop)]
-pub(crate) struct Wanted {
+pub(crate) struct Expected {
     pub(crate) kind: Kind,
     /// The client whose answer it is; no byte of a client at a step.
     pub(crate) sender: u8,
@@ -28,14 +28,14 @@ pub(crate) struct Wanted {
     pub(crate) text: Vec<u8>,
 }
 
-/// A session: its input, the lines that stand in front of it in further runs, and the output that is wanted
+/// A session: its input, the lines that stand in front of it in further runs, and the output that is expected
 /// of each run. While it is read, also the number of its last line, that of the last input line, and the
 /// latter's client.
 #[derive(Drop)]
 pub struct Row {
     input: Vec<u8>,
     again: Vec<String>,
-    wanted: Vec<Wanted>,
+    expected: Vec<Expected>,
     line: u64,
     step: u64,
     sender: u8,
@@ -47,7 +47,7 @@ impl Row {
         let mut row = Row {
             input: Vec::new(alloc),
             again: Vec::new(alloc),
-            wanted: Vec::new(alloc),
+            expected: Vec::new(alloc),
             line: 0,
             step: 0,
             sender: 0,
@@ -66,14 +66,14 @@ impl Row {
         if is_passed_over(line) {
             return true;
         }
-        let Some((mark, text)) = line.split_once(' ') else {
+        let Some((prefix, text)) = line.split_once(' ') else {
             return line == ">" && self.takes_input(&[]);
         };
         let mut bytes = Vec::new(alloc);
-        if !push_text(&mut bytes, mark, text) {
+        if !push_text(&mut bytes, prefix, text) {
             return false;
         }
-        match mark {
+        match prefix {
             ">" | ">e" => self.takes_input(bytes.as_slice()),
             "<" | "<e" => self.wants(Kind::Exact, bytes),
             "<~" | "<~e" => self.wants(Kind::Has, bytes),
@@ -90,14 +90,14 @@ impl Row {
     }
 
     fn wants(&mut self, kind: Kind, text: Vec<u8>) -> bool {
-        let wanted = Wanted {
+        let expected = Expected {
             kind,
             sender: self.sender,
             step: self.step,
             line: self.line,
             text,
         };
-        self.wanted.push(wanted).is_ok()
+        self.expected.push(expected).is_ok()
     }
 
     /// Takes in `STAGE LINE`.
@@ -120,8 +120,8 @@ impl Row {
         &self.again
     }
 
-    pub(crate) fn wanted(&self) -> &[Wanted] {
-        &self.wanted
+    pub(crate) fn expected(&self) -> &[Expected] {
+        &self.expected
     }
 }
 
@@ -132,11 +132,11 @@ fn is_passed_over(line: &str) -> bool {
         || line.starts_with("until: ")
 }
 
-/// Appends the bytes of the text after a mark: with one that ends with `e` it has escapes. False where one of them is
+/// Appends the bytes of the text after a prefix: with one that ends with `e` it has escapes. False where one of them is
 /// unknown, or where there is no memory.
-fn push_text(bytes: &mut Vec<u8>, mark: &str, text: &str) -> bool {
+fn push_text(bytes: &mut Vec<u8>, prefix: &str, text: &str) -> bool {
     let mut rest = text;
-    if mark.ends_with('e') {
+    if prefix.ends_with('e') {
         for _ in 0..=text.len() {
             let Some((front, after)) = rest.split_once('\\') else {
                 break;

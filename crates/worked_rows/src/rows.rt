@@ -20,12 +20,12 @@ const MAX_ROWS: usize = 4_096;
 /// A row whose runs all printed what it wants, or all of these.
 #[derive(Clone, Copy)]
 struct Passed {
-    /// The wanted lines.
+    /// The expected lines.
     lines: u64,
     runs: u64,
 }
 
-/// Runs each row, and prints how many lines were as wanted.
+/// Runs each row, and prints how many lines were as expected.
 pub fn run_all(rt: &HostRuntime) -> io::Result<()> {
     let names = names_of_rows(rt)?;
     run_each(rt, &names)
@@ -88,13 +88,13 @@ fn run_of(alloc: Global, text: &str) -> Result<Outcome, AllocError> {
     let mut runs = 1u64;
     for first in row.again() {
         if let Some(difference) = difference_behind(alloc, &row, first.as_str())? {
-            let told = format!(in alloc; "\n  behind the line {first}{difference}")?;
-            return Ok(Outcome::Differs(told));
+            let description = format!(in alloc; "\n  behind the line {first}{difference}")?;
+            return Ok(Outcome::Differs(description));
         }
         runs = runs.saturating_add(1);
     }
     Ok(Outcome::Passes(Passed {
-        lines: row.wanted().len() as u64,
+        lines: row.expected().len() as u64,
         runs,
     }))
 }
@@ -109,5 +109,5 @@ fn difference_behind(alloc: Global, row: &Row, first: &str) -> Result<Option<Str
     if ended.is_err() {
         return Ok(Some(String::from_str(alloc, "\n  the script did not end well")?));
     }
-    difference(alloc, row.wanted(), written.bytes())
+    difference(alloc, row.expected(), written.bytes())
 }

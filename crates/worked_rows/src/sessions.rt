@@ -1,4 +1,4 @@
-//! Runs the sessions that are no rows, and prints whether they told what is wanted: how a run ended, a
+//! Runs the sessions that are no rows, and prints whether they told what is expected: how a run ended, a
 //! newline, and what it printed.
 
 use crate::broken::{reader_fails, writer_fails};
@@ -27,16 +27,16 @@ pub fn run_all(rt: &HostRuntime) -> io::Result<()> {
     let alloc = rt.alloc();
     println!(rt;
         "a long session: {}\nthe largest list: {}\na writer that fails: {}\na reader that fails: {}",
-        whether_wanted(long_session(alloc), "long: true, as wanted: true"),
-        whether_wanted(largest_list(alloc), LARGEST_LIST),
-        whether_wanted(writer_fails(alloc), "write fault\n1 OK MPD 0"),
-        whether_wanted(reader_fails(alloc), CUT_OFF)
+        whether_expected(long_session(alloc), "long: true, as wanted: true"),
+        whether_expected(largest_list(alloc), LARGEST_LIST),
+        whether_expected(writer_fails(alloc), "write fault\n1 OK MPD 0"),
+        whether_expected(reader_fails(alloc), CUT_OFF)
     )
 }
 
-fn whether_wanted(told: Result<String, AllocError>, wanted: &str) -> &'static str {
-    match told {
-        Ok(told) if told.as_str() == wanted => "as wanted",
+fn whether_expected(observed: Result<String, AllocError>, expected: &str) -> &'static str {
+    match observed {
+        Ok(observed) if observed.as_str() == expected => "as wanted",
         _ => "DIFFERS",
     }
 }

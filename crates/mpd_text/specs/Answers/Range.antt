@@ -1,7 +1,7 @@
--- Ranges of places in arguments (MPD protocol reference, Requests: Ranges).
+-- Ranges of positions in arguments (MPD protocol reference, Requests: Ranges).
 use Rattle.std.specs.Prelude.{◌≡◌, ℕ, ◌+◌, List, [], ◌∷◌, length, Option, Some, None, Bool, true, false, ◌==◌, ◌&&◌, nat_le, nat_lt, min, option_map, if◌then◌else◌}
 use Rattle.std.specs.List.{position_or_len, before_first, after_first}
-use Rattle.std.specs.declared.ops.Range.{Range as Places}
+use Rattle.std.specs.declared.ops.Range.{Range as Positions}
 use Rattle.mpd_text.specs.Answers.Number.{number_of}
 use Rattle.mpd_text.specs.declared.answers.ranges.Range.{Range}
 use Rattle.mpd_text.specs.declared.answers.ranges.Range.TheVariants.{Lone, Between, From}
@@ -39,12 +39,12 @@ from_to (Some start) (b ∷ bs) = between start (number_of (b ∷ bs))
 unfoldable pub range_of : List ℕ → Option Range
 range_of text = if has_byte 58 text then from_to (number_of (before 58 text)) (after 58 text) else option_map Lone (number_of text)
 
-abbrev pub places : ℕ → ℕ → Places ℕ
-places start end = record { start = start; end = end }
+abbrev pub positions : ℕ → ℕ → Positions ℕ
+positions start end = record { start = start; end = end }
 
--- the places of a range in a list of so many items, where it begins in the list or at its end and does not
+-- the positions of a range in a list of so many items, where it begins in the list or at its end and does not
 -- end before it begins
-abbrev pub within : Range → ℕ → Option (Places ℕ)
-within (Lone place) len = if nat_lt place len then Some (places place (place + 1)) else None
-within (Between start end) len = if nat_le start len && nat_le start end then Some (places start (min len end)) else None
-within (From start) len = if nat_le start len then Some (places start len) else None
+abbrev pub within : Range → ℕ → Option (Positions ℕ)
+within (Lone position) len = if nat_lt position len then Some (positions position (position + 1)) else None
+within (Between start end) len = if nat_le start len && nat_le start end then Some (positions start (min len end)) else None
+within (From start) len = if nat_le start len then Some (positions start len) else None

@@ -17,7 +17,7 @@ abbrev pub after : List (List ℕ) → Result (List (List ℕ)) WordsFault → R
 after words (Ok more) = Ok (words ++ more)
 after words (Err fault) = Err fault
 
--- what the rest of a line gives at a place, after so many words and the start of one
+-- what the rest of a line gives at an offset, after so many words and the start of one
 unfoldable pub scan : QuotingState → ℕ → List ℕ → List ℕ → Result (List (List ℕ)) WordsFault
 scan Between count word [] = Ok []
 scan Between count word (b ∷ bs) =

@@ -12,7 +12,7 @@ tag_names = Title ∷ Artist ∷ Album ∷ Date ∷ Genre ∷ Comment ∷ AlbumA
 abbrev pub base_tag_names : List TagName
 base_tag_names = Title ∷ Artist ∷ Album ∷ Date ∷ Genre ∷ Comment ∷ []
 
--- the place of a tag in that order, by which tags are told apart
+-- the index of a tag in that order, by which tags are told apart
 abbrev pub tag_number : TagName → ℕ
 tag_number Title = 0
 tag_number Artist = 1

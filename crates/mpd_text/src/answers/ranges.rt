@@ -1,4 +1,4 @@
-//! Ranges of places in arguments (MPD protocol reference, Requests: Ranges).
+//! Ranges of positions in arguments (MPD protocol reference, Requests: Ranges).
 ghost use Rattle.std.specs.Prelude.{◌≡◌, Some, None, MatchOption, IfSome, ◌<◌, ◌≤◌};
 ghost use Rattle.mpd_text.specs.Answers.Number.{number_of};
 ghost use Rattle.mpd_text.specs.Answers.Range.{HasNoByte, IsCutAt, range_of, within as within_lem};
@@ -9,7 +9,7 @@ use std::ops;
 /// Places in a list, as an argument names them.
 #[derive(Clone, Copy, Debug, PartialEq, Eq)]
 pub enum Range {
-    /// One place. It is not the range that begins there: at the end of the list it names nothing.
+    /// One position. It is not the range that begins there: at the end of the list it names nothing.
     Lone(u32),
     /// From a start up to an end, which is left out. The start is not above the end.
     Between(u32, u32),
@@ -39,14 +39,14 @@ impl Range {
         }
     }
 
-    /// Its places in a list of so many items, the end cut to the list's; `None` where it begins after the
-    /// list's end, or is one place that the list does not have.
+    /// Its positions in a list of so many items, the end cut to the list's; `None` where it begins after the
+    /// list's end, or is one position that the list does not have.
     pub fn within(self, len: usize) -> Option<ops::Range<usize>>
-        ensures places { result ≡ within_lem self len }
-        ensures inside { IfSome result (λ places. (places.start ≤ places.end) × (places.end ≤ len)) }
+        ensures positions { result ≡ within_lem self len }
+        ensures inside { IfSome result (λ positions. (positions.start ≤ positions.end) × (positions.end ≤ len)) }
     {
         let (start, end) = match self {
-            Range::Lone(place) => (place as usize, place as usize + 1),
+            Range::Lone(position) => (position as usize, position as usize + 1),
             Range::Between(start, end) => (start as usize, len.min(end as usize)),
             Range::From(start) => (start as usize, len),
         };

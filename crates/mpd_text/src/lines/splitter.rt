@@ -172,7 +172,7 @@ fn split_lines(alloc: Global, first: Line, stream: &[u8]) -> Result<SplitLines, 
     })
 }
 
-/// The place of the first newline from this place on, or the length where there is none.
+/// The offset of the first newline from this offset on, or the length where there is none.
 fn newline_from(bytes: &[u8], start: usize) -> usize
     requires { start ≤ length bytes.now }
     ensures bound { (start ≤ result) × (result ≤ length bytes.now) }

@@ -59,12 +59,12 @@ impl Player {
         ensures err { OnErr result (self.new ≡ self.old) }
         ensures err_queue { OnErr result (queue.new ≡ queue.old) }
     {
-        let place = self.place;
+        let offset = self.offset;
         let Some(entry) = entry_with(queue, id) else {
             return Ok(None);
         };
-        if entry.song.song().frames() <= place {
-            self.end(queue, id, place, 0)?;
+        if entry.song.song().frames() <= offset {
+            self.end(queue, id, offset, 0)?;
             return Ok(None);
         }
         let next = self.round.peek(self.modes, queue, id);
@@ -72,9 +72,9 @@ impl Player {
         Ok(Some(job))
     }
 
-    /// A job from the player's place. What the end of the song would start is `next`.
+    /// A job from the player's offset. What the end of the song would start is `next`.
     fn ask(&mut self, rate: u32, entry: &Entry, next: Option<&Entry>) -> Result<Job, PlayerFault>
-        requires { self.old.place < entry.now.song.frames }
+        requires { self.old.offset < entry.now.song.frames }
         ensures job { IfOk result (IsJobFor rate self.old entry.now (option_copied next.entry)) }
         ensures ok { OnOk result (self.new ≡ with_job_for rate self.old entry.now (option_copied next.entry)) }
         ensures limit { IsRefusedAtLimit result (with_job_for rate self.old entry.now (option_copied next.entry)) }
@@ -89,8 +89,8 @@ impl Player {
         let job = Job {
             number: self.jobs + 1,
             id: entry.id,
-            from: self.place,
-            count: BLOCK.min(end - self.place),
+            from: self.offset,
+            count: BLOCK.min(end - self.offset),
             fade: self.part_of_fade(entry),
         };
         self.jobs += 1;
@@ -153,20 +153,20 @@ impl Player {
 
     /// Accepts frames of a job, and ends the song where they are its last.
     fn accept(&mut self, queue: &mut Queue, job: Job, count: u64) -> Result<(), PlayerFault>
-        requires count { self.old.place + count < 2 ^ 64 }
-        requires fade { ForSome job.fade (λ part. part.index ≤ self.old.place) }
+        requires count { self.old.offset + count < 2 ^ 64 }
+        requires fade { ForSome job.fade (λ part. part.index ≤ self.old.offset) }
         ensures ok { OnOk result (self.new ≡ (decoding.after_accepted self.old queue.old job count).player) }
         ensures queue { OnOk result (queue.new ≡ (decoding.after_accepted self.old queue.old job count).queue) }
         ensures limit { IsRefusedAtLimit result (decoding.after_accepted self.old queue.old job count).player }
         ensures err { OnErr result (self.new ≡ self.old) }
         ensures err_queue { OnErr result (queue.new ≡ queue.old) }
     {
-        let accepted = self.place + count;
+        let accepted = self.offset + count;
         if count < job.count || is_heard(entry_with(queue, job.id), accepted) {
-            let place = mixed(job.fade, count);
-            return self.end(queue, job.id, accepted, place);
+            let offset = mixed(job.fade, count);
+            return self.end(queue, job.id, accepted, offset);
         }
-        self.place = accepted;
+        self.offset = accepted;
         self.job = None;
         Ok(())
     }

@@ -66,7 +66,7 @@ impl Player {
         Ok(())
     }
 
-    /// Takes the entries from a place up to another out of the queue, of which one is the current song.
+    /// Takes the entries from a position up to another out of the queue, of which one is the current song.
     fn remove_current(
         &mut self,
         queue: &mut Queue,

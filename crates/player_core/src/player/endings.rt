@@ -31,18 +31,18 @@ impl Player {
         Ok(())
     }
 
-    /// The current song, which has this id, ends by itself, and what follows starts at a place. So many
+    /// The current song, which has this id, ends by itself, and what follows starts at an offset. So many
     /// frames of the song were accepted.
     pub(super) fn end(
         &mut self,
         queue: &mut Queue,
         id: u32,
         accepted: u64,
-        place: u64,
+        offset: u64,
     ) -> Result<(), PlayerFault>
-        ensures ok { OnOk result (self.new ≡ (steps.after_end self.old queue.old accepted id place).player) }
-        ensures queue { OnOk result (queue.new ≡ (steps.after_end self.old queue.old accepted id place).queue) }
-        ensures limit { IsRefusedAtLimit result (steps.after_end self.old queue.old accepted id place).player }
+        ensures ok { OnOk result (self.new ≡ (steps.after_end self.old queue.old accepted id offset).player) }
+        ensures queue { OnOk result (queue.new ≡ (steps.after_end self.old queue.old accepted id offset).queue) }
+        ensures limit { IsRefusedAtLimit result (steps.after_end self.old queue.old accepted id offset).player }
         ensures err { OnErr result (self.new ≡ self.old) }
         ensures err_queue { OnErr result (queue.new ≡ queue.old) }
     {
@@ -53,8 +53,8 @@ impl Player {
         let ending = self.round.after_end(self.modes, queue, id)?;
         self.modes = ending.modes;
         self.job = None;
-        self.place = accepted;
-        self.go_on(self.playback, ending.starts, place, ending.current);
+        self.offset = accepted;
+        self.go_on(self.playback, ending.starts, offset, ending.current);
         Ok(())
     }
 }

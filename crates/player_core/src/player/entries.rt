@@ -18,12 +18,12 @@ pub(super) fn is_entry_with(entry: Option<&Entry>, id: u32) -> bool
     }
 }
 
-/// Whether the song of an entry has been heard to its end at a place.
-pub(super) fn is_heard(entry: Option<&Entry>, place: u64) -> bool
-    ensures { result ≡ decoding.is_heard (option_copied entry.entry) place }
+/// Whether the song of an entry has been heard to its end at an offset.
+pub(super) fn is_heard(entry: Option<&Entry>, offset: u64) -> bool
+    ensures { result ≡ decoding.is_heard (option_copied entry.entry) offset }
 {
     match entry {
-        Some(entry) => entry.song.song().frames() <= place,
+        Some(entry) => entry.song.song().frames() <= offset,
         None => false,
     }
 }
@@ -38,7 +38,7 @@ pub(super) fn has_lost_partner(part: Option<FadePart>, next: Option<&Entry>) -> 
     }
 }
 
-/// Whether the current song stands in a range of places.
+/// Whether the current song stands in a range of positions.
 pub(super) fn holds_current(queue: &Queue, current: Option<u32>, from: usize, end: usize) -> bool
     requires { end ≤ length (queue_of queue.now) }
     ensures { result ≡ steps.holds_current (queue_of queue.now) current from end }
@@ -47,7 +47,7 @@ pub(super) fn holds_current(queue: &Queue, current: Option<u32>, from: usize, en
         return false;
     };
     match queue.position_of(id) {
-        Some(place) => from <= place && place < end,
+        Some(position) => from <= position && position < end,
         None => false,
     }
 }

@@ -16,8 +16,8 @@ impl Player {
     }
 
     /// Where a fade into the next entry would begin.
-    fn fade_place(&self, rate: u32, entry: &Entry, next: &Entry) -> u64
-        ensures place { result ≡ decoding.fade_place rate self.now entry.now next.now }
+    fn fade_offset(&self, rate: u32, entry: &Entry, next: &Entry) -> u64
+        ensures offset { result ≡ decoding.fade_offset rate self.now entry.now next.now }
         ensures within { result ≤ entry.now.song.frames }
     {
         let frames = entry.song.song().frames();
@@ -26,16 +26,16 @@ impl Player {
 
     /// How far a job may go: to the song's end, or to where a fade would begin.
     pub(super) fn reach(&self, rate: u32, entry: &Entry, next: Option<&Entry>) -> u64
-        requires { self.now.place < entry.now.song.frames }
+        requires { self.now.offset < entry.now.song.frames }
         ensures end { result ≡ decoding.reach rate self.now entry.now (option_copied next.entry) }
-        ensures ahead { self.now.place < result }
+        ensures ahead { self.now.offset < result }
     {
         match next {
             None => entry.song.song().frames(),
             Some(next) => {
-                let place = self.fade_place(rate, entry, next);
-                if self.can_fade(entry, next) && self.place < place {
-                    place
+                let offset = self.fade_offset(rate, entry, next);
+                if self.can_fade(entry, next) && self.offset < offset {
+                    offset
                 } else {
                     entry.song.song().frames()
                 }
@@ -43,14 +43,14 @@ impl Player {
         }
     }
 
-    /// Fixes a fade whose place is reached.
+    /// Fixes a fade whose offset is reached.
     pub(super) fn fix_fade(&mut self, rate: u32, entry: &Entry, next: Option<&Entry>)
-        requires { self.old.place < entry.now.song.frames }
+        requires { self.old.offset < entry.now.song.frames }
         ensures { self.new ≡ decoding.faded rate self.old entry.now (option_copied next.entry) }
     {
         if let Some(next) = next {
-            if self.can_fade(entry, next) && self.fade_place(rate, entry, next) <= self.place {
-                let left = entry.song.song().frames() - self.place;
+            if self.can_fade(entry, next) && self.fade_offset(rate, entry, next) <= self.offset {
+                let left = entry.song.song().frames() - self.offset;
                 let len = fade_len(rate, self.crossfade, left, next);
                 self.fade = Some(Fade {
                     partner: next.id,
@@ -60,17 +60,17 @@ impl Player {
         }
     }
 
-    /// The part of a fade that begins at the player's place.
+    /// The part of a fade that begins at the player's offset.
     pub(super) fn part_of_fade(&self, entry: &Entry) -> Option<FadePart>
         ensures part { result ≡ decoding.part_of self.now entry.now self.now.fade }
-        ensures within { ForSome result (λ part. part.index ≤ self.now.place) }
+        ensures within { ForSome result (λ part. part.index ≤ self.now.offset) }
     {
         match self.fade {
             None => None,
             Some(fade) => Some(FadePart {
                 partner: fade.partner,
                 index: self
-                    .place
+                    .offset
                     .saturating_sub(entry.song.song().frames().saturating_sub(fade.len)),
                 len: fade.len,
             }),

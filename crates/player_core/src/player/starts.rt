@@ -31,14 +31,14 @@ impl Player {
         starts && self.ends_cuts(true)
     }
 
-    /// The entry with an id starts at a place.
-    fn set_current(&mut self, playback: Playback, id: u32, place: u64)
+    /// The entry with an id starts at an offset.
+    fn set_current(&mut self, playback: Playback, id: u32, offset: u64)
         requires { self.old.starts < self.old.max_cut }
-        ensures { self.new ≡ player.started self.old playback id place }
+        ensures { self.new ≡ player.started self.old playback id offset }
     {
         self.playback = playback;
         self.current = Some(id);
-        self.place = place;
+        self.offset = offset;
         self.starts += 1;
         self.error = None;
         self.job = None;
@@ -73,34 +73,34 @@ impl Player {
         self.gave_up = true;
     }
 
-    /// An entry starts at a place, or the player stops where there is none.
+    /// An entry starts at an offset, or the player stops where there is none.
     pub(super) fn go_on(
         &mut self,
         playback: Playback,
         starts: Option<u32>,
-        place: u64,
+        offset: u64,
         current: Option<u32>,
     )
         requires { limits.ends_starts self.old (is_some starts) ≡ false }
-        ensures { self.new ≡ player.goes_on self.old playback starts place current }
+        ensures { self.new ≡ player.goes_on self.old playback starts offset current }
     {
         // A field is read, so that the numbers are known to be within their limit.
         let _ = &self.max_cut;
         match starts {
-            Some(id) => self.set_current(playback, id, place),
+            Some(id) => self.set_current(playback, id, offset),
             None => self.halt(current),
         }
     }
 
     /// An entry starts by hand, if there is one.
-    pub(super) fn start_by_hand(&mut self, playback: Playback, starts: Option<u32>, place: u64)
+    pub(super) fn start_by_hand(&mut self, playback: Playback, starts: Option<u32>, offset: u64)
         requires { limits.ends_by_hand self.old (is_some starts) ≡ false }
-        ensures { self.new ≡ player.starts_by_hand self.old playback starts place }
+        ensures { self.new ≡ player.starts_by_hand self.old playback starts offset }
     {
         // A field is read, so that the numbers are known to be within their limit.
         let _ = &self.max_cut;
         if let Some(id) = starts {
-            self.set_current(playback, id, place);
+            self.set_current(playback, id, offset);
             self.cut();
         }
     }
@@ -110,17 +110,17 @@ impl Player {
         &mut self,
         playback: Playback,
         id: u32,
-        place: u64,
+        offset: u64,
     ) -> Result<(), PlayerFault>
-        ensures ok { OnOk result (self.new ≡ steps.start self.old playback id place) }
-        ensures limit { IsRefusedAtLimit result (steps.start self.old playback id place) }
+        ensures ok { OnOk result (self.new ≡ steps.start self.old playback id offset) }
+        ensures limit { IsRefusedAtLimit result (steps.start self.old playback id offset) }
         ensures err { OnErr result (self.new ≡ self.old) }
     {
         if self.ends_by_hand(true) {
             return Err(PlayerFault::CutsAtLimit);
         }
         self.round.started(self.modes, id)?;
-        self.start_by_hand(playback, Some(id), place);
+        self.start_by_hand(playback, Some(id), offset);
         Ok(())
     }
 }

@@ -66,17 +66,17 @@ impl Player {
         ensures limit { IsRefusedAtLimit result (steps.seek self.old entry.now frame) }
         ensures err { OnErr result (self.new ≡ self.old) }
     {
-        let place = frame.min(entry.song.song().frames());
+        let offset = frame.min(entry.song.song().frames());
         let playback = playing_or_paused(self.playback);
         if self.current != Some(entry.id) {
-            return self.start(playback, entry.id, place);
+            return self.start(playback, entry.id, offset);
         }
         if self.ends_cuts(false) {
             return Err(PlayerFault::CutsAtLimit);
         }
         self.cuts += 1;
         self.playback = playback;
-        self.place = place;
+        self.offset = offset;
         self.job = None;
         self.fade = None;
         self.gave_up = false;

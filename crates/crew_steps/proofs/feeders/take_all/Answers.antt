@@ -1,6 +1,6 @@
 use Rattle.std.proofs.Common.{rules, arith, ◌≡◌, ◌+◌, subst, sym, ◌∙◌}
 use Rattle.crew_steps.specs.Feeding.{TakesItsOwn, fed_frames}
-use Rattle.crew_steps.proofs.Places.{so_far_all, so_far_next, so_far_none}
+use Rattle.crew_steps.proofs.Indices.{so_far_all, so_far_next, so_far_none}
 use Rattle.crew_steps.proofs.feeders.take_all.Goals as goal
 
 pub loop-i-init : goal.loop-i-init

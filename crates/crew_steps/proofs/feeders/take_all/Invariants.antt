@@ -1,6 +1,6 @@
 use Rattle.crew_steps.specs.Each.{EachAt}
 use Rattle.crew_steps.specs.Feeding.{TakesItsOwn, fed_frames}
-use Rattle.crew_steps.proofs.Places.{SoFar}
+use Rattle.crew_steps.proofs.Indices.{SoFar}
 use Rattle.crew_steps.proofs.feeders.take_all.Given as goal
 
 abbrev pub invariant-loop-i : goal.invariant-loop-i

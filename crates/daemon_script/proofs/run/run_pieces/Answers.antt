@@ -1,7 +1,7 @@
 use Rattle.std.proofs.Common.{◌<◌, ℕ, List, length, take, inr, sym, subst, ◌∙◌, arith, rules}
 use Rattle.std.specs.Io.KnownBytes.{Appends}
 use Rattle.daemon_script.specs.Output.{AppendsFront}
-use Rattle.daemon_script.proofs.Ran.{start_ran, all_here, front_of_all, keeps_same, none_of_piece, front_shown, whole_input, all_closed, one_turn, some_left, none_left, on_err, few, few_in_all, too_often}
+use Rattle.daemon_script.proofs.Ran.{start_ran, all_here, front_of_all, keeps_same, none_of_piece, front_shown, whole_input, all_closed, one_iteration, some_left, none_left, on_err, few, few_in_all, too_often}
 use Rattle.daemon_script.proofs.run.run_pieces.Goals as goal
 
 pub loop-init : goal.loop-init
@@ -65,7 +65,7 @@ returns-then-is_closed-clause-ok g c =
 
 pub loop-preserved : goal.loop-preserved
 loop-preserved g c =
-    one_turn c.any_cut.ensures _ _ (g.R.Read.remaining c.read_some.new.self) _ _ (g.W.Write.contents c.write_whole.new.writer) _ c.show_piece.new.splitter _ _ (take c.in-Ok.count c.read_some.new.buf) _ _ _ _ _ _ _ _ _
+    one_iteration c.any_cut.ensures _ _ (g.R.Read.remaining c.read_some.new.self) _ _ (g.W.Write.contents c.write_whole.new.writer) _ c.show_piece.new.splitter _ _ (take c.in-Ok.count c.read_some.new.buf) _ _ _ _ _ _ _ _ _
     c.loop.invariant c.in-Ok.ensures.bytes.0 c.clear.ensures.items c.in_ok-show_piece.ensures.shows
     (subst (λ (l : List ℕ). Appends (g.W.Write.contents c.loop.writer) (g.W.Write.contents c.write_whole.new.writer) l) c.as_slice.ensures.value c.in_ok-write_whole.ensures.ok)
     c.in_ok-show_piece.ensures.next (some_left c.show_piece.new.splitter (search rules)) c.read_some.ensures.calm c.read_some.ensures.calls c.write_whole.ensures.calm

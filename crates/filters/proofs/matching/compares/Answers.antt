@@ -6,4 +6,4 @@ use Rattle.filters.proofs.matching.compares.Goals as goal
 
 pub returns-in-Contains-clause-truth : goal.returns-in-Contains-clause-truth
 returns-in-Contains-clause-truth c =
-    subst (λ (test : Test). IfOk c.relates-in-Contains.result (λ yes. IsTrue yes ↔ Compares c.args.case test c.args.wanted.now c.args.field c.args.song.now)) (sym c.in-Contains.is) c.relates-in-Contains.ensures.truth
+    subst (λ (test : Test). IfOk c.relates-in-Contains.result (λ yes. IsTrue yes ↔ Compares c.args.case test c.args.value.now c.args.field c.args.song.now)) (sym c.in-Contains.is) c.relates-in-Contains.ensures.truth

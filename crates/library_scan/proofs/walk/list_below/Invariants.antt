@@ -12,6 +12,6 @@ invariant-loop-uri g l = record {
   unread : EachFailed (g.D.Failing.call_counts l.initial.disk) (g.D.Failing.call_counts l.disk) l.initial.found.refused.items l.found.refused.items;
 }
 
--- how many places there are still
+-- how many indices there are still
 abbrev pub decreases-loop-uri : goal.decreases-loop-uri
 decreases-loop-uri g l = 2 ^ 64 - l.at

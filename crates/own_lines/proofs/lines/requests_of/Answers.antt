@@ -7,5 +7,5 @@ use Rattle.own_lines.proofs.lines.requests_of.Goals as goal
 
 pub returns : goal.returns
 returns c =
-    let t = YieldsList-end (YieldsList-from_lines c.args.text.now cc) c.told.yielded _ c.told.yielded_by _ _ c.in-None.is c.next.ensures.steps in
-    c.told.invariant ∙ ap (map (λ (line : List ℕ). request_of line fewest)) t.0
+    let t = YieldsList-end (YieldsList-from_lines c.args.text.now cc) c.each_line.yielded _ c.each_line.yielded_by _ _ c.in-None.is c.next.ensures.steps in
+    c.each_line.invariant ∙ ap (map (λ (line : List ℕ). request_of line fewest)) t.0

@@ -7,7 +7,7 @@ use Rattle.player_state.specs.declared.effect.AudioStep.{AudioStep}
 use Rattle.player_state.specs.declared.effect.AudioStep.TheVariants.{Settles}
 use Rattle.player_state.specs.declared.state.Part.{Part}
 use Rattle.player_state.specs.Outputs.{is_output}
-use Rattle.partition.specs.Applying.{WritesAlone, place_in_state}
+use Rattle.partition.specs.Applying.{WritesAlone, index_in_state}
 use Rattle.partition.specs.Step.{absent, output_turn, want}
 use Rattle.partition.proofs.event_transitions.transition_of_event.Goals as goal
 
@@ -37,14 +37,14 @@ want_fits false (Some part) owes = tt
 pub returns-in_ok-transition-in-Line-clause-fits : goal.returns-in_ok-transition-in-Line-clause-fits
 returns-in_ok-transition-in-Line-clause-fits c =
     let t : TransitionData = c.in_ok-transition-in-Line.transition in
-    let here : Option Part = part_at (place_in_state c.args.state.now c.args.event.now) c.args.state.now.parts in
+    let here : Option Part = part_at (index_in_state c.args.state.now c.args.event.now) c.args.state.now.parts in
     let is : option_copied c.at-part.result ≡ here = search rules in
     subst (λ (u : TransitionData). FitsIn here u.effect) (sym c.once_written.ensures.transition)
     (fits_once here (is_written t.written) t (subst (λ (o : Option Part). FitsIn o t.effect) is c.in_ok-transition-in-Line.ensures.fits))
 
 pub returns-in-Want-clause-fits : goal.returns-in-Want-clause-fits
 returns-in-Want-clause-fits c =
-    let here : Option Part = part_at (place_in_state c.args.state.now c.args.event.now) c.args.state.now.parts in
+    let here : Option Part = part_at (index_in_state c.args.state.now c.args.event.now) c.args.state.now.parts in
     let is : option_copied c.at-part.result ≡ here = search rules in
     subst (λ (u : TransitionData). FitsIn here u.effect)
     (sym (c.want.ensures ∙ ap (λ o. want c.args.state.now.ended o c.in-Want.owes) is))
@@ -59,7 +59,7 @@ returns-in-OutputTurn-clause-alone c =
 pub returns-in-OutputTurn-clause-fits : goal.returns-in-OutputTurn-clause-fits
 returns-in-OutputTurn-clause-fits c =
     let turn : AudioStep = Settles c.in-OutputTurn.output c.in-OutputTurn.written c.in-OutputTurn.discarded c.in-OutputTurn.failed in
-    let here : Option Part = part_at (place_in_state c.args.state.now c.args.event.now) c.args.state.now.parts in
+    let here : Option Part = part_at (index_in_state c.args.state.now c.args.event.now) c.args.state.now.parts in
     let is : option_copied c.at-part.result ≡ here = search rules in
     subst (λ (u : TransitionData). FitsIn here u.effect)
     (sym (c.or_ended.ensures ∙ ap (or_ended c.args.state.now.ended) (c.settle.ensures ∙ ap (λ o. output_turn o c.in-OutputTurn.output turn) is)))

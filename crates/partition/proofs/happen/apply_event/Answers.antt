@@ -32,7 +32,7 @@ on_ok_from (Err e) more p q s = tt
 pub returns-in_err-transition-clause-unchanged : goal.returns-in_err-transition-clause-unchanged
 returns-in_err-transition-clause-unchanged g c =
     on_err c.from_residual-in_err-transition.result (unchanged g.S.Shelf.standing g.S.Shelf.failed c.args.shelf.now c.ask_shelf.new.shelf c.ask_shelf.new.shelf _ _
-    c.ask_shelf.ensures.turns (uncalled (g.S.Shelf.standing c.ask_shelf.new.shelf) (g.S.Shelf.standing c.args.shelf.now).maps))
+    c.ask_shelf.ensures.changes (uncalled (g.S.Shelf.standing c.ask_shelf.new.shelf) (g.S.Shelf.standing c.args.shelf.now).maps))
 
 pub returns-then-is_written-clause-event : goal.returns-then-is_written-clause-event
 returns-then-is_written-clause-event g c =
@@ -44,15 +44,15 @@ pub returns-then-is_written-clause-shelf : goal.returns-then-is_written-clause-s
 returns-then-is_written-clause-shelf g c =
     let i : Image = image_of_state c.args.state.now in
     on_ok_from c.write_transition.result
-    (λ turns answers ample.
+    (λ changes answers ample.
     serves_written g.S.Shelf.standing g.S.Shelf.failed i c.args.event.now c.write_transition.new.event c.in_ok-read.read (store_reply_at c.write_transition.new.event).refused c.in_ok-transition.transition.written
-    c.args.shelf.now c.ask_shelf.new.shelf c.write_transition.new.shelf c.in_ok-read.ensures.turns
+    c.args.shelf.now c.ask_shelf.new.shelf c.write_transition.new.shelf c.in_ok-read.ensures.changes
     (subst (λ ks. Trusted (g.S.Shelf.standing c.args.shelf.now) (g.S.Shelf.standing c.ask_shelf.new.shelf)
     → IsRead (g.S.Shelf.failed c.args.shelf.now c.ask_shelf.new.shelf) (g.S.Shelf.standing c.args.shelf.now).maps (question_of i.shared.library ks c.args.event.now) c.in_ok-read.read) c.deref.ensures.value c.in_ok-read.ensures.read)
     (ap (λ (t : TransitionData). t.written) (c.in_ok-transition.ensures.transition ∙ ap (transition i) c.hear.ensures))
     (c.write_transition.ensures.event ∙ ap (λ (e : Event). with_store_reply e (record (store_reply_at e) { refused = (store_reply_at c.write_transition.new.event).refused })) c.hear.ensures)
-    turns answers ample)
-    c.write_transition.ensures.turns c.write_transition.ensures.answers c.write_transition.ensures.ample
+    changes answers ample)
+    c.write_transition.ensures.changes c.write_transition.ensures.answers c.write_transition.ensures.ample
 
 pub returns-clause-event : goal.returns-clause-event
 returns-clause-event g c =
@@ -70,7 +70,7 @@ returns-clause-shelf g c =
     let i : Image = image_of_state c.args.state.now in
     let none : is_written c.in_ok-transition.transition.written ≡ false = search rules in
     on_ok c.apply_transition.result
-    (serves_unwritten g.S.Shelf.standing g.S.Shelf.failed i c.args.event.now c.hear.new.self c.in_ok-read.read c.args.shelf.now c.ask_shelf.new.shelf c.in_ok-read.ensures.turns
+    (serves_unwritten g.S.Shelf.standing g.S.Shelf.failed i c.args.event.now c.hear.new.self c.in_ok-read.read c.args.shelf.now c.ask_shelf.new.shelf c.in_ok-read.ensures.changes
     (subst (λ ks. Trusted (g.S.Shelf.standing c.args.shelf.now) (g.S.Shelf.standing c.ask_shelf.new.shelf)
     → IsRead (g.S.Shelf.failed c.args.shelf.now c.ask_shelf.new.shelf) (g.S.Shelf.standing c.args.shelf.now).maps (question_of i.shared.library ks c.args.event.now) c.in_ok-read.read) c.deref.ensures.value c.in_ok-read.ensures.read)
     (sym (ap (λ (t : TransitionData). is_written t.written) (c.in_ok-transition.ensures.transition ∙ ap (transition i) c.hear.ensures)) ∙ none)
@@ -81,7 +81,7 @@ returns-clause-cause g c =
     let i : Image = image_of_state c.args.state.now in
     let none : is_written c.in_ok-transition.transition.written ≡ false = search rules in
     if_err c.apply_transition.result (λ fault. inr
-    (serves_unwritten g.S.Shelf.standing g.S.Shelf.failed i c.args.event.now c.hear.new.self c.in_ok-read.read c.args.shelf.now c.ask_shelf.new.shelf c.in_ok-read.ensures.turns
+    (serves_unwritten g.S.Shelf.standing g.S.Shelf.failed i c.args.event.now c.hear.new.self c.in_ok-read.read c.args.shelf.now c.ask_shelf.new.shelf c.in_ok-read.ensures.changes
     (subst (λ ks. Trusted (g.S.Shelf.standing c.args.shelf.now) (g.S.Shelf.standing c.ask_shelf.new.shelf)
     → IsRead (g.S.Shelf.failed c.args.shelf.now c.ask_shelf.new.shelf) (g.S.Shelf.standing c.args.shelf.now).maps (question_of i.shared.library ks c.args.event.now) c.in_ok-read.read) c.deref.ensures.value c.in_ok-read.ensures.read)
     (sym (ap (λ (t : TransitionData). is_written t.written) (c.in_ok-transition.ensures.transition ∙ ap (transition i) c.hear.ensures)) ∙ none)
@@ -90,4 +90,4 @@ returns-clause-cause g c =
 pub returns-clause-unchanged : goal.returns-clause-unchanged
 returns-clause-unchanged g c =
     on_err c.apply_transition.result (unchanged g.S.Shelf.standing g.S.Shelf.failed c.args.shelf.now c.ask_shelf.new.shelf c.ask_shelf.new.shelf _ _
-    c.ask_shelf.ensures.turns (uncalled (g.S.Shelf.standing c.ask_shelf.new.shelf) (g.S.Shelf.standing c.args.shelf.now).maps))
+    c.ask_shelf.ensures.changes (uncalled (g.S.Shelf.standing c.ask_shelf.new.shelf) (g.S.Shelf.standing c.args.shelf.now).maps))

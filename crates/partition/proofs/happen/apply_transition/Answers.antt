@@ -4,7 +4,7 @@ use Rattle.transitions.specs.declared.shelf_calls.ShelfWrite.TheVariants.{Nothin
 use Rattle.connected_clients.specs.Rooms.{listed}
 use Rattle.connected_clients.specs.Fingerprint.{raised_in}
 use Rattle.partition.proofs.Raised.{Shown, stepped, noticed, shown_by}
-use Rattle.partition.proofs.Settled.{unwritten}
+use Rattle.partition.proofs.UpToDate.{unwritten}
 use Rattle.partition.proofs.happen.apply_transition.Goals as goal
 
 pub returns-clause-image : goal.returns-clause-image

@@ -2,9 +2,9 @@ use Rattle.std.proofs.Common.{◌≡◌, ◌≤◌, sym, subst, length, arith, r
 use Rattle.std.specs.Prelude.{count_by, filter}
 use Rattle.connected_clients.specs.Clients.{is_other}
 use Rattle.connected_clients.specs.Rooms.{is_waiting, listed, room_in}
-use Rattle.connected_clients.specs.Settled.{HasRoom}
+use Rattle.connected_clients.specs.UpToDate.{HasRoom}
 use Rattle.connected_clients.specs.Fingerprint.{raised_in}
-use Rattle.partition.proofs.Settled.{fewer_wanted}
+use Rattle.partition.proofs.UpToDate.{fewer_waiting}
 use Rattle.connected_clients.proofs.Tells.{fewer_wait}
 use Rattle.partition.proofs.happen.tell_clients.Goals.{then-closing, else-closing}
 use Rattle.partition.proofs.happen.tell_clients.Goals as goal
@@ -15,7 +15,7 @@ tell_all-requires-clause-notices c =
       | then-closing w ↦
           let left : c.deref_mut.result.now ≡ filter (is_other c.args.number) c.args.clients.now.items = search rules in
           subst (λ ks. HasRoom (raised_in c.args.raised.now) ks (room_in c.args.notices.now)) (sym left)
-          (fewer_wanted (raised_in c.args.raised.now) c.args.number c.args.clients.now.items (room_in c.args.notices.now) c.requires.notices)
+          (fewer_waiting (raised_in c.args.raised.now) c.args.number c.args.clients.now.items (room_in c.args.notices.now) c.requires.notices)
       | else-closing w ↦
           let same : c.deref_mut.result.now ≡ c.args.clients.now.items = search rules in
           subst (λ ks. HasRoom (raised_in c.args.raised.now) ks (room_in c.args.notices.now)) (sym same) c.requires.notices

@@ -1,5 +1,5 @@
 use Rattle.std.proofs.Common.{◌≡◌, ◌∙◌, true, false, Option, Some, Err, refl, ap, sym, subst, rules}
-use Rattle.shelf.specs.Maps.{Turns}
+use Rattle.shelf.specs.Maps.{Changes}
 use Rattle.transitions.specs.declared.shelf_calls.ShelfWrite.{ShelfWrite}
 use Rattle.mpd_command.specs.declared.name.Name.{Name}
 use Rattle.shelf.specs.declared.faults.ShelfFault.{ShelfFault}
@@ -7,7 +7,7 @@ use Rattle.transitions.specs.declared.asked.Stand.{Stand}
 use Rattle.transitions.specs.declared.shelf_calls.StoreReply.{StoreReply}
 use Rattle.transitions.specs.Answers.{refused_by_shelf, stays}
 use Rattle.transitions.specs.Transitions.{TransitionData}
-use Rattle.transitions.specs.Shelves.{IsAnswered, is_wanting, is_written, maps_after}
+use Rattle.transitions.specs.Shelves.{IsAnswered, is_out_of_memory, is_written, maps_after}
 use Rattle.player_events.specs.Events.{store_reply_at, with_store_reply}
 use Rattle.partition.specs.Image.{Image, image_of_state}
 use Rattle.partition.specs.Step.{transition}
@@ -30,8 +30,8 @@ returns g c =
           ∙ sym (refused_transition i c.args.event.now c.in-Err.fault writes c.requires.unrefused)
           ∙ ap (transition i) (sym c.refuse.ensures);
       alone = rw c.only.ensures refl;
-      turns = rw refused_is (subst (λ (w : ShelfWrite). Turns (g.S.Shelf.standing c.args.shelf.now) (g.S.Shelf.standing c.write.new.shelf) false (maps_after w (g.S.Shelf.standing c.args.shelf.now).maps)) written_is c.in-Err.ensures.turns);
+      changes = rw refused_is (subst (λ (w : ShelfWrite). Changes (g.S.Shelf.standing c.args.shelf.now) (g.S.Shelf.standing c.write.new.shelf) false (maps_after w (g.S.Shelf.standing c.args.shelf.now).maps)) written_is c.in-Err.ensures.changes);
       answers = λ trusted. rw refused_is (subst (λ (w : ShelfWrite). IsAnswered (g.S.Shelf.failed c.args.shelf.now c.write.new.shelf) (g.S.Shelf.standing c.args.shelf.now).maps w (Err c.in-Err.fault)) written_is (c.in-Err.ensures.answers trusted));
-      ample = (let none : is_wanting (Some c.in-Err.fault) ≡ false = search rules in ap is_wanting refused_is ∙ none);
+      ample = (let none : is_out_of_memory (Some c.in-Err.fault) ≡ false = search rules in ap is_out_of_memory refused_is ∙ none);
       unchanged = tt;
     }

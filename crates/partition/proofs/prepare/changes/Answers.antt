@@ -28,5 +28,5 @@ returns c = λ e.
     let scan : c.args.transition.now.scan ≡ Stay = ap (λ (t : TransitionData). t.scan) (sym c.transition.view_is) ∙ c.stays.ensures inner.0 in
     let effect : c.args.transition.now.effect ≡ (ByCommand Rests) = ap (λ (t : TransitionData). t.effect) (sym c.transition.view_is) ∙ c.rests.ensures inner.1 in
     let crossing : c.args.transition.now.crossing ≡ Stays = ap (λ (t : TransitionData). t.crossing) (sym c.transition.view_is) ∙ c.stays-2.ensures all.1 in
-    let move_is : c.moves.result ≡ c.args.transition.now.response.move = c.moves.ensures ∙ ap (λ (t : TransitionData). t.response.move) c.transition.view_is in
+    let move_is : c.client_move.result ≡ c.args.transition.now.response.move = c.client_move.ensures ∙ ap (λ (t : TransitionData). t.response.move) c.transition.view_is in
     still_by c.args.transition.now scan effect crossing (subst GoesNowhere move_is (c.enters.ensures parts.1)) c.requires

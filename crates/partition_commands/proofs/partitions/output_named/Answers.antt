@@ -13,6 +13,6 @@ first-names name (q ∷ ps) p some is = ap (λ (x : Part). position (λ own. byt
 pub returns-in-len1-up : goal.returns-in-len1-up
 returns-in-len1-up c =
     let name = c.args.name.now in
-    c.place_among.ensures ∙ ap (λ (names : List (List ℕ)). position (λ own. bytes_eq own name) names) c.names.ensures
+    c.index_among.ensures ∙ ap (λ (names : List (List ℕ)). position (λ own. bytes_eq own name) names) c.names.ensures
     ∙ first-names name c.items.result.now c.part-item.result c.in-len1-up.len_at_least c.part-item.is
     ∙ ap (λ (ps : List Part). output_named name (map known ps)) c.items.ensures

@@ -1,4 +1,4 @@
-use Rattle.partition_laws.proofs.Crossings.{moves_rise, moves_tell_places, opens_apart, stays_apart}
+use Rattle.partition_laws.proofs.Crossings.{moves_rise, moves_tell_spots, opens_apart, stays_apart}
 use Rattle.partition_laws.proofs.laws.moves_rise.Goals as goal
 
 pub returns-clause-opening : goal.returns-clause-opening
@@ -11,4 +11,4 @@ pub returns-clause-rise : goal.returns-clause-rise
 returns-clause-rise c = moves_rise
 
 pub returns-clause-tell : goal.returns-clause-tell
-returns-clause-tell c = moves_tell_places
+returns-clause-tell c = moves_tell_spots

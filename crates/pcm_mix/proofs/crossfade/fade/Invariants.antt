@@ -3,4 +3,4 @@ use Rattle.pcm_mix.specs.Samples.{faded_frames}
 use Rattle.pcm_mix.proofs.crossfade.fade.Given as goal
 
 abbrev pub invariant-loop-i : goal.invariant-loop-i
-invariant-loop-i l = l.frames ≡ faded_frames l.len l.place (take l.i l.initial.frames) (take l.i l.others) ++ drop l.i l.initial.frames
+invariant-loop-i l = l.frames ≡ faded_frames l.len l.offset (take l.i l.initial.frames) (take l.i l.others) ++ drop l.i l.initial.frames

@@ -7,7 +7,7 @@ returns-in-TwentyFour-Stereo c = rw (c.in-TwentyFour-Stereo.is-0, c.in-TwentyFou
 
 pub returns-in_default : goal.returns-in_default
 returns-in_default c =
-    let here : c.args.place ≡ c.args.place + 0 = omega arith in
+    let here : c.args.offset ≡ c.args.offset + 0 = omega arith in
     let first = c.frame_at.ensures ∙ ap (frame_at c.args.depth c.args.channels c.args.bytes.now) here in
     λ t. first t ∷ c.frame_at-in_default.ensures t ∷ c.frame_at-in_default-2.ensures t ∷ c.frame_at-in_default-3.ensures t ∷
     c.frame_at-in_default-4.ensures t ∷ c.frame_at-in_default-5.ensures t ∷ c.frame_at-in_default-6.ensures t ∷ c.frame_at-in_default-7.ensures t ∷ []

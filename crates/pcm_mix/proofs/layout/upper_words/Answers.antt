@@ -9,7 +9,7 @@ returns c =
     let at : ℕ = c.args.at in
     let long : at + 24 ≤ length bytes = omega arith in
     let byte : ℕ → ℕ = λ k. get_or bytes k 0 in
-    let places : List ℕ = (at + 0 + 1) ∷ (at + 0 + 1 + 1) ∷ (at + 3 + 1) ∷ (at + 3 + 1 + 1) ∷ (at + 6 + 1) ∷ (at + 6 + 1 + 1) ∷ (at + 9 + 1) ∷ (at + 9 + 1 + 1) ∷
+    let offsets : List ℕ = (at + 0 + 1) ∷ (at + 0 + 1 + 1) ∷ (at + 3 + 1) ∷ (at + 3 + 1 + 1) ∷ (at + 6 + 1) ∷ (at + 6 + 1 + 1) ∷ (at + 9 + 1) ∷ (at + 9 + 1 + 1) ∷
     (at + 12 + 1) ∷ (at + 12 + 1 + 1) ∷ (at + 15 + 1) ∷ (at + 15 + 1 + 1) ∷ (at + 18 + 1) ∷ (at + 18 + 1 + 1) ∷ (at + 21 + 1) ∷ (at + 21 + 1 + 1) ∷ [] in
     let b0 = in_first bytes (chunk (at + 8) 16 bytes) at 1 (at + 0 + 1) long (omega arith) (omega arith) in
     let b1 = in_first bytes (chunk (at + 8) 16 bytes) at 2 (at + 0 + 1 + 1) long (omega arith) (omega arith) in
@@ -28,4 +28,4 @@ returns c =
     let b14 = in_second bytes at 30 14 (at + 21 + 1) long (omega arith) (omega arith) (omega arith) in
     let b15 = in_second bytes at 31 15 (at + 21 + 1 + 1) long (omega arith) (omega arith) (omega arith) in
     (λ t. digits_l 65536 8 (number_l 256 (b0 t ∷ b1 t ∷ b2 t ∷ b3 t ∷ b4 t ∷ b5 t ∷ b6 t ∷ b7 t ∷ b8 t ∷ b9 t ∷ b10 t ∷ b11 t ∷ b12 t ∷ b13 t ∷ b14 t ∷ b15 t ∷ [])))
-    ∙ words_of 8 (map byte places) refl (each_fits byte (λ k. (c.type_inv.bytes k).fits) places)
+    ∙ words_of 8 (map byte offsets) refl (each_fits byte (λ k. (c.type_inv.bytes k).fits) offsets)

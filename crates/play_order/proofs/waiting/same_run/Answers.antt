@@ -1,5 +1,5 @@
 use Rattle.std.proofs.Common.{ℕ, ap}
-use Rattle.play_order.proofs.Waits.{told-at}
+use Rattle.play_order.proofs.Waits.{same_pairs-at}
 use Rattle.play_order.proofs.waiting.same_run.Goals as goal
 use Rattle.play_order.proofs.waiting.same_run.Goals.{then-entry-key-via-then-entry-key, then-entry-key-via-else-entry-key+then-entry-key-2}
 
@@ -7,9 +7,9 @@ pub returns-then-entry-key : goal.returns-then-entry-key
 returns-then-entry-key c = (
   λ e. cc,
   λ h.
-      let told = told-at c.args.run.now c.args.known.now c.loop-place.place c.index-run-place.result (0, 0, 0) c.loop-place-test.true h in
+      let same_pairs = same_pairs-at c.args.run.now c.args.known.now c.loop-position.position c.index-run-position.result (0, 0, 0) c.loop-position-test.true h in
       elim c.then-entry-key.branch [
-        | then-entry-key-via-then-entry-key w ↦ absurd (w.if-entry-key.true (ap (λ (t : ℕ × ℕ). t.1) told))
-        | then-entry-key-via-else-entry-key+then-entry-key-2 w ↦ absurd (w.if-entry-key-2.true (ap (λ (t : ℕ × ℕ). t.0) told))
+        | then-entry-key-via-then-entry-key w ↦ absurd (w.if-entry-key.true (ap (λ (t : ℕ × ℕ). t.1) same_pairs))
+        | then-entry-key-via-else-entry-key+then-entry-key-2 w ↦ absurd (w.if-entry-key-2.true (ap (λ (t : ℕ × ℕ). t.0) same_pairs))
       ],
 )

@@ -7,8 +7,8 @@ use Rattle.queue_commands.proofs.queue_songs.changed_within.Goals as goal
 
 pub returns : goal.returns
 returns c =
-    let items : List ℕ = c.deref-place-items.result.now in
-    let all : c.loop-place.places.items ≡ filter (is_in c.args.within.now) items =
-    kept_all (is_in c.args.within.now) items c.loop-place.place-index c.loop-place.places.items c.loop-place-test.false c.loop-place.invariant in
+    let items : List ℕ = c.deref-position-items.result.now in
+    let all : c.loop-position.positions.items ≡ filter (is_in c.args.within.now) items =
+    kept_all (is_in c.args.within.now) items c.loop-position.position-index c.loop-position.positions.items c.loop-position-test.false c.loop-position.invariant in
     ap (rows_at (queue_of c.args.queue.now)) all
-    ∙ changed_rows c.args.queue.now c.args.version c.args.within.now items (c.deref-place-items.ensures.value ∙ c.in_ok-changed.ensures.places)
+    ∙ changed_rows c.args.queue.now c.args.version c.args.within.now items (c.deref-position-items.ensures.value ∙ c.in_ok-changed.ensures.positions)

@@ -2,5 +2,5 @@ use Rattle.std.proofs.Common.{◌≡◌, ◌++◌, drop, filter}
 use Rattle.queue_commands.specs.Queue.{is_in}
 use Rattle.queue_commands.proofs.queue_songs.changed_within.Given as goal
 
-abbrev pub invariant-loop-place : goal.invariant-loop-place
-invariant-loop-place l = l.places.items ++ filter (is_in l.within) (drop l.place-index l.place-items) ≡ filter (is_in l.within) l.place-items
+abbrev pub invariant-loop-position : goal.invariant-loop-position
+invariant-loop-position l = l.positions.items ++ filter (is_in l.within) (drop l.position-index l.position-items) ≡ filter (is_in l.within) l.position-items

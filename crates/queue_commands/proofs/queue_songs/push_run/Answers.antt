@@ -19,9 +19,9 @@ loop-slot-preserved c =
     let size : length (take i run) ≡ i = length-take i run ∙ omega arith in
     let long : length done ≡ i = length-map (take i run) entry ∙ size in
     record {
-      place = omega (arith, c.loop-slot.invariant.place);
+      position = omega (arith, c.loop-slot.invariant.position);
       lines =
           c.in_ok-push_row.ensures
-          ∙ one_entry row c.args.first c.loop-slot.place done (entries_of (take (i + 1) run)) slot.entry c.args.lines.now c.loop-slot.lines grown (omega (arith, c.loop-slot.invariant.place, long))
+          ∙ one_entry row c.args.first c.loop-slot.position done (entries_of (take (i + 1) run)) slot.entry c.args.lines.now c.loop-slot.lines grown (omega (arith, c.loop-slot.invariant.position, long))
           c.loop-slot.invariant.lines;
     }

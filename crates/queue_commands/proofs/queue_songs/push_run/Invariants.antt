@@ -6,6 +6,6 @@ use Rattle.queue_commands.proofs.queue_songs.push_run.Given as goal
 
 abbrev pub invariant-loop-slot : goal.invariant-loop-slot
 invariant-loop-slot l = record {
-  place : l.place ≡ l.first + l.slot-index;
+  position : l.position ≡ l.first + l.slot-index;
   lines : l.lines ≡ l.initial.lines ++ flat_map (row_lines l.shown l.tags l.library.rate) (enumerate_from l.first (entries_of (take l.slot-index l.run)));
 }

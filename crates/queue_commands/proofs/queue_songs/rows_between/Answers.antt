@@ -14,6 +14,6 @@ loop-at-preserved c =
       high = omega arith;
       lines =
           c.in_ok-push_run.ensures
-          ∙ one_run row queue (entries_of c.run-run.result.now) c.args.places.now.start c.loop-at.at (length c.run-run.result.now) c.loop-at.lines c.loop-at.invariant.low (omega arith) c.run-run.ensures.part
+          ∙ one_run row queue (entries_of c.run-run.result.now) c.args.positions.now.start c.loop-at.at (length c.run-run.result.now) c.loop-at.lines c.loop-at.invariant.low (omega arith) c.run-run.ensures.part
           c.loop-at.invariant.lines;
     }

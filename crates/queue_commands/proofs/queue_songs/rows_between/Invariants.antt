@@ -7,10 +7,10 @@ use Rattle.queue_commands.proofs.queue_songs.rows_between.Given as goal
 
 abbrev pub invariant-loop-at : goal.invariant-loop-at
 invariant-loop-at l = record {
-  low : l.places.start ≤ l.at;
-  high : l.at ≤ l.places.end;
-  lines : l.lines ≡ flat_map (row_lines l.shown l.tags l.library.rate) (rows_at (queue_of l.queue) (range_with_len l.places.start (l.at - l.places.start)));
+  low : l.positions.start ≤ l.at;
+  high : l.at ≤ l.positions.end;
+  lines : l.lines ≡ flat_map (row_lines l.shown l.tags l.library.rate) (rows_at (queue_of l.queue) (range_with_len l.positions.start (l.at - l.positions.start)));
 }
 
 abbrev pub decreases-loop-at : goal.decreases-loop-at
-decreases-loop-at l = l.places.end - l.at
+decreases-loop-at l = l.positions.end - l.at

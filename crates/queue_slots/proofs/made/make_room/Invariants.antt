@@ -8,9 +8,9 @@ invariant-loop-alloc l =
       len : l.blocks.len ≡ l.fn.blocks.len;
       more : l.fn.spare.len ≤ l.spare.len;
       most : l.spare.len ≤ l.most;
-      whole : l.blocks.len + l.most ≡ l.wanted;
-      room : l.wanted ≤ l.blocks.cap;
-      spare_room : l.wanted ≤ l.spare.cap;
+      whole : l.blocks.len + l.most ≡ l.needed;
+      room : l.needed ≤ l.blocks.cap;
+      spare_room : l.needed ≤ l.spare.cap;
     }
 
 abbrev pub decreases-loop-alloc : goal.decreases-loop-alloc

@@ -3,7 +3,7 @@ use Rattle.std.proofs.lemmas.List.{get_or_read}
 use Rattle.queue_slots.specs.declared.entry.Slot.{Slot}
 use Rattle.queue_slots.specs.Blocks.{joined}
 use Rattle.queue_slots.proofs.Parts.{part-more}
-use Rattle.queue_slots.proofs.Places.{joined-more}
+use Rattle.queue_slots.proofs.Positions.{joined-more}
 use Rattle.queue_slots.proofs.many.copies_of.Goals as goal
 
 pub loop-block-preserved : goal.loop-block-preserved

@@ -4,8 +4,8 @@ use Rattle.queue_slots.specs.Blocks.{joined, IsSpot, with_slot_changed, with_slo
 use Rattle.queue_slots.proofs.Exchanges.{rest_fits, second_inside, first_still, third_inside, exchanged}
 use Rattle.queue_slots.proofs.many.exchange.Goals as goal
 
-pub seek-j-requires-clause-place : goal.seek-j-requires-clause-place
-seek-j-requires-clause-place c =
+pub seek-j-requires-clause-position : goal.seek-j-requires-clause-position
+seek-j-requires-clause-position c =
     let bs = c.args.blocks.now.items in
     let low = c.args.low in
     let high = c.args.high in

@@ -5,8 +5,8 @@ use Rattle.queue_slots.specs.Blocks.{joined, IsSpot}
 use Rattle.queue_slots.proofs.Parts.{next_within, next_inside, next_put, next_spot}
 use Rattle.queue_slots.proofs.many.put_back.Goals as goal
 
-pub seek-next-requires-clause-place : goal.seek-next-requires-clause-place
-seek-next-requires-clause-place c =
+pub seek-next-requires-clause-position : goal.seek-next-requires-clause-position
+seek-next-requires-clause-position c =
     let S : List Slot = joined c.args.blocks.now.items in
     let bs = c.loop-slot.blocks.items in
     let xs = c.loop-slot.yielded in

@@ -4,7 +4,7 @@ use Rattle.std.proofs.lemmas.List.{get_or_read}
 use Rattle.std.proofs.lemmas.List.Elements.{All-append}
 use Rattle.queue_slots.specs.declared.entry.Slot.{Slot}
 use Rattle.queue_slots.specs.Blocks.{joined}
-use Rattle.queue_slots.proofs.Places.{get_or-joined, joined-more, joined-within}
+use Rattle.queue_slots.proofs.Positions.{get_or-joined, joined-more, joined-within}
 use Rattle.queue_slots.proofs.many.seek_id.Goals as goal
 
 pub overflow_add-result : goal.overflow_add-result
@@ -27,7 +27,7 @@ returns-in-Some-clause-found c =
     let inside = c.in-Some.ensures.found.0 in
     let at = c.loop-block.invariant.at in (
       omega arith,
-      λ d. ap (λ (n : ℕ). (get_or (joined bs) (n + c.in-Some.place) d).entry.id) at ∙ ap (λ (s : Slot). s.entry.id) (get_or-joined bs i c.in-Some.place d (omega arith) (omega arith)) ∙ ap (λ x. (get_or x c.in-Some.place d).entry.id) (sym read)
+      λ d. ap (λ (n : ℕ). (get_or (joined bs) (n + c.in-Some.position) d).entry.id) at ∙ ap (λ (s : Slot). s.entry.id) (get_or-joined bs i c.in-Some.position d (omega arith) (omega arith)) ∙ ap (λ x. (get_or x c.in-Some.position d).entry.id) (sym read)
           ∙ c.in-Some.ensures.found.1 d,
     )
 

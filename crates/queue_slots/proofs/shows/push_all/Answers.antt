@@ -5,5 +5,5 @@ use Rattle.queue_slots.proofs.shows.push_all.Goals as goal
 
 pub loop-step-preserved : goal.loop-step-preserved
 loop-step-preserved c =
-    c.in_ok-push.ensures.items ∙ ap (λ x. x ++ ((c.args.at + c.loop-step.step) ∷ [])) c.loop-step.invariant ∙ append_assoc c.args.places.now.items (range_with_len c.args.at c.loop-step.step) _
-    ∙ ap (λ x. c.args.places.now.items ++ x) (sym (range_with_len-push c.args.at c.loop-step.step))
+    c.in_ok-push.ensures.items ∙ ap (λ x. x ++ ((c.args.at + c.loop-step.step) ∷ [])) c.loop-step.invariant ∙ append_assoc c.args.positions.now.items (range_with_len c.args.at c.loop-step.step) _
+    ∙ ap (λ x. c.args.positions.now.items ++ x) (sym (range_with_len-push c.args.at c.loop-step.step))

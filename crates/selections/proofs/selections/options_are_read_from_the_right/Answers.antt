@@ -1,8 +1,8 @@
 use Rattle.std.proofs.Common.{◌∷◌, codes, arith}
 use Rattle.filters.specs.declared.words.Vocabulary.TheVariants.{Known}
-use Rattle.command_arguments.specs.Forms.{place_of, window_of}
+use Rattle.command_arguments.specs.Forms.{position_of, window_of}
 use Rattle.command_arguments.specs.Readers.{both}
-use Rattle.command_arguments.specs.Wanted.{filter_of}
+use Rattle.command_arguments.specs.Criteria.{filter_of}
 use Rattle.selections.specs.Options.{sort_of, option_of}
 use Rattle.selections.specs.Selections.{selection_of, placed_selection_of, sorted_of, with_window, windowed_of}
 use Rattle.selections.proofs.LastGroups.{taken, others}
@@ -21,7 +21,7 @@ returns-clause-sort c test word argument words i =
 pub returns-clause-position : goal.returns-clause-position
 unfolding selection_of placed_selection_of
 returns-clause-position c test word argument words i =
-    both (windowed_of test (before-option (codes "position") 1 (word ∷ words) argument (omega arith) i)) (option_of place_of (option_words-option (codes "position") 1 (word ∷ words) argument (omega arith) i))
+    both (windowed_of test (before-option (codes "position") 1 (word ∷ words) argument (omega arith) i)) (option_of position_of (option_words-option (codes "position") 1 (word ∷ words) argument (omega arith) i))
 
 pub returns-clause-group : goal.returns-clause-group
 returns-clause-group c = taken

@@ -4,4 +4,4 @@ use Rattle.server_rounds.proofs.rounds.called_in.Given as goal
 
 abbrev pub invariant-loop-slot : goal.invariant-loop-slot
 invariant-loop-slot l =
-    (length l.called ≡ 64) × ((k : ℕ) → k < l.slot → (slice_index_or l.called k false ≡ true) ↔ IsCalledAmong l.places l.clients k)
+    (length l.called ≡ 64) × ((k : ℕ) → k < l.slot → (slice_index_or l.called k false ≡ true) ↔ IsCalledAmong l.slots l.clients k)

@@ -3,4 +3,4 @@ use Rattle.server_rounds.specs.Rounds.{HasTurnFrom}
 use Rattle.server_rounds.proofs.rounds.next_turn.Given as goal
 
 abbrev pub invariant-loop-slot : goal.invariant-loop-slot
-invariant-loop-slot l = (other : ℕ) → other < l.slot → HasTurnFrom l.places l.from other → ⊥
+invariant-loop-slot l = (other : ℕ) → other < l.slot → HasTurnFrom l.slots l.from other → ⊥

@@ -3,13 +3,13 @@ use Rattle.std.proofs.Output.{has_written_append, has_written_of_eq}
 use Rattle.std.proofs.lemmas.Iterator.{YieldsList-from_chars}
 use Rattle.std.proofs.lemmas.Iterator.Consumers.{YieldsList-end}
 use Rattle.settings.specs.OneLines.{shown}
-use Rattle.settings.proofs.OneLines.{told-more}
+use Rattle.settings.proofs.OneLines.{escaped-more}
 use Rattle.settings.proofs.one_line.write_line.Goals as goal
 
 pub loop-character-preserved : goal.loop-character-preserved
 loop-character-preserved g c =
     λ plain.
-    has_written_of_eq _ _ _ _ _ (told-more c.loop-character.yielded c.in-Some.character)
+    has_written_of_eq _ _ _ _ _ (escaped-more c.loop-character.yielded c.in-Some.character)
     (has_written_append _ _ _ _ _ _ (c.loop-character.invariant plain) (search rules))
 
 pub returns : goal.returns

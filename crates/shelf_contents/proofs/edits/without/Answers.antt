@@ -6,8 +6,8 @@ use Rattle.shelf_contents.proofs.edits.without.Goals as goal
 pub returns : goal.returns
 returns c =
     let list = c.args.list.now in
-    let place = c.args.place in
-    let front : c.push_first.new.list ≡ take place list = c.in_ok-push_first.ensures ∙ ap (λ uris. uris ++ take place (lines_of c.text.result.now)) c.new-rest.ensures ∙ ap (take place) c.text.ensures.uris in
-    let back : lines_of c.behind_first.result.now ≡ drop (suc place) list =
-    c.behind_first.ensures ∙ ap (drop 1) (c.behind.ensures ∙ ap (drop place) c.text-2.ensures.uris) ∙ one_more list place in
-    c.in_ok-push_all.ensures ∙ ap (λ uris. uris ++ lines_of c.behind_first.result.now) front ∙ ap (λ uris. take place list ++ uris) back
+    let position = c.args.position in
+    let front : c.push_first.new.list ≡ take position list = c.in_ok-push_first.ensures ∙ ap (λ uris. uris ++ take position (lines_of c.text.result.now)) c.new-rest.ensures ∙ ap (take position) c.text.ensures.uris in
+    let back : lines_of c.behind_first.result.now ≡ drop (suc position) list =
+    c.behind_first.ensures ∙ ap (drop 1) (c.behind.ensures ∙ ap (drop position) c.text-2.ensures.uris) ∙ one_more list position in
+    c.in_ok-push_all.ensures ∙ ap (λ uris. uris ++ lines_of c.behind_first.result.now) front ∙ ap (λ uris. take position list ++ uris) back

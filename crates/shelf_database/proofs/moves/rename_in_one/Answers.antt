@@ -9,18 +9,18 @@ use Rattle.shelf.specs.Maps.{with_renamed}
 use Rattle.shelf_database.specs.Faults.{StoreFailed}
 use Rattle.shelf_database.specs.Tables.{note_maps, IsReady}
 use Rattle.shelf_database.specs.Moves.{HasNames, RenamesAll, KeepsTheName}
-use Rattle.shelf_database.proofs.TransactionLemmas.{clean_from_start, committed_turns, dropped_failed}
+use Rattle.shelf_database.proofs.TransactionLemmas.{clean_from_start, committed_changes, dropped_failed}
 use Rattle.shelf_database.proofs.moves.rename_in_one.Goals as goal
 
-pub returns-clause-turns : goal.returns-clause-turns
-returns-clause-turns g c = λ can.
+pub returns-clause-changes : goal.returns-clause-changes
+returns-clause-changes g c = λ can.
     let held = c.args.connection.now in
     let begun = c.transaction-transaction.result.conn.now in
     let begins = c.transaction-transaction.ensures.begun in
     let filled = state g.S.Store c.rename_rows.new.transaction.conn.now in
     let new = state g.S.Store c.commit.new.self.0 in
     let leads = c.in_ok-rename_rows.ensures.leads in
-    let it = committed_turns g.S.Store held begun begins filled new (HasNames c.args.name.now c.args.new_name.now) (RenamesAll c.args.name.now c.args.new_name.now) leads c.commit.result c.commit.ensures.ended c.commit.ensures.ok c.commit.ensures.err c.commit.ensures.survives
+    let it = committed_changes g.S.Store held begun begins filled new (HasNames c.args.name.now c.args.new_name.now) (RenamesAll c.args.name.now c.args.new_name.now) leads c.commit.result c.commit.ensures.ended c.commit.ensures.ok c.commit.ensures.err c.commit.ensures.survives
     (with_renamed (note_maps (state g.S.Store held).now.trees) c.args.name.now c.args.new_name.now) (λ clean ready. can (clean_from_start g.S.Store held begun begins filled new _ _ leads.survives c.commit.ensures.survives clean) ready) (λ db clean ready made. made) in
     search (rules, it)
 

@@ -7,7 +7,7 @@ use Rattle.shelf.specs.Calls.{DeleteStickers}
 use Rattle.shelf.specs.Maps.{Maps, with_stickers, no_stickers, no_refusal}
 use Rattle.shelf_database.specs.Tables.{kind_text, note_maps, of_target}
 use Rattle.shelf_database.specs.Faults.{HasFailed, LacksText, CannotDo, StoreFailed}
-use Rattle.shelf_database.proofs.AskLemmas.{handed_on, for_this, change_turns, change_blames, answers_all_fault, answers_all_done}
+use Rattle.shelf_database.proofs.AskLemmas.{handed_on, for_this, statement_changes, change_blames, answers_all_fault, answers_all_done}
 use Rattle.shelf_database.proofs.BlameLemmas.{failed_alone}
 use Rattle.shelf_database.proofs.DeleteBlame.{delete_all_whole, deletion_of_all_refused}
 use Rattle.shelf_database.proofs.DeleteLemmas.{deletion}
@@ -19,8 +19,8 @@ use Rattle.shelf_database.proofs.Statements.{delete_all_text, delete_all_is, tar
 use Rattle.shelf_database.proofs.TextLemmas.{target_test}
 use Rattle.shelf_database.proofs.notes.delete_notes.Goals as goal
 
-pub returns-in_err-has_notes-clause-turns : goal.returns-in_err-has_notes-clause-turns
-returns-in_err-has_notes-clause-turns g c = rw (handed_on c.from_residual.result _ c.from_residual.ensures.1) (c.in_err-has_notes.ensures.refused.turns _)
+pub returns-in_err-has_notes-clause-changes : goal.returns-in_err-has_notes-clause-changes
+returns-in_err-has_notes-clause-changes g c = rw (handed_on c.from_residual.result _ c.from_residual.ensures.1) (c.in_err-has_notes.ensures.refused.changes _)
 
 pub returns-in_err-has_notes-clause-answers : goal.returns-in_err-has_notes-clause-answers
 returns-in_err-has_notes-clause-answers g c = λ trusted.
@@ -34,15 +34,15 @@ returns-in_err-has_notes-clause-answers g c = λ trusted.
     let told = for_this (HasFailed old new ⊎ lacking) (StoreFailed old new (DeleteStickers kind target)) fault (failed_only (HasFailed old new) lacking (CannotDo old.now.trees (DeleteStickers kind target)) never) (c.in_err-has_notes.ensures.refused.told trusted.0 trusted.1.ready) in
     rw (handed_on c.from_residual.result _ c.from_residual.ensures.1) (answers_all_fault (Unit {0}) (StoreFailed old new (DeleteStickers kind target)) no_refusal _ fault told)
 
-pub returns-clause-turns : goal.returns-clause-turns
-returns-clause-turns g c =
+pub returns-clause-changes : goal.returns-clause-changes
+returns-clause-changes g c =
     let mid = state g.S.Store c.has_notes.new.connection in
     let new = state g.S.Store c.change.new.connection in
     let params : List Value = Text (kind_text c.args.kind) ∷ Text c.args.target.now ∷ [] in
     let command = deletion params 5 target_terms (of_target c.args.kind c.args.target.now) (target_test c.args.kind c.args.target.now) 3 in
     let made : Maps → Maps = λ maps. with_stickers maps c.args.kind c.args.target.now no_stickers in
     read_then_by (state g.S.Store c.args.connection.now) mid new (is_ok c.change.result) made c.in_ok-has_notes.ensures.reads
-    (change_turns delete_all_text params command delete_all_is tt mid new c.change.result (rw (c.params-to_sql.ensures, c.params-to_sql-2.ensures, c.kind_text-word.ensures) at c.change.ensures.ran) (made (note_maps mid.now.trees)) (λ ready. deletes_all mid c.args.kind c.args.target.now ready.shelf) (rw (c.params-to_sql.ensures, c.params-to_sql-2.ensures, c.kind_text-word.ensures) at c.change.ensures.survives))
+    (statement_changes delete_all_text params command delete_all_is tt mid new c.change.result (rw (c.params-to_sql.ensures, c.params-to_sql-2.ensures, c.kind_text-word.ensures) at c.change.ensures.ran) (made (note_maps mid.now.trees)) (λ ready. deletes_all mid c.args.kind c.args.target.now ready.shelf) (rw (c.params-to_sql.ensures, c.params-to_sql-2.ensures, c.kind_text-word.ensures) at c.change.ensures.survives))
 
 pub returns-clause-answers : goal.returns-clause-answers
 returns-clause-answers g c = λ trusted.

@@ -10,15 +10,15 @@ use Rattle.shelf_database.proofs.BlameLemmas.{value_asked}
 use Rattle.shelf_database.proofs.FoundLemmas.{note_shown, first_is}
 use Rattle.shelf_database.proofs.HoldsLemmas.{one_never_lacks, failed_only}
 use Rattle.shelf_database.proofs.LacksLemmas.{value_lacks}
-use Rattle.shelf_database.proofs.QueryLemmas.{read_turns}
+use Rattle.shelf_database.proofs.QueryLemmas.{read_changes}
 use Rattle.shelf_database.proofs.notes.note.Goals as goal
 
-pub returns-in_err-value-clause-turns : goal.returns-in_err-value-clause-turns
-returns-in_err-value-clause-turns g c =
+pub returns-in_err-value-clause-changes : goal.returns-in_err-value-clause-changes
+returns-in_err-value-clause-changes g c =
     let old = state g.S.Store c.args.connection.now in
     let new = state g.S.Store c.first_text.new.connection in
     let refuses = text_refuses _ _ (value_asked c.args.kind c.args.target.now c.args.name.now) old new (rw (c.params-to_sql.ensures, c.params-to_sql-2.ensures, c.params-to_sql-3.ensures, c.kind_text-word.ensures) at c.first_text.ensures.survives) (LacksText (4 ∷ []) (has_key c.args.kind c.args.target.now c.args.name.now) (old.now.trees 5)) c.in_err-value.field-0.0 (λ rows answer lacks. value_lacks old.now.trees rows c.args.kind c.args.target.now c.args.name.now answer lacks) (rw (c.params-to_sql.ensures, c.params-to_sql-2.ensures, c.params-to_sql-3.ensures, c.kind_text-word.ensures) at c.in_err-value.ensures.refused) in
-    rw (handed_on c.from_residual.result _ c.from_residual.ensures.1) (refuses.turns _)
+    rw (handed_on c.from_residual.result _ c.from_residual.ensures.1) (refuses.changes _)
 
 pub returns-in_err-value-clause-answers : goal.returns-in_err-value-clause-answers
 returns-in_err-value-clause-answers g c = λ trusted.
@@ -29,17 +29,17 @@ returns-in_err-value-clause-answers g c = λ trusted.
     let refuses = text_refuses _ _ (value_asked c.args.kind c.args.target.now c.args.name.now) old new (rw (c.params-to_sql.ensures, c.params-to_sql-2.ensures, c.params-to_sql-3.ensures, c.kind_text-word.ensures) at c.first_text.ensures.survives) (LacksText (4 ∷ []) (has_key c.args.kind c.args.target.now c.args.name.now) (old.now.trees 5)) c.in_err-value.field-0.0 (λ rows answer lacks. value_lacks old.now.trees rows c.args.kind c.args.target.now c.args.name.now answer lacks) (rw (c.params-to_sql.ensures, c.params-to_sql-2.ensures, c.params-to_sql-3.ensures, c.kind_text-word.ensures) at c.in_err-value.ensures.refused) in
     rw (handed_on c.from_residual.result _ c.from_residual.ensures.1) (refused_answers (Unit {0}) old new (HasFailed old new ⊎ lacking) (StoreFailed old new (StickerOf c.args.kind c.args.target.now c.args.name.now)) (refusal_of_note c.args.kind c.args.target.now c.args.name.now (note_maps old.now.trees)) c.in_err-value.field-0.0 (failed_only (HasFailed old new) lacking (CannotDo old.now.trees (StickerOf c.args.kind c.args.target.now c.args.name.now)) never) refuses trusted)
 
-pub returns-in-Some-clause-turns : goal.returns-in-Some-clause-turns
-returns-in-Some-clause-turns g c =
+pub returns-in-Some-clause-changes : goal.returns-in-Some-clause-changes
+returns-in-Some-clause-changes g c =
     let old = state g.S.Store c.args.connection.now in
     let new = state g.S.Store c.first_text.new.connection in
-    read_turns old new true (text_reads _ _ (value_asked c.args.kind c.args.target.now c.args.name.now) old new (rw (c.params-to_sql.ensures, c.params-to_sql-2.ensures, c.params-to_sql-3.ensures, c.kind_text-word.ensures) at c.first_text.ensures.survives) (λ clean. let h = (rw (c.params-to_sql.ensures, c.params-to_sql-2.ensures, c.params-to_sql-3.ensures, c.kind_text-word.ensures) at c.in_ok-value.ensures.shown) clean in (h.0, h.1)))
+    read_changes old new true (text_reads _ _ (value_asked c.args.kind c.args.target.now c.args.name.now) old new (rw (c.params-to_sql.ensures, c.params-to_sql-2.ensures, c.params-to_sql-3.ensures, c.kind_text-word.ensures) at c.first_text.ensures.survives) (λ clean. let h = (rw (c.params-to_sql.ensures, c.params-to_sql-2.ensures, c.params-to_sql-3.ensures, c.kind_text-word.ensures) at c.in_ok-value.ensures.shown) clean in (h.0, h.1)))
 
-pub returns-in-None-clause-turns : goal.returns-in-None-clause-turns
-returns-in-None-clause-turns g c =
+pub returns-in-None-clause-changes : goal.returns-in-None-clause-changes
+returns-in-None-clause-changes g c =
     let old = state g.S.Store c.args.connection.now in
     let new = state g.S.Store c.first_text.new.connection in
-    read_turns old new false (text_reads _ _ (value_asked c.args.kind c.args.target.now c.args.name.now) old new (rw (c.params-to_sql.ensures, c.params-to_sql-2.ensures, c.params-to_sql-3.ensures, c.kind_text-word.ensures) at c.first_text.ensures.survives) (λ clean. let h = (rw (c.params-to_sql.ensures, c.params-to_sql-2.ensures, c.params-to_sql-3.ensures, c.kind_text-word.ensures) at c.in_ok-value.ensures.shown) clean in (h.0, h.1)))
+    read_changes old new false (text_reads _ _ (value_asked c.args.kind c.args.target.now c.args.name.now) old new (rw (c.params-to_sql.ensures, c.params-to_sql-2.ensures, c.params-to_sql-3.ensures, c.kind_text-word.ensures) at c.first_text.ensures.survives) (λ clean. let h = (rw (c.params-to_sql.ensures, c.params-to_sql-2.ensures, c.params-to_sql-3.ensures, c.kind_text-word.ensures) at c.in_ok-value.ensures.shown) clean in (h.0, h.1)))
 
 pub returns-in-None-clause-answers : goal.returns-in-None-clause-answers
 returns-in-None-clause-answers g c = λ trusted.

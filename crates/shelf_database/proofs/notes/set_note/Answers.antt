@@ -14,7 +14,7 @@ use Rattle.shelf.specs.declared.kinds.StickerKind.{StickerKind}
 use Rattle.shelf_database.specs.Notes.{refusal_of_note_name}
 use Rattle.shelf_database.specs.Tables.{kind_text, note_maps}
 use Rattle.shelf_database.specs.Faults.{StoreFailed}
-use Rattle.shelf_database.proofs.AskLemmas.{change_turns, change_blames, answers_done}
+use Rattle.shelf_database.proofs.AskLemmas.{statement_changes, change_blames, answers_done}
 use Rattle.shelf_database.proofs.BlameLemmas.{IsWhole}
 use Rattle.shelf_database.proofs.PutBlame.{set_refused}
 use Rattle.shelf_database.proofs.PutNoteLemmas.{puts_note}
@@ -24,11 +24,11 @@ use Rattle.shelf_database.proofs.notes.set_note.Goals as goal
 abbrev command : Command
 command = InsertOr 3 Replace (Values note_values 5) []
 
-pub returns-clause-turns : goal.returns-clause-turns
-returns-clause-turns g c =
+pub returns-clause-changes : goal.returns-clause-changes
+returns-clause-changes g c =
     let old = state g.S.Store c.args.connection.now in
     let params : List Value = Text (kind_text c.args.kind) ∷ Text c.args.target.now ∷ Text c.args.name.now ∷ Text c.args.value.now ∷ [] in
-    change_turns set_text params command set_is tt old (state g.S.Store c.change.new.connection) c.change.result (rw (c.params-to_sql.ensures, c.params-to_sql-2.ensures, c.params-to_sql-3.ensures, c.params-to_sql-4.ensures, c.kind_text-word.ensures) at c.change.ensures.ran)
+    statement_changes set_text params command set_is tt old (state g.S.Store c.change.new.connection) c.change.result (rw (c.params-to_sql.ensures, c.params-to_sql-2.ensures, c.params-to_sql-3.ensures, c.params-to_sql-4.ensures, c.kind_text-word.ensures) at c.change.ensures.ran)
     (with_sticker (note_maps old.now.trees) c.args.kind c.args.target.now c.args.name.now (Some c.args.value.now)) (λ ready. puts_note old c.args.kind c.args.target.now c.args.name.now c.args.value.now c.utf8.target c.utf8.name c.utf8.value ready.shelf)
     (rw (c.params-to_sql.ensures, c.params-to_sql-2.ensures, c.params-to_sql-3.ensures, c.params-to_sql-4.ensures, c.kind_text-word.ensures) at c.change.ensures.survives)
 

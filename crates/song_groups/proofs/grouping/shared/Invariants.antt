@@ -6,6 +6,6 @@ use Rattle.song_groups.proofs.grouping.shared.Given as goal
 
 abbrev pub invariant-loop-a : goal.invariant-loop-a
 invariant-loop-a l = record {
-  turns : l.shared ≡ length l.yielded;
+  counted : l.shared ≡ length l.yielded;
   same : common_prefix_len (pointwise nat_eq) (map (λ t. t.now) l.before) (map (λ t. t.now) l.tuple) ≡ l.shared + common_prefix_len (pointwise nat_eq) (map (λ t. t.now) (drop l.shared l.before)) (map (λ t. t.now) (drop l.shared l.tuple));
 }

@@ -8,4 +8,4 @@ pub returns-clause-value : goal.returns-clause-value
 returns-clause-value g c =
     known_map (g.M.Media.all_bytes c.args.media.now) (λ bytes filled.
     c.min-2.ensures ∙ ap (λ k. min k c.args.part.len) (c.tag_len.ensures.value ∙ ap (λ k. tag_len (take k c.read_at.new.buf)) c.min.ensures
-    ∙ head_read c.in_ok-n.n c.args.part.len c.args.part.place c.read_at.new.buf bytes (omega arith) filled)) c.in_ok-n.ensures.value
+    ∙ head_read c.in_ok-n.n c.args.part.len c.args.part.offset c.read_at.new.buf bytes (omega arith) filled)) c.in_ok-n.ensures.value

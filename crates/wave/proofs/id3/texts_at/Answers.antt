@@ -12,4 +12,4 @@ returns-clause-value g c =
     let long : length c.read_at.new.buf ≡ c.in_ok-len.len = omega (arith, c.read_at.auto.buf, c.deref_mut.ensures.len, c.in_ok-bytes.ensures.len) in
     let slice : c.as_slice.result.now ≡ c.read_at.new.buf = c.as_slice.ensures.value ∙ take_at c.read_at.new.buf _ _ (omega (arith, c.read_at.auto.buf, c.deref_mut.ensures.len, c.in_ok-bytes.bytes.ok.0)) in
     c.in_ok-texts_of.ensures ∙ ap (λ xs. id3_texts (take c.in_ok-n.n xs)) slice
-    ∙ texts_read c.in_ok-n.n c.in_ok-len.len c.args.part.len c.args.part.place c.read_at.new.buf bytes long len filled) c.in_ok-len.ensures.value read
+    ∙ texts_read c.in_ok-n.n c.in_ok-len.len c.args.part.len c.args.part.offset c.read_at.new.buf bytes long len filled) c.in_ok-len.ensures.value read

@@ -8,4 +8,4 @@ pub returns-clause-value : goal.returns-clause-value
 returns-clause-value g c =
     known_map (g.M.Media.all_bytes c.args.media.now) (λ bytes filled.
     c.layout_of.ensures ∙ ap (layout_of c.args.rate) (ap (λ k. take k c.read_at.new.buf) c.min.ensures
-    ∙ start_is 40 c.in_ok-n.n c.args.part.len c.read_at.new.buf (drop c.args.part.place bytes) (omega arith) filled)) c.in_ok-n.ensures.value
+    ∙ start_is 40 c.in_ok-n.n c.args.part.len c.read_at.new.buf (drop c.args.part.offset bytes) (omega arith) filled)) c.in_ok-n.ensures.value

@@ -8,4 +8,4 @@ pub returns-clause-value : goal.returns-clause-value
 returns-clause-value g c =
     known_map (g.M.Media.all_bytes c.args.media.now) (λ bytes filled.
     c.in_ok-text_in.ensures ∙ ap (λ k. text_in c.args.everyday (take k c.read_at.new.buf)) c.min.ensures
-    ∙ text_read c.args.everyday c.in_ok-n.n c.args.item.len c.args.item.place c.read_at.new.buf bytes (omega arith) filled) c.in_ok-n.ensures.value
+    ∙ text_read c.args.everyday c.in_ok-n.n c.args.item.len c.args.item.offset c.read_at.new.buf bytes (omega arith) filled) c.in_ok-n.ensures.value

@@ -8,5 +8,5 @@ returns-clause-value c = all-set c.self.inside.bits c.self.invariant ∙ ap (λ 
 
 pub returns-clause-all : goal.returns-clause-all
 returns-clause-all c =
-    let told = all-set c.self.inside.bits c.self.invariant ∙ ap (λ set. is_all set) c.self.view_is in
-    ((λ h. (is_all-whole c.args.self).0 (sym told ∙ h)), (λ h. told ∙ (is_all-whole c.args.self).1 h))
+    let same = all-set c.self.inside.bits c.self.invariant ∙ ap (λ set. is_all set) c.self.view_is in
+    ((λ h. (is_all-whole c.args.self).0 (sym same ∙ h)), (λ h. same ∙ (is_all-whole c.args.self).1 h))

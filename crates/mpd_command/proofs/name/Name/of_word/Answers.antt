@@ -6,7 +6,7 @@ use Rattle.mpd_command.proofs.name.Name.of_word.Goals as goal
 use Prim.Native.Nat.{ℕ}
 
 abbrev named : ℕ → Name
-named place = record { place = place }
+named index = record { index = index }
 
 pub returns-in-Some : goal.returns-in-Some
 unfolding name_of

@@ -18,7 +18,7 @@ returns-in_default-clause-says g c =
 pub returns-clause-says : goal.returns-clause-says
 returns-clause-says g c =
     step_answer (Answers g.S.Shelf.standing g.S.Shelf.failed c.args.self.now.asker) (held_of c.args.self.now) (held_of c.args.self.now) _ _ _ _ _ _ c.in-Some.asked c.in_ok-asked.field-0 c.args.self.now.unsent (owed_bytes c.args.self.now.owed) (owed_bytes c.ask-owed.result) _
-    c.settle.ensures.held refl (tells_nothing (held_of c.args.self.now).unsent)
+    c.flush.ensures.held refl (tells_nothing (held_of c.args.self.now).unsent)
     (views_some c.args.self.now.lines.items c.requires.some) c.in_ok-asked.ensures.ok c.in-Some.is refl c.ask-owed.ensures (c.end_by-self.ensures.end ∙ ap end_by c.next.ensures) refl refl (none_owed c.args.self.now.owed c.requires.nothing)
 
 pub returns-in_err-asked-clause-says : goal.returns-in_err-asked-clause-says

@@ -10,5 +10,5 @@ pub returns-clause-told : goal.returns-clause-told
 returns-clause-told g c = (
   notice_bytes c.outbox-notice.result,
   a_notice c.outbox-notice.result,
-  told_eq _ c.args.self.now.unsent (owed_bytes c.args.self.now.owed) (owed_bytes c.of_notice.result) _ (ap (λ (h : Held). h.unsent) c.settle.ensures.held) c.of_notice.ensures (none_owed c.args.self.now.owed c.requires),
+  told_eq _ c.args.self.now.unsent (owed_bytes c.args.self.now.owed) (owed_bytes c.of_notice.result) _ (ap (λ (h : Held). h.unsent) c.flush.ensures.held) c.of_notice.ensures (none_owed c.args.self.now.owed c.requires),
 )

@@ -16,7 +16,7 @@ pub returns-in-Some-clause-tells : goal.returns-in-Some-clause-tells
 returns-in-Some-clause-tells g c =
     rw (← c.self.view_is)
     (tells_closed _ _ c.in-Some.end c.in-Some.is
-    (still_closed _ _ (held_of c.settle-settled.new.self).unsent (held_of c.send.new.self).unsent c.in-Some.end (ap (λ s. s.ended) c.settle-settled.ensures.frame ∙ c.in-Some.is) c.send.ensures.sends.2))
+    (still_closed _ _ (held_of c.flush-flushed.new.self).unsent (held_of c.send.new.self).unsent c.in-Some.end (ap (λ s. s.ended) c.flush-flushed.ensures.frame ∙ c.in-Some.is) c.send.ensures.sends.2))
 
 pub returns-in-Some-clause-writes : goal.returns-in-Some-clause-writes
 returns-in-Some-clause-writes g c = λ closed.

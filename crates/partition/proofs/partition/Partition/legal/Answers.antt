@@ -3,10 +3,10 @@ use Rattle.std.specs.Prelude.{All}
 use Rattle.partition.specs.Legal.{HasDistinctIds}
 use Rattle.partition.specs.Image.{Image, image_of_state, opening}
 use Rattle.partition.specs.Invariant.{Came}
-use Rattle.connected_clients.specs.Settled.{AllSettled}
+use Rattle.connected_clients.specs.UpToDate.{AllUpToDate}
 use Rattle.partition.specs.World.{trace_after}
 use Rattle.partition.proofs.Chronicles.{leads_on}
-use Rattle.partition.proofs.Settled.{replay_settled}
+use Rattle.partition.proofs.UpToDate.{replay_up_to_date}
 use Rattle.partition.proofs.Since.{since_stands}
 use Rattle.partition.proofs.Stands.{stands}
 use Rattle.partition.proofs.partition.Partition.legal.Goals as goal
@@ -37,11 +37,11 @@ returns-clause-legal c =
       distinct = subst (All HasDistinctIds) c.items.ensures c.are_distinct.ensures;
     })
 
-pub returns-clause-settled : goal.returns-clause-settled
-returns-clause-settled c =
+pub returns-clause-up_to_date : goal.returns-clause-up_to_date
+returns-clause-up_to_date c =
     let p = c.self.inside in
     let was : Came (image_of_state p.base.value) = c.self.invariant.came in
     let first : Image = opening was.setup was.library in
     let on = leads_on first (image_of_state p.base.value) (image_of_state p.state) was.earlier p.history.items was.leads was.told c.self.invariant.present c.self.invariant.told in
     rw (← c.self.view_is)
-    (subst (λ (i : Image). AllSettled i.clients) (sym on.0) (replay_settled (was.earlier ++ p.history.items) first tt tt))
+    (subst (λ (i : Image). AllUpToDate i.clients) (sym on.0) (replay_up_to_date (was.earlier ++ p.history.items) first tt tt))

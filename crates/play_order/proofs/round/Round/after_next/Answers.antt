@@ -27,28 +27,28 @@ pub returns-clause-round : goal.returns-clause-round
 returns-clause-round c =
     let queue : List Entry = queue_of c.args.queue.now in
     let left : List Entry = left_by queue c.span_of-from.result.from c.span_of-from.result.end in
-    let place : ℕ = c.span_of-from.result.place in
+    let position : ℕ = c.span_of-from.result.position in
     c.keep_order.ensures ∙ elim c.if-consumes.branch [
       | then-consumes+in_ok-starts w ↦
           w.self-is ∙ w.in_ok-starts.ensures.round
-          ∙ begun-left c.args.modes c.args.self.now (without c.args.self.now (c.args.id ∷ [])) queue left c.args.id place c.span_of-from.ensures.left (consumed c w.if-consumes.true) c.span_of-from.ensures.place
+          ∙ begun-left c.args.modes c.args.self.now (without c.args.self.now (c.args.id ∷ [])) queue left c.args.id position c.span_of-from.ensures.left (consumed c w.if-consumes.true) c.span_of-from.ensures.position
       | else-consumes+in_ok-starts-2 w ↦
           w.self-is ∙ w.in_ok-starts-2.ensures.round
-          ∙ begun-left c.args.modes c.args.self.now (without c.args.self.now []) queue left c.args.id place c.span_of-from.ensures.left (stayed c w.if-consumes.false) c.span_of-from.ensures.place
+          ∙ begun-left c.args.modes c.args.self.now (without c.args.self.now []) queue left c.args.id position c.span_of-from.ensures.left (stayed c w.if-consumes.false) c.span_of-from.ensures.position
     ]
 
 starts : (c : goal.After-consume_after-consume) → c.if-consumes.starts ≡ id_of (after_next c.args.modes c.args.self.now (queue_of c.args.queue.now) c.args.id).entry
 starts c =
     let queue : List Entry = queue_of c.args.queue.now in
     let left : List Entry = left_by queue c.span_of-from.result.from c.span_of-from.result.end in
-    let place : ℕ = c.span_of-from.result.place in
+    let position : ℕ = c.span_of-from.result.position in
     elim c.if-consumes.branch [
       | then-consumes+in_ok-starts w ↦
           w.starts-is ∙ w.in_ok-starts.ensures.starts
-          ∙ ap id_of (next-left c.args.modes c.args.self.now (without c.args.self.now (c.args.id ∷ [])) queue left c.args.id place c.span_of-from.ensures.left (consumed c w.if-consumes.true) c.span_of-from.ensures.place)
+          ∙ ap id_of (next-left c.args.modes c.args.self.now (without c.args.self.now (c.args.id ∷ [])) queue left c.args.id position c.span_of-from.ensures.left (consumed c w.if-consumes.true) c.span_of-from.ensures.position)
       | else-consumes+in_ok-starts-2 w ↦
           w.starts-is ∙ w.in_ok-starts-2.ensures.starts
-          ∙ ap id_of (next-left c.args.modes c.args.self.now (without c.args.self.now []) queue left c.args.id place c.span_of-from.ensures.left (stayed c w.if-consumes.false) c.span_of-from.ensures.place)
+          ∙ ap id_of (next-left c.args.modes c.args.self.now (without c.args.self.now []) queue left c.args.id position c.span_of-from.ensures.left (stayed c w.if-consumes.false) c.span_of-from.ensures.position)
     ]
 
 pub returns-clause-ending : goal.returns-clause-ending

@@ -13,4 +13,4 @@ returns c =
     let left : List Entry = left_by queue c.span_of-from.result.from c.span_of-from.result.end in
     let ids : List ℕ = gone c.args.modes c.args.id in
     c.goes_on.ensures.starts ids (all-left c.args.modes queue left c.args.id c.span_of-from.ensures.left)
-    ∙ ap is_some (next-left c.args.modes self _ queue left c.args.id c.span_of-from.result.place c.span_of-from.ensures.left (without-gone c.args.modes self c.args.id) c.span_of-from.ensures.place)
+    ∙ ap is_some (next-left c.args.modes self _ queue left c.args.id c.span_of-from.result.position c.span_of-from.ensures.left (without-gone c.args.modes self c.args.id) c.span_of-from.ensures.position)

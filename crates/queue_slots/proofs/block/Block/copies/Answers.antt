@@ -9,5 +9,5 @@ returns c =
     let b = c.self.inside in
     let from = c.args.from in
     let most = c.args.most in
-    c.settle.ensures.items ∙ ap (λ x. shown_as b.alike b.top b.marked x) (c.in_ok-copies.ensures ∙ c.part_of.ensures ∙ ap (λ (x : List Slot). take most (drop from x)) c.deref.ensures.value)
+    c.push_down.ensures.items ∙ ap (λ x. shown_as b.alike b.top b.marked x) (c.in_ok-copies.ensures ∙ c.part_of.ensures ∙ ap (λ (x : List Slot). take most (drop from x)) c.deref.ensures.value)
     ∙ sym (take-shown_as b.alike b.top b.marked most (drop from b.slots.items)) ∙ ap (take most) (sym (drop-shown_as b.alike b.top b.marked from b.slots.items) ∙ ap (drop from) c.self.view_is)

@@ -12,7 +12,7 @@ invariant_of-self c =
     let view = ap length c.self.view_is in
     let longer = length-shown_as o.alike o.top o.marked o.slots.items in
     let others = ap length c.other.view_is in
-    let is = c.move_all.ensures.items ∙ (λ i. c.settle.ensures.items i ++ c.settle-2.ensures.items i) in
+    let is = c.move_all.ensures.items ∙ (λ i. c.push_down.ensures.items i ++ c.push_down-2.ensures.items i) in
     record {
       room = omega arith;
       len = omega arith;

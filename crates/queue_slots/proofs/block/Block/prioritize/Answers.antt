@@ -10,7 +10,7 @@ invariant_of-self c =
     let b = c.self.inside in
     let t = c.max-self-inside.result in
     let m = b.marked || c.args.wraps in
-    let is = c.prioritize.ensures.items ∙ ap (map (prioritized_slot c.args.version c.args.wraps c.args.priority)) c.settle.ensures.items in
+    let is = c.prioritize.ensures.items ∙ ap (map (prioritized_slot c.args.version c.args.wraps c.args.priority)) c.push_down.ensures.items in
     record {
       room = omega arith;
       len = omega arith;

@@ -10,7 +10,7 @@ invariant_of-self c =
     let b = c.self.inside in
     let long = length-shown_as b.alike b.top b.marked b.slots.items in
     let view = ap length c.self.view_is in
-    let is = c.pull_slot.ensures.items ∙ ap (λ x. remove x c.args.at) c.settle.ensures.items in
+    let is = c.pull_slot.ensures.items ∙ ap (λ x. remove x c.args.at) c.push_down.ensures.items in
     record {
       room = omega arith;
       len = omega arith;

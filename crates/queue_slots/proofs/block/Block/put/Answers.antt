@@ -13,7 +13,7 @@ invariant_of-self c =
     let view = ap length c.self.view_is in
     let t = c.max-self-inside.result in
     let m = b.marked || s.marked in
-    let is = c.put_slot.ensures.items ∙ ap (λ x. insert x c.args.at s) c.settle.ensures.items in
+    let is = c.put_slot.ensures.items ∙ ap (λ x. insert x c.args.at s) c.push_down.ensures.items in
     record {
       room = omega arith;
       len = omega arith;

@@ -8,6 +8,6 @@ use Rattle.queue_slots.proofs.block.Block.rest.Goals as goal
 pub returns : goal.returns
 returns c =
     let b = c.self.inside in
-    let place = c.args.place in
-    ap (λ x. entries_of x) (c.slots_from.ensures ∙ ap (drop place) c.deref.ensures.value) ∙ sym (drop-map (λ (s : Slot). s.entry) place b.slots.items)
-    ∙ ap (drop place) (sym (entries_of-shown_as b.alike b.top b.marked b.slots.items) ∙ ap (λ x. entries_of x) c.self.view_is)
+    let position = c.args.position in
+    ap (λ x. entries_of x) (c.slots_from.ensures ∙ ap (drop position) c.deref.ensures.value) ∙ sym (drop-map (λ (s : Slot). s.entry) position b.slots.items)
+    ∙ ap (drop position) (sym (entries_of-shown_as b.alike b.top b.marked b.slots.items) ∙ ap (λ x. entries_of x) c.self.view_is)

@@ -2,21 +2,21 @@ use Rattle.std.proofs.Common.{◌≡◌, ◌≢◌, ◌<◌, List, get_or, ap, s
 use Rattle.std.specs.Prelude.{All}
 use Rattle.queue_slots.specs.declared.entry.Slot.{Slot}
 use Rattle.queue_slots.specs.Blocks.{joined}
-use Rattle.queue_slots.proofs.Places.{position-found, position-none}
+use Rattle.queue_slots.proofs.Positions.{position-found, position-none}
 use Rattle.queue_slots.proofs.blocks.Blocks.position_of.Goals as goal
 
-pub returns-in-Some-clause-place : goal.returns-in-Some-clause-place
-returns-in-Some-clause-place c =
+pub returns-in-Some-clause-first_position : goal.returns-in-Some-clause-first_position
+returns-in-Some-clause-first_position c =
     let e : joined c.deref.result.now ≡ c.args.self.now = ap (λ x. joined x) c.deref.ensures.value ∙ c.self.view_is in
-    sym (position-found c.args.self.now c.args.id c.in-Some.place c.requires (subst (λ (x : List Slot). c.in-Some.place < length x) e c.in-Some.ensures.found.0) (λ d. subst (λ (x : List Slot). (get_or x c.in-Some.place d).entry.id ≡ c.args.id) e (c.in-Some.ensures.found.1 d)))
+    sym (position-found c.args.self.now c.args.id c.in-Some.first_position c.requires (subst (λ (x : List Slot). c.in-Some.first_position < length x) e c.in-Some.ensures.found.0) (λ d. subst (λ (x : List Slot). (get_or x c.in-Some.first_position d).entry.id ≡ c.args.id) e (c.in-Some.ensures.found.1 d)))
 
-pub returns-in-Some-seek_id-clause-place : goal.returns-in-Some-seek_id-clause-place
-returns-in-Some-seek_id-clause-place c =
+pub returns-in-Some-seek_id-clause-first_position : goal.returns-in-Some-seek_id-clause-first_position
+returns-in-Some-seek_id-clause-first_position c =
     let e : joined c.deref-2.result.now ≡ c.args.self.now = ap (λ x. joined x) c.deref-2.ensures.value ∙ c.self.view_is in
-    sym (position-found c.args.self.now c.args.id c.in-Some-seek_id.place c.requires (subst (λ (x : List Slot). c.in-Some-seek_id.place < length x) e c.in-Some-seek_id.ensures.found.0) (λ d. subst (λ (x : List Slot). (get_or x c.in-Some-seek_id.place d).entry.id ≡ c.args.id) e (c.in-Some-seek_id.ensures.found.1 d)))
+    sym (position-found c.args.self.now c.args.id c.in-Some-seek_id.first_position c.requires (subst (λ (x : List Slot). c.in-Some-seek_id.first_position < length x) e c.in-Some-seek_id.ensures.found.0) (λ d. subst (λ (x : List Slot). (get_or x c.in-Some-seek_id.first_position d).entry.id ≡ c.args.id) e (c.in-Some-seek_id.ensures.found.1 d)))
 
-pub returns-in-None-clause-place : goal.returns-in-None-clause-place
-returns-in-None-clause-place c =
+pub returns-in-None-clause-first_position : goal.returns-in-None-clause-first_position
+returns-in-None-clause-first_position c =
     let e : joined c.deref-2.result.now ≡ c.args.self.now = ap (λ x. joined x) c.deref-2.ensures.value ∙ c.self.view_is in
     sym (position-none c.args.self.now c.args.id (subst (λ (x : List Slot). All (λ (s : Slot). s.entry.id ≢ c.args.id) x) e (c.in-None.ensures.none refl)))
 
@@ -25,7 +25,7 @@ returns-in-Some-clause-within c =
     let e : joined c.deref.result.now ≡ c.args.self.now = ap (λ x. joined x) c.deref.ensures.value ∙ c.self.view_is in
     let view = ap (λ x. length x) c.self.view_is in
     let long = c.self.invariant.len in
-    let less = subst (λ (x : List Slot). c.in-Some.place < length x) e c.in-Some.ensures.found.0 in
+    let less = subst (λ (x : List Slot). c.in-Some.first_position < length x) e c.in-Some.ensures.found.0 in
     (less, omega arith)
 
 pub returns-in-Some-seek_id-clause-within : goal.returns-in-Some-seek_id-clause-within
@@ -33,5 +33,5 @@ returns-in-Some-seek_id-clause-within c =
     let e : joined c.deref-2.result.now ≡ c.args.self.now = ap (λ x. joined x) c.deref-2.ensures.value ∙ c.self.view_is in
     let view = ap (λ x. length x) c.self.view_is in
     let long = c.self.invariant.len in
-    let less = subst (λ (x : List Slot). c.in-Some-seek_id.place < length x) e c.in-Some-seek_id.ensures.found.0 in
+    let less = subst (λ (x : List Slot). c.in-Some-seek_id.first_position < length x) e c.in-Some-seek_id.ensures.found.0 in
     (less, omega arith)

@@ -11,8 +11,8 @@ returns-in_default-clause-gone c = none_left c.args.target.now c.args.self.now.t
 pub returns-then-is_empty-clause-gone : goal.returns-then-is_empty-clause-gone
 returns-then-is_empty-clause-gone c = none_left c.args.target.now c.args.self.now.targets c.remove.new.self c.remove.ensures.updates
 
-pub returns-then-is_empty-clause-turns : goal.returns-then-is_empty-clause-turns
-returns-then-is_empty-clause-turns c =
+pub returns-then-is_empty-clause-changes : goal.returns-then-is_empty-clause-changes
+returns-then-is_empty-clause-changes c =
     let known : get_by_text c.args.self.now.targets c.args.target.now ≡ Some c.in-Some.names = search rules in
     as_before c.args.target.now c.args.self.now.targets c.remove.new.self None c.remove.ensures.updates
     (λ name. sym (empty_shows c.in-Some.names (c.is_empty.ensures.0 c.if-is_empty.true) name) ∙ ap (λ names. text_in names name) (sym known))
@@ -20,8 +20,8 @@ returns-then-is_empty-clause-turns c =
 pub returns-clause-gone : goal.returns-clause-gone
 returns-clause-gone c = none_left c.args.target.now c.args.self.now.targets c.remove.new.self c.remove.ensures.updates
 
-pub returns-clause-turns : goal.returns-clause-turns
-returns-clause-turns c = none_left c.args.target.now c.args.self.now.targets c.remove.new.self c.remove.ensures.updates
+pub returns-clause-changes : goal.returns-clause-changes
+returns-clause-changes c = none_left c.args.target.now c.args.self.now.targets c.remove.new.self c.remove.ensures.updates
 
 pub returns-clause-answers : goal.returns-clause-answers
 returns-clause-answers c =

@@ -10,14 +10,14 @@ use Rattle.shelf_database.proofs.QueryLemmas.{own_same, read_then_by}
 use Rattle.shelf_database.proofs.FaultLemmas.{answers_for, failed_after}
 use Rattle.shelf_database.proofs.database.SqlShelfShelf.create.Goals as goal
 
-pub returns-clause-turns : goal.returns-clause-turns
-returns-clause-turns g c =
+pub returns-clause-changes : goal.returns-clause-changes
+returns-clause-changes g c =
     let made : Maps → Maps = λ maps. with_list maps c.args.name.now (Some c.args.uris.now) in
     read_then_by (state g.S.Store c.args.self.now.connection) (state g.S.Store c.has_list.new.connection) (state g.S.Store c.put.new.self.connection) (is_ok c.put.result) made
-    c.in_ok-has_list.ensures.reads c.put.ensures.turns
+    c.in_ok-has_list.ensures.reads c.put.ensures.changes
 
-pub returns-in_err-has_list-clause-turns : goal.returns-in_err-has_list-clause-turns
-returns-in_err-has_list-clause-turns g c = rw (handed_on c.from_residual.result _ c.from_residual.ensures.1) (c.in_err-has_list.ensures.refused.turns _)
+pub returns-in_err-has_list-clause-changes : goal.returns-in_err-has_list-clause-changes
+returns-in_err-has_list-clause-changes g c = rw (handed_on c.from_residual.result _ c.from_residual.ensures.1) (c.in_err-has_list.ensures.refused.changes _)
 
 pub returns-in_err-has_list-clause-answers : goal.returns-in_err-has_list-clause-answers
 returns-in_err-has_list-clause-answers g c = λ trusted.
@@ -32,7 +32,7 @@ returns-clause-answers g c = λ trusted.
     let mid = state g.S.Store c.has_list.new.connection in
     let new = state g.S.Store c.put.new.self.connection in
     let uris = c.args.uris.now in
-    let clean = c.put.ensures.turns.clean trusted.0 in
+    let clean = c.put.ensures.changes.clean trusted.0 in
     let reads = c.in_ok-has_list.ensures.reads in
     let same = reads.same clean trusted.1.ready in
     let free : is_some ((note_maps old.now.trees).lists c.args.name.now) ≡ false = sym (c.in_ok-has_list.ensures.found clean trusted.1.ready) ∙ search rules in

@@ -12,14 +12,14 @@ use Rattle.shelf_database.proofs.BlameLemmas.{of_name_asked}
 use Rattle.shelf_database.proofs.FaultLemmas.{answers_for}
 use Rattle.shelf_database.proofs.HoldsLemmas.{both_never_lack}
 use Rattle.shelf_database.proofs.LacksLemmas.{of_name_lack}
-use Rattle.shelf_database.proofs.QueryLemmas.{read_turns}
+use Rattle.shelf_database.proofs.QueryLemmas.{read_changes}
 use Rattle.shelf_database.proofs.ShownLemmas.{IfOk-both, of_name_shown}
 use Rattle.shelf_database.proofs.database.SqlShelfShelf.find_stickers.Goals as goal
 
-pub returns-in_err-rows-clause-turns : goal.returns-in_err-rows-clause-turns
-returns-in_err-rows-clause-turns g c =
+pub returns-in_err-rows-clause-changes : goal.returns-in_err-rows-clause-changes
+returns-in_err-rows-clause-changes g c =
     let refuses = asked_refuses _ _ (of_name_asked c.args.kind c.args.name.now) (state g.S.Store c.args.self.now.connection) (state g.S.Store c.ask.new.connection) (rw (c.params-to_sql.ensures, c.params-to_sql-2.ensures, c.kind_text-word.ensures) at c.ask.ensures.survives) c.in_err-rows.field-0.0 (rw (c.params-to_sql.ensures, c.params-to_sql-2.ensures, c.kind_text-word.ensures) at c.in_err-rows.ensures.refused) in
-    rw (handed_on c.from_residual.result _ c.from_residual.ensures.1) (refuses.turns _)
+    rw (handed_on c.from_residual.result _ c.from_residual.ensures.1) (refuses.changes _)
 
 pub returns-in_err-rows-clause-answers : goal.returns-in_err-rows-clause-answers
 returns-in_err-rows-clause-answers g c = λ trusted.
@@ -28,11 +28,11 @@ returns-in_err-rows-clause-answers g c = λ trusted.
     let refuses = asked_refuses _ _ (of_name_asked c.args.kind c.args.name.now) old new (rw (c.params-to_sql.ensures, c.params-to_sql-2.ensures, c.kind_text-word.ensures) at c.ask.ensures.survives) c.in_err-rows.field-0.0 (rw (c.params-to_sql.ensures, c.params-to_sql-2.ensures, c.kind_text-word.ensures) at c.in_err-rows.ensures.refused) in
     rw (handed_on c.from_residual.result _ c.from_residual.ensures.1) (refused_answers (Unit {0}) old new (HasFailed old new) (StoreFailed old new (FindStickers c.args.kind c.args.name.now)) no_refusal c.in_err-rows.field-0.0 (λ failed. inl failed) refuses trusted)
 
-pub returns-clause-turns : goal.returns-clause-turns
-returns-clause-turns g c =
+pub returns-clause-changes : goal.returns-clause-changes
+returns-clause-changes g c =
     let old = state g.S.Store c.args.self.now.connection in
     let new = state g.S.Store c.ask.new.connection in
-    read_turns old new (is_ok c.entries_of.result) (asked_reads _ _ (of_name_asked c.args.kind c.args.name.now) old new (rw (c.params-to_sql.ensures, c.params-to_sql-2.ensures, c.kind_text-word.ensures) at c.ask.ensures.survives) c.in_ok-rows.rows.items (rw (c.params-to_sql.ensures, c.params-to_sql-2.ensures, c.kind_text-word.ensures) at c.in_ok-rows.ensures.shown))
+    read_changes old new (is_ok c.entries_of.result) (asked_reads _ _ (of_name_asked c.args.kind c.args.name.now) old new (rw (c.params-to_sql.ensures, c.params-to_sql-2.ensures, c.kind_text-word.ensures) at c.ask.ensures.survives) c.in_ok-rows.rows.items (rw (c.params-to_sql.ensures, c.params-to_sql-2.ensures, c.kind_text-word.ensures) at c.in_ok-rows.ensures.shown))
 
 pub returns-clause-entries : goal.returns-clause-entries
 returns-clause-entries g c = λ trusted.

@@ -11,15 +11,15 @@ use Rattle.shelf_database.proofs.BlameLemmas.{uris_asked}
 use Rattle.shelf_database.proofs.FoundLemmas.{list_shown, first_is}
 use Rattle.shelf_database.proofs.HoldsLemmas.{one_never_lacks, failed_only}
 use Rattle.shelf_database.proofs.LacksLemmas.{uris_lack}
-use Rattle.shelf_database.proofs.QueryLemmas.{read_turns}
+use Rattle.shelf_database.proofs.QueryLemmas.{read_changes}
 use Rattle.shelf_database.proofs.database.SqlShelfShelf.list.Goals as goal
 
-pub returns-in_err-text-clause-turns : goal.returns-in_err-text-clause-turns
-returns-in_err-text-clause-turns g c =
+pub returns-in_err-text-clause-changes : goal.returns-in_err-text-clause-changes
+returns-in_err-text-clause-changes g c =
     let old = state g.S.Store c.args.self.now.connection in
     let new = state g.S.Store c.first_text.new.connection in
     let refuses = text_refuses _ _ (uris_asked c.args.name.now) old new (rw c.params-to_sql.ensures at c.first_text.ensures.survives) (LacksText (2 ∷ []) (has_text 1 c.args.name.now) (old.now.trees 1)) c.in_err-text.field-0.0 (λ rows answer lacks. uris_lack old.now.trees rows c.args.name.now answer lacks) (rw c.params-to_sql.ensures at c.in_err-text.ensures.refused) in
-    rw (handed_on c.from_residual.result _ c.from_residual.ensures.1) (refuses.turns _)
+    rw (handed_on c.from_residual.result _ c.from_residual.ensures.1) (refuses.changes _)
 
 pub returns-in_err-text-clause-answers : goal.returns-in_err-text-clause-answers
 returns-in_err-text-clause-answers g c = λ trusted.
@@ -30,17 +30,17 @@ returns-in_err-text-clause-answers g c = λ trusted.
     let refuses = text_refuses _ _ (uris_asked c.args.name.now) old new (rw c.params-to_sql.ensures at c.first_text.ensures.survives) (LacksText (2 ∷ []) (has_text 1 c.args.name.now) (old.now.trees 1)) c.in_err-text.field-0.0 (λ rows answer lacks. uris_lack old.now.trees rows c.args.name.now answer lacks) (rw c.params-to_sql.ensures at c.in_err-text.ensures.refused) in
     rw (handed_on c.from_residual.result _ c.from_residual.ensures.1) (refused_answers (Unit {0}) old new (HasFailed old new ⊎ lacking) (StoreFailed old new (ListOf c.args.name.now)) (refusal_of_list (note_maps old.now.trees) c.args.name.now) c.in_err-text.field-0.0 (failed_only (HasFailed old new) lacking (CannotDo old.now.trees (ListOf c.args.name.now)) never) refuses trusted)
 
-pub returns-in-Some-clause-turns : goal.returns-in-Some-clause-turns
-returns-in-Some-clause-turns g c =
+pub returns-in-Some-clause-changes : goal.returns-in-Some-clause-changes
+returns-in-Some-clause-changes g c =
     let old = state g.S.Store c.args.self.now.connection in
     let new = state g.S.Store c.first_text.new.connection in
-    read_turns old new true (text_reads _ _ (uris_asked c.args.name.now) old new (rw c.params-to_sql.ensures at c.first_text.ensures.survives) (λ clean. let h = (rw c.params-to_sql.ensures at c.in_ok-text.ensures.shown) clean in (h.0, h.1)))
+    read_changes old new true (text_reads _ _ (uris_asked c.args.name.now) old new (rw c.params-to_sql.ensures at c.first_text.ensures.survives) (λ clean. let h = (rw c.params-to_sql.ensures at c.in_ok-text.ensures.shown) clean in (h.0, h.1)))
 
-pub returns-in-None-clause-turns : goal.returns-in-None-clause-turns
-returns-in-None-clause-turns g c =
+pub returns-in-None-clause-changes : goal.returns-in-None-clause-changes
+returns-in-None-clause-changes g c =
     let old = state g.S.Store c.args.self.now.connection in
     let new = state g.S.Store c.first_text.new.connection in
-    read_turns old new false (text_reads _ _ (uris_asked c.args.name.now) old new (rw c.params-to_sql.ensures at c.first_text.ensures.survives) (λ clean. let h = (rw c.params-to_sql.ensures at c.in_ok-text.ensures.shown) clean in (h.0, h.1)))
+    read_changes old new false (text_reads _ _ (uris_asked c.args.name.now) old new (rw c.params-to_sql.ensures at c.first_text.ensures.survives) (λ clean. let h = (rw c.params-to_sql.ensures at c.in_ok-text.ensures.shown) clean in (h.0, h.1)))
 
 pub returns-in-None-clause-answers : goal.returns-in-None-clause-answers
 returns-in-None-clause-answers g c = λ trusted.

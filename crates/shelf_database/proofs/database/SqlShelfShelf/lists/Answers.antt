@@ -11,14 +11,14 @@ use Rattle.shelf_database.proofs.BlameLemmas.{names_asked}
 use Rattle.shelf_database.proofs.FaultLemmas.{answers_for}
 use Rattle.shelf_database.proofs.HoldsLemmas.{one_never_lacks}
 use Rattle.shelf_database.proofs.LacksLemmas.{names_lack}
-use Rattle.shelf_database.proofs.QueryLemmas.{read_turns}
+use Rattle.shelf_database.proofs.QueryLemmas.{read_changes}
 use Rattle.shelf_database.proofs.ShownLemmas.{lists_shown}
 use Rattle.shelf_database.proofs.database.SqlShelfShelf.lists.Goals as goal
 
-pub returns-in_err-rows-clause-turns : goal.returns-in_err-rows-clause-turns
-returns-in_err-rows-clause-turns g c =
+pub returns-in_err-rows-clause-changes : goal.returns-in_err-rows-clause-changes
+returns-in_err-rows-clause-changes g c =
     let refuses = asked_refuses _ _ names_asked (state g.S.Store c.args.self.now.connection) (state g.S.Store c.ask.new.connection) c.ask.ensures.survives c.in_err-rows.field-0.0 c.in_err-rows.ensures.refused in
-    rw (handed_on c.from_residual.result _ c.from_residual.ensures.1) (refuses.turns _)
+    rw (handed_on c.from_residual.result _ c.from_residual.ensures.1) (refuses.changes _)
 
 pub returns-in_err-rows-clause-answers : goal.returns-in_err-rows-clause-answers
 returns-in_err-rows-clause-answers g c = λ trusted.
@@ -27,11 +27,11 @@ returns-in_err-rows-clause-answers g c = λ trusted.
     let refuses = asked_refuses _ _ names_asked old new c.ask.ensures.survives c.in_err-rows.field-0.0 c.in_err-rows.ensures.refused in
     rw (handed_on c.from_residual.result _ c.from_residual.ensures.1) (refused_answers (Unit {0}) old new (HasFailed old new) (StoreFailed old new Lists) no_refusal c.in_err-rows.field-0.0 (λ failed. inl failed) refuses trusted)
 
-pub returns-clause-turns : goal.returns-clause-turns
-returns-clause-turns g c =
+pub returns-clause-changes : goal.returns-clause-changes
+returns-clause-changes g c =
     let old = state g.S.Store c.args.self.now.connection in
     let new = state g.S.Store c.ask.new.connection in
-    read_turns old new (is_ok c.texts_of.result) (asked_reads _ _ names_asked old new c.ask.ensures.survives c.in_ok-rows.rows.items c.in_ok-rows.ensures.shown)
+    read_changes old new (is_ok c.texts_of.result) (asked_reads _ _ names_asked old new c.ask.ensures.survives c.in_ok-rows.rows.items c.in_ok-rows.ensures.shown)
 
 pub returns-clause-names : goal.returns-clause-names
 returns-clause-names g c = λ trusted.

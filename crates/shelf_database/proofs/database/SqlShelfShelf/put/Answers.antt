@@ -13,7 +13,7 @@ use Rattle.shelf.specs.Maps.{with_list, refusal_of_put}
 use Rattle.shelf.specs.Calls.{Put}
 use Rattle.shelf_database.specs.Tables.{note_maps, IsReady}
 use Rattle.shelf_database.specs.Faults.{HasFailed, IsUnstorable, StoreFailed}
-use Rattle.shelf_database.proofs.AskLemmas.{change_turns, change_blames, answers_done}
+use Rattle.shelf_database.proofs.AskLemmas.{statement_changes, change_blames, answers_done}
 use Rattle.shelf_database.proofs.BlameLemmas.{IsWhole}
 use Rattle.shelf_database.proofs.PutBlame.{put_refused}
 use Rattle.shelf_database.proofs.PutListLemmas.{puts_list, list_values}
@@ -24,14 +24,14 @@ use Rattle.shelf_database.proofs.database.SqlShelfShelf.put.Goals as goal
 abbrev command : Command
 command = InsertOr 1 Replace (Values list_values 3) []
 
-pub returns-clause-turns : goal.returns-clause-turns
-returns-clause-turns g c =
+pub returns-clause-changes : goal.returns-clause-changes
+returns-clause-changes g c =
     let old = state g.S.Store c.args.self.now.connection in
     let text = c.text.result.now in
     let params : List Value = Text c.args.name.now ∷ Text text ∷ [] in
     let does : IsReady old → DoesSo old put_text params command (with_list (note_maps old.now.trees) c.args.name.now (Some c.args.uris.now)) =
     λ ready. subst (λ lines. DoesSo old put_text params command (with_list (note_maps old.now.trees) c.args.name.now (Some lines))) c.text.ensures.uris (puts_list old c.args.name.now text c.utf8.name c.text.utf8 ready.shelf) in
-    change_turns put_text params command put_is tt old (state g.S.Store c.change.new.connection) c.change.result (rw (c.params-to_sql.ensures, c.params-to_sql-2.ensures) at c.change.ensures.ran) _ does
+    statement_changes put_text params command put_is tt old (state g.S.Store c.change.new.connection) c.change.result (rw (c.params-to_sql.ensures, c.params-to_sql-2.ensures) at c.change.ensures.ran) _ does
     (rw (c.params-to_sql.ensures, c.params-to_sql-2.ensures) at c.change.ensures.survives)
 
 put_whole : (name text : List ℕ) → IsWhole put_text (Text name ∷ Text text ∷ [])

@@ -10,8 +10,8 @@ use Rattle.shelf_database.proofs.QueryLemmas.{ready_same, read_then_by}
 use Rattle.shelf_database.proofs.ThereLemmas.{failed_then}
 use Rattle.shelf_database.proofs.database.SqlShelfShelf.remove.Goals as goal
 
-pub returns-in_err-has_list-clause-turns : goal.returns-in_err-has_list-clause-turns
-returns-in_err-has_list-clause-turns g c = rw (handed_on c.from_residual.result _ c.from_residual.ensures.1) (c.in_err-has_list.ensures.refused.turns _)
+pub returns-in_err-has_list-clause-changes : goal.returns-in_err-has_list-clause-changes
+returns-in_err-has_list-clause-changes g c = rw (handed_on c.from_residual.result _ c.from_residual.ensures.1) (c.in_err-has_list.ensures.refused.changes _)
 
 pub returns-in_err-has_list-clause-answers : goal.returns-in_err-has_list-clause-answers
 returns-in_err-has_list-clause-answers g c = λ trusted.
@@ -19,9 +19,9 @@ returns-in_err-has_list-clause-answers g c = λ trusted.
     let new = state g.S.Store c.has_list.new.connection in
     rw (handed_on c.from_residual.result _ c.from_residual.ensures.1) (refused_answers (Unit {0}) old new (HasFailed old new) (StoreFailed old new (Remove c.args.name.now)) (refusal_of_list (note_maps old.now.trees) c.args.name.now) c.in_err-has_list.field-0.0 (λ failed. inl failed) c.in_err-has_list.ensures.refused trusted)
 
-pub returns-clause-turns : goal.returns-clause-turns
-returns-clause-turns g c =
-    read_then_by (state g.S.Store c.args.self.now.connection) (state g.S.Store c.has_list.new.connection) (state g.S.Store c.remove_list.new.connection) (is_ok c.remove_list.result) (λ maps. with_removed maps c.args.name.now) c.in_ok-has_list.ensures.reads c.remove_list.ensures.turns
+pub returns-clause-changes : goal.returns-clause-changes
+returns-clause-changes g c =
+    read_then_by (state g.S.Store c.args.self.now.connection) (state g.S.Store c.has_list.new.connection) (state g.S.Store c.remove_list.new.connection) (is_ok c.remove_list.result) (λ maps. with_removed maps c.args.name.now) c.in_ok-has_list.ensures.reads c.remove_list.ensures.changes
 
 pub returns-clause-answers : goal.returns-clause-answers
 returns-clause-answers g c = λ trusted.
@@ -29,7 +29,7 @@ returns-clause-answers g c = λ trusted.
     let mid = state g.S.Store c.has_list.new.connection in
     let new = state g.S.Store c.remove_list.new.connection in
     let reads = c.in_ok-has_list.ensures.reads in
-    let clean = c.remove_list.ensures.turns.clean trusted.0 in
+    let clean = c.remove_list.ensures.changes.clean trusted.0 in
     let ready = ready_same old mid trusted.1.ready (reads.same clean trusted.1.ready) in
     let there : is_some ((note_maps old.now.trees).lists c.args.name.now) ≡ true = sym (c.in_ok-has_list.ensures.found clean trusted.1.ready) ∙ search rules in
     let failed : Type 0 = StoreFailed old new (Remove c.args.name.now) in

@@ -11,18 +11,18 @@ use Rattle.shelf_database.specs.Faults.{HasFailed, CannotDo, StoreFailed}
 use Rattle.shelf_database.specs.Tables.{note_maps, IsReady, Reads}
 use Rattle.shelf_database.specs.Moves.{HasNames}
 use Rattle.shelf_database.proofs.AskLemmas.{handed_on, refused_answers, for_this, answers_fault, answers_done}
-use Rattle.shelf_database.proofs.RenameTurns.{rename_turns}
+use Rattle.shelf_database.proofs.RenameChanges.{rename_changes}
 use Rattle.shelf_database.proofs.database.SqlShelfShelf.rename.Goals as goal
 
-pub returns-in_err-has_list-clause-turns : goal.returns-in_err-has_list-clause-turns
-returns-in_err-has_list-clause-turns g c = rw (handed_on c.from_residual.result _ c.from_residual.ensures.1) (c.in_err-has_list.ensures.refused.turns _)
+pub returns-in_err-has_list-clause-changes : goal.returns-in_err-has_list-clause-changes
+returns-in_err-has_list-clause-changes g c = rw (handed_on c.from_residual.result _ c.from_residual.ensures.1) (c.in_err-has_list.ensures.refused.changes _)
 
-pub returns-in_err-has_list-2-clause-turns : goal.returns-in_err-has_list-2-clause-turns
-returns-in_err-has_list-2-clause-turns g c =
+pub returns-in_err-has_list-2-clause-changes : goal.returns-in_err-has_list-2-clause-changes
+returns-in_err-has_list-2-clause-changes g c =
     let old = state g.S.Store c.args.self.now.connection in
     let after = with_renamed (note_maps old.now.trees) c.args.name.now c.args.new_name.now in
     rw (handed_on c.from_residual-in_err-has_list-2.result _ c.from_residual-in_err-has_list-2.ensures.1)
-    (read_then old (state g.S.Store c.has_list.new.connection) (state g.S.Store c.has_list-2.new.connection) false after c.in_ok-has_list.ensures.reads (c.in_err-has_list-2.ensures.refused.turns after))
+    (read_then old (state g.S.Store c.has_list.new.connection) (state g.S.Store c.has_list-2.new.connection) false after c.in_ok-has_list.ensures.reads (c.in_err-has_list-2.ensures.refused.changes after))
 
 pub returns-in_err-has_list-clause-answers : goal.returns-in_err-has_list-clause-answers
 returns-in_err-has_list-clause-answers g c = λ trusted.
@@ -39,7 +39,7 @@ returns-in_err-has_list-2-clause-answers g c = λ trusted.
     let ready = trusted.1.ready in
     let reads = c.in_ok-has_list.ensures.reads in
     let refuses = c.in_err-has_list-2.ensures.refused in
-    let clean = (refuses.turns (note_maps old.now.trees)).clean trusted.0 in
+    let clean = (refuses.changes (note_maps old.now.trees)).clean trusted.0 in
     let failed : Type 0 = StoreFailed old new (Rename c.args.name.now c.args.new_name.now) in
     let told = for_this (HasFailed mid new) failed c.in_err-has_list-2.field-0.0 (λ why. inl (failed_after old mid new reads clean ready why)) (refuses.told trusted.0 (ready_same old mid ready (reads.same clean ready))) in
     rw (handed_on c.from_residual-in_err-has_list-2.result _ c.from_residual-in_err-has_list-2.ensures.1)
@@ -58,8 +58,8 @@ can_rename old mid late name other first second clean ready there free =
       free = subst (λ (d : Database). is_some ((note_maps d.trees).lists other) ≡ false) (sym again.0.now_is) (free clean then_ready);
     }
 
-pub returns-clause-turns : goal.returns-clause-turns
-returns-clause-turns g c =
+pub returns-clause-changes : goal.returns-clause-changes
+returns-clause-changes g c =
     let old = state g.S.Store c.args.self.now.connection in
     let mid = state g.S.Store c.has_list.new.connection in
     let late = state g.S.Store c.has_list-2.new.connection in
@@ -68,8 +68,8 @@ returns-clause-turns g c =
     let second = c.in_ok-has_list-2.ensures.reads in
     let there : c.in_ok-has_list.field-0 ≡ true = search rules in
     let free : c.in_ok-has_list-2.field-0 ≡ false = search rules in
-    rename_turns old mid late new c.args.name.now c.args.new_name.now (is_ok c.rename_list.result) first second
-    (λ clean ready. sym (c.in_ok-has_list.ensures.found clean ready) ∙ there) (λ clean ready. sym (c.in_ok-has_list-2.ensures.found clean ready) ∙ free) c.rename_list.ensures.turns c.rename_list.ensures.survives
+    rename_changes old mid late new c.args.name.now c.args.new_name.now (is_ok c.rename_list.result) first second
+    (λ clean ready. sym (c.in_ok-has_list.ensures.found clean ready) ∙ there) (λ clean ready. sym (c.in_ok-has_list-2.ensures.found clean ready) ∙ free) c.rename_list.ensures.changes c.rename_list.ensures.survives
 
 pub returns-clause-answers : goal.returns-clause-answers
 returns-clause-answers g c = λ trusted.

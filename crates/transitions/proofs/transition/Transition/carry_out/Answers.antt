@@ -9,4 +9,4 @@ cross-requires c =
     let within : crosses_beyond c.max_cut_at-max_cut.result c.self.inside.crossing (map known c.args.parts.now) ≡ false =
     sym c.moves_beyond.ensures ∙ c.if-moves_beyond.false in
     ap (λ (ps : List Part). crosses_beyond 18446744073709551615 c.self.inside.crossing (map known ps)) c.in_ok-report.ensures.parts
-    ∙ can_cross c.max_cut_at-max_cut.result c.args.library.now.rate c.args.place c.self.inside.effect c.self.inside.crossing c.args.parts.now (omega arith) within
+    ∙ can_cross c.max_cut_at-max_cut.result c.args.library.now.rate c.args.index c.self.inside.effect c.self.inside.crossing c.args.parts.now (omega arith) within
