@@ -9,7 +9,7 @@ It writes
   names in byte order and where each letter begins (src/name.rt), which names the everyday profile adds, and which tables proofs unfold;
 - the rows of the base profile and of its proof (`command_laws`), and which subsystem of `idle` reports that an answer has changed
   (`notice_laws`);
-- the sessions of `worked_rows` that list all names; the list in the manual; and the commands that the manual, README and
+- the sessions of `transcript_tests` that list all names; the list in the manual; and the commands that the manual, README and
   docs/DIFFERENCES.md name as missing.
 
 The script finds each list by the text around it, so the sources need no marks. A list that differs only in its line breaks is left alone.
@@ -31,7 +31,7 @@ NAME, NAMES, KNOWN = ('crates/mpd_command/' + it for it in ('src/name.rt', 'spec
 BASE, BASE_ROWS = 'crates/command_laws/specs/Base.antt', 'crates/command_laws/proofs/BaseRows.antt'
 TELLERS = 'crates/notice_laws/specs/Tellers.antt'
 EFFECTS = 'crates/player_state/src/effect.rt'
-ROWS = 'crates/worked_rows/data/%s.row'
+ROWS = 'crates/transcript_tests/data/%s.row'
 MANUAL, README, DIFFERENCES = 'packaging/music_daemon.1', 'README.md', 'docs/DIFFERENCES.md'
 EDITS = 'checks/edits/mpd_command/*.edit'
 NAME_COLUMNS, SPEC_COLUMNS, CODE_COLUMNS = 106, 130, 110
@@ -300,7 +300,7 @@ def written_tellers(text, made):
 
 def written_session(names):
     def written(text, made):
-        """A session of `worked_rows`: the answer to `commands`, without `kill`, which a script may not run."""
+        """A session of `transcript_tests`: the answer to `commands`, without `kill`, which a script may not run."""
         found = [name for name in names(made) if name != 'kill']
         text = re.sub(r'there are \d+ names', 'there are %d names' % len(found), text)
         return put(text, r'^> 1 commands\n(?:< 1 OK MPD [^\n]*\n)?((?:< 1 command: \w+\n)+)', ''.join('< 1 command: %s\n' % it for it in found))

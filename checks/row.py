@@ -4,7 +4,7 @@
     row.py NAME             prints the lines of its session, as `music_daemon script` reads them
     row.py NAME OUTPUT      says whether the file OUTPUT is what the row expects, and if not, where they first differ
 
-NAME is the name of a file in crates/worked_rows/data, with or without `.row`. The exit status is 1 if they differ.
+NAME is the name of a file in crates/transcript_tests/data, with or without `.row`. The exit status is 1 if they differ.
 """
 import os
 import sys
@@ -23,7 +23,7 @@ AROUND = 3
 def row_of(name):
     path = os.path.join(WORKED, name.removesuffix('.row') + '.row')
     if not os.path.exists(path):
-        raise SystemExit('row.py: there is no row %s in crates/worked_rows/data' % name)
+        raise SystemExit('row.py: there is no row %s in crates/transcript_tests/data' % name)
     return Row(path)
 
 

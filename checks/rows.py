@@ -4,7 +4,7 @@ import re
 
 HERE = os.path.dirname(os.path.abspath(__file__))
 FOLDER = os.path.join(HERE, 'rows')
-WORKED = os.path.join(os.path.dirname(HERE), 'crates', 'worked_rows', 'data')
+WORKED = os.path.join(os.path.dirname(HERE), 'crates', 'transcript_tests', 'data')
 # A line of a client that no row uses, and that never waits: it gets the same answer wherever it is put into a row.
 LONG_LINE = (b'8 add ' + b'x' * 16000 + b'\n', b'8 ACK [50@0] {add} no such song\n')
 GREETED = (LONG_LINE[0], b'8 OK MPD 0.23.0\n' + LONG_LINE[1])

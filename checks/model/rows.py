@@ -1,6 +1,6 @@
 """Reads worked rows, and compares an output with what a row expects.
 
-    rows.py [FILE or FOLDER ...]     checks that the model answers each row as it expects; by default those in crates/worked_rows/data
+    rows.py [FILE or FOLDER ...]     checks that the model answers each row as it expects; by default those in crates/transcript_tests/data
 
 Each row is run as it is, and once more for each line `again:` in its head, with the line that this gives put in front. No program is needed."""
 import os
@@ -12,7 +12,7 @@ sys.dont_write_bytecode = True
 from script import LONGEST_LINE, Script
 
 HERE = os.path.dirname(os.path.abspath(__file__))
-WORKED = os.path.join(HERE, '..', '..', 'crates', 'worked_rows', 'data')
+WORKED = os.path.join(HERE, '..', '..', 'crates', 'transcript_tests', 'data')
 ESCAPES = {b'r': b'\r', b't': b'\t', b'\\': b'\\'}
 
 

@@ -23,7 +23,7 @@ sys.path.append(os.path.dirname(os.path.dirname(os.path.abspath(__file__))))
 from daemon import ROOT, Daemon, Table, given_to, program_of, put_songs, uri_of
 from program import build_library
 
-ROW = os.path.join(ROOT, 'crates', 'worked_rows', 'data', 'stickers-of-stored-playlists.row')
+ROW = os.path.join(ROOT, 'crates', 'transcript_tests', 'data', 'stickers-of-stored-playlists.row')
 MANY = 5_000      # how many stickers the file has whose conversion is killed at random moments
 MOST = 100_000    # how many stickers the file has whose conversion is timed
 TABLES = (

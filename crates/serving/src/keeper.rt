@@ -18,9 +18,9 @@ use kept_state::{
 use mpd_command::{CommandSet, Request};
 use mpd_text::Text;
 use own_lines::{answers_of, requests_of};
-use patience::Gates;
 use settings::OneLine;
 use shelf::{MemShelf, Shelf};
+use stalled_outputs::Gates;
 use std::alloc::{AllocError, Global};
 use std::sync::{Arc, Wait};
 use std::thread::{self, JoinHandle, Threads};

@@ -1,12 +1,12 @@
 //! What the house's threads work with.
 ghost use Rattle.std.specs.Prelude.{◌≡◌, ◌≤◌, IfOk, string_bytes, vec_len};
-ghost use Rattle.patience.specs.Through.{AreForPatience};
+ghost use Rattle.stalled_outputs.specs.Through.{AreForPatience};
 
 use crate::folder::FolderScanner;
 use counted_devices::Counting;
 use crew_steps::Folder;
-use patience::{OutputPath, OutputPaths, PatientPath, output_paths};
 use settings::Settings;
+use stalled_outputs::{OutputPath, OutputPaths, PatientPath, output_paths};
 use std::alloc::AllocError;
 use std::sync::Wait;
 use std::thread::Threads;

@@ -2,7 +2,7 @@ use denote.Param.Send.{sendable}
 use Rattle.std.proofs.Crossing.{crosses}
 use Rattle.house.proofs.Crosses.{house_send, house_sync}
 use Rattle.counted_player.proofs.seat.Seat.TheSendSync as seat
-use Rattle.patience.proofs.Crosses.{gates_send, gates_sync}
+use Rattle.stalled_outputs.proofs.Crosses.{gates_send, gates_sync}
 use Rattle.serving.proofs.keeper.start_keeper.Goals as goal
 
 pub spawn-requires-send-F : goal.spawn-requires-send-F

@@ -1,6 +1,6 @@
 use denote.Param.Send.{sendable}
 use Rattle.std.proofs.Crossing.{crosses}
-use Rattle.patience.proofs.Crosses.{gates_send, gates_sync}
+use Rattle.stalled_outputs.proofs.Crosses.{gates_send, gates_sync}
 use Rattle.serving.proofs.run.start_crew.Goals as goal
 
 pub start_outputs-requires-send-G : goal.start_outputs-requires-send-G

@@ -1,5 +1,0 @@
-use Rattle.patient_output.proofs.PathWrites.{first_after_all}
-use Rattle.patient_output.proofs.path_writer.copy_to_path.Goals as goal
-
-pub returns-then-not-copy_piece : goal.returns-then-not-copy_piece
-returns-then-not-copy_piece g c = first_after_all _ _ _ _ _ _ c.loop.invariant c.copy_piece.ensures.first

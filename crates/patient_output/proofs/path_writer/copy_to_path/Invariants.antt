@@ -1,7 +1,0 @@
-use Rattle.rtrb.specs.Ring.{received}
-use Rattle.patient_output.specs.PathWriting.{WritesAll}
-use Rattle.patient_output.proofs.path_writer.copy_to_path.Given as goal
-
-abbrev pub invariant-loop : goal.invariant-loop
-invariant-loop g l =
-    WritesAll (received l.fn.arguments.consumer) (received l.consumer) (g.W.Write.contents l.fn.path) (g.W.Write.contents l.path)
