@@ -74,7 +74,7 @@ HELD = [
         'parts': 'each partition, below', 'openings': 'what a new partition starts with', 'library': 'the songs, and the scan', 'made': 'how many events each seat made', 'books': 'frames of each output',
         'ended': 'whether the daemon has ended', 'clients': 'the partition of each, its tags, what it waits for, what is pending'}),
     (6, 'player_state', 'Part', {
-        'place': 'its number', 'name': None, 'queue': 'slots, stamps, ids', 'player': 'what it plays', 'volume': None,
+        'index': 'its number', 'name': None, 'queue': 'slots, stamps, ids', 'player': 'what it plays', 'volume': None,
         'outputs': 'which are enabled or failed', 'channels': 'subscriptions of clients, and messages to them', 'played': None}),
 ]
 
@@ -347,7 +347,7 @@ def draw_waits():
     for crate in libraries():
         calls = list(waiting(crate))
         for number, row in enumerate(rows_of(calls, 84) if calls else []):
-            lines.append(('%-14s %s' % (crate if number == 0 else '', row)).rstrip())
+            lines.append(('%-15s %s' % (crate if number == 0 else '', row)).rstrip())
     return lines
 
 

@@ -25,7 +25,7 @@ SLOWEST = 1.0       # how many seconds an answer may take
 GROWTH = 80         # by how many megabytes the daemon may grow, for unsent answers and the history's window
 SENT = 10_000_000   # how many bytes are sent without a newline
 LAST_READ = 10      # how many seconds a client that is being disconnected gets to read its last answers
-# The refusals that an edit may get: a place that the queue no longer has, a song that does not exist, and a full queue (16,384 entries).
+# The refusals that an edit may get: a position that the queue no longer has, a song that does not exist, and a full queue (16,384 entries).
 REFUSED = (b'ACK [2@0]', b'ACK [50@0]', b'ACK [51@0] {add} playlist is full', b'ACK [51@0] {addid} playlist is full')
 
 
@@ -179,7 +179,7 @@ def never_reads(port):
 
 def closed_and_never_reads(daemon):
     def misbehave(port):
-        """Asks for more than the system's buffers hold, sends `close`, and reads nothing: it may keep its place for ten seconds, and no longer."""
+        """Asks for more than the system's buffers hold, sends `close`, and reads nothing: it may keep its slot for ten seconds, and no longer."""
         before = daemon.files()
         client = Client(port)
         client.socket.sendall(b'playlistinfo 0:1000\n' * 40 + b'close\n')

@@ -102,7 +102,7 @@ def check_load(table, program, folder, music, seconds):
 
 def balances(table, daemon, pacers=(), client=None):
     """Ends the daemon, and checks that the frame counts of each output balance. If a client is given, it is used, since a new one might find no free
-    place."""
+    slot."""
     client = client or daemon.client()
     for line in client.must('listpartitions'):
         client.must('partition %s' % line.partition(': ')[2])

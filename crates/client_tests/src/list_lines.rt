@@ -115,7 +115,7 @@ fn add_full(recorder: &mut Recorder, alloc: Global, count: u32, line: &str, more
     add_line(recorder, alloc, &mut collector, more);
 }
 
-/// What is told of lists of 127 lines and one more, of a byte more, and of 128 and an empty line more.
+/// What is observed of lists of 127 lines and one more, of a byte more, and of 128 and an empty line more.
 fn full_lists(alloc: Global) -> Result<String, AllocError> {
     let longer = "x".repeat(alloc, 16_384)?;
     let line = longer.as_str().get(..16_383).unwrap_or("");

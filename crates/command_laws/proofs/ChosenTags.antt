@@ -6,8 +6,8 @@ use Rattle.mpd_text.specs.declared.songs.song.TagName.{TagName}
 use Rattle.player_state.specs.declared.state.Client.{Client}
 use Rattle.transitions.specs.Answers.{ResponseData, stays, tells}
 use Rattle.transitions.specs.declared.asked.Asked.{Asked}
-use Rattle.transitions.specs.declared.asked.Stand.{Stand}
-use Rattle.transitions.specs.declared.asked.Stand.TheVariants.{Alone, InList}
+use Rattle.transitions.specs.declared.asked.ListPlace.{ListPlace}
+use Rattle.transitions.specs.declared.asked.ListPlace.TheVariants.{Alone, InList}
 use Rattle.transitions.specs.declared.reply.Move.TheVariants.{Resume}
 use Rattle.mpd_command.specs.declared.command.Command.{Command}
 use Rattle.mpd_command.specs.declared.command.Command.TheVariants as command
@@ -19,7 +19,7 @@ use Rattle.command_laws.specs.HiddenTags.{IsTagSet}
 use Rattle.command_laws.proofs.SetsOfTags.{disabled-set, enabled-set}
 
 -- a client that waits, or waits no more, keeps its tags
-alone-keeps : (asked : Asked) (stand : Stand) (tags : List TagName) (response : ResponseData) → tags_moved tags response.move ≡ tags → tags_moved tags (alone asked stand response).move ≡ tags
+alone-keeps : (asked : Asked) (list_place : ListPlace) (tags : List TagName) (response : ResponseData) → tags_moved tags response.move ≡ tags → tags_moved tags (alone asked list_place response).move ≡ tags
 alone-keeps asked Alone tags response h = h
 alone-keeps asked (InList form place) tags response h = refl
 
@@ -32,8 +32,8 @@ resumes-keep tags true = refl
 resumes-keep tags false = refl
 
 pub tags_kept : (asked : Asked) (client : Client) (it : Command) → chooses it ≡ false → tags_next asked client it ≡ asked.tags
-tags_kept asked client (command.Status (status.Idle named)) e = alone-keeps asked asked.stand asked.tags _ (idles-keep asked.tags named (notice_of (waits named client.pending)))
-tags_kept asked client (command.Status status.NoIdle) e = alone-keeps asked asked.stand asked.tags (resumes client) (resumes-keep asked.tags (is_some client.pending.waiting))
+tags_kept asked client (command.Status (status.Idle named)) e = alone-keeps asked asked.list_place asked.tags _ (idles-keep asked.tags named (notice_of (waits named client.pending)))
+tags_kept asked client (command.Status status.NoIdle) e = alone-keeps asked asked.list_place asked.tags (resumes client) (resumes-keep asked.tags (is_some client.pending.waiting))
 tags_kept asked client (command.Connection connection.AllTags) e = absurd (cc)
 tags_kept asked client (command.Connection connection.NoTags) e = absurd (cc)
 tags_kept asked client (command.Connection (connection.WithTags named)) e = absurd (cc)

@@ -14,7 +14,7 @@ use Rattle.player_state.specs.declared.state.Client.{Client}
 use Rattle.player_state.specs.declared.state.Library.{Library}
 use Rattle.player_state.specs.declared.state.Part.{Part}
 use Rattle.transitions.specs.declared.asked.Asked.{Asked}
-use Rattle.transitions.specs.declared.asked.Stand.{Stand}
+use Rattle.transitions.specs.declared.asked.ListPlace.{ListPlace}
 use Rattle.transitions.specs.declared.shelf_calls.StoreReply.{StoreReply}
 use Rattle.transitions.specs.declared.shelf_calls.Read.{Read}
 use Rattle.transitions.specs.Shelves.{is_written}
@@ -55,30 +55,30 @@ wished : (asked : Asked) (client : Client) (t : TransitionData) (wish : Option W
 wished asked client t (Some wish) p = refl
 wished asked client t None p = p
 
-requested : (o : Overview) (part : Option Part) (library : Library) (client : Client) (stand : Stand) (request : Request) (read : Read) → IsFrameless (transition_request o part library client stand request read)
-requested o part library client stand (asks.Run name command) read =
-    let asked : Asked = asked_by client name stand in
+requested : (o : Overview) (part : Option Part) (library : Library) (client : Client) (list_place : ListPlace) (request : Request) (read : Read) → IsFrameless (transition_request o part library client list_place request read)
+requested o part library client list_place (asks.Run name command) read =
+    let asked : Asked = asked_by client name list_place in
     wished asked client (transition_there o asked part library read command) (wish_of command) (there o asked part library read command)
-requested o part library client stand (asks.Refused ack) read = refl
+requested o part library client list_place (asks.Refused ack) read = refl
 
-response : (o : Overview) (part : Option Part) (library : Library) (client : Option Client) (stand : Stand) (request : Request) (read : Read) → IsFrameless (transition_line o part library client stand request read)
-response o part library None stand request read = refl
-response o part library (Some client) stand request read =
-    elim (is_some client.pending.waiting && not (ends_waiting stand request))
-    as (λ b. IsFrameless (if b then departs client.number else transition_request o part library client stand request read))
-    [ true ↦ refl | false ↦ requested o part library client stand request read ]
+response : (o : Overview) (part : Option Part) (library : Library) (client : Option Client) (list_place : ListPlace) (request : Request) (read : Read) → IsFrameless (transition_line o part library client list_place request read)
+response o part library None list_place request read = refl
+response o part library (Some client) list_place request read =
+    elim (is_some client.pending.waiting && not (ends_waiting list_place request))
+    as (λ b. IsFrameless (if b then departs client.number else transition_request o part library client list_place request read))
+    [ true ↦ refl | false ↦ requested o part library client list_place request read ]
 
-once : (stand : Stand) (request : Request) (refused : Option ShelfFault) (t : TransitionData) → IsFrameless (once_written stand request refused t)
-once stand request None t = refl
-once stand request (Some fault) t = refl
+once : (list_place : ListPlace) (request : Request) (refused : Option ShelfFault) (t : TransitionData) → IsFrameless (once_written list_place request refused t)
+once list_place request None t = refl
+once list_place request (Some fault) t = refl
 
-written : (stand : Stand) (request : Request) (refused : Option ShelfFault) (t : TransitionData) → IsFrameless t → IsFrameless (written_transition stand request refused t)
-written stand request refused t p =
-    elim (is_written t.written) as (λ b. IsFrameless (if b then once_written stand request refused t else t)) [ true ↦ once stand request refused t | false ↦ p ]
+written : (list_place : ListPlace) (request : Request) (refused : Option ShelfFault) (t : TransitionData) → IsFrameless t → IsFrameless (written_transition list_place request refused t)
+written list_place request refused t p =
+    elim (is_written t.written) as (λ b. IsFrameless (if b then once_written list_place request refused t else t)) [ true ↦ once list_place request refused t | false ↦ p ]
 
 -- a line
-pub line_frameless : (o : Overview) (part : Option Part) (library : Library) (client : Option Client) (number : ℕ) (stand : Stand) (request : Request) (heard : StoreReply)
-    → is_frameless (transition_of o part library client (Line number stand request heard)).effect ≡ true
-line_frameless o part library client number stand request heard =
-    written stand request heard.refused (transition_line o part library client stand request heard.read)
-    (response o part library client stand request heard.read)
+pub line_frameless : (o : Overview) (part : Option Part) (library : Library) (client : Option Client) (number : ℕ) (list_place : ListPlace) (request : Request) (heard : StoreReply)
+    → is_frameless (transition_of o part library client (Line number list_place request heard)).effect ≡ true
+line_frameless o part library client number list_place request heard =
+    written list_place request heard.refused (transition_line o part library client list_place request heard.read)
+    (response o part library client list_place request heard.read)

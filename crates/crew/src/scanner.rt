@@ -3,6 +3,7 @@ ghost use Rattle.std.specs.Prelude.{◌≡◌, IsSome, OnOk};
 
 use crate::start::Crew;
 use counted_player::{Ledgers, Seat};
+use crew_steps::pause;
 use held_player::{News, Reported};
 use house::House;
 use player_state::Report;
@@ -63,7 +64,7 @@ impl<'h, L: Ledgers, N: Scanner + Drop, R: Wait + Clock> Scanning<'h, L, N, R> {
         ensures told { IfSome result (TellsSomewhere self.old.seat ScanQuestion) }
     {
         let Ok(told) = self.house.notice(self.rt, &mut self.seat, News::AsksToScan) else {
-            self.pause();
+            pause(self.rt, PAUSE);
             return None;
         };
         if self.obey(&told) { None } else { Some(told) }
@@ -96,7 +97,7 @@ impl<'h, L: Ledgers, N: Scanner + Drop, R: Wait + Clock> Scanning<'h, L, N, R> {
             if self.is_told(&found, second) {
                 return;
             }
-            self.pause();
+            pause(self.rt, PAUSE);
         }
     }
 
@@ -111,10 +112,6 @@ impl<'h, L: Ledgers, N: Scanner + Drop, R: Wait + Clock> Scanning<'h, L, N, R> {
         self.house
             .notice(self.rt, &mut self.seat, News::Scanned(songs, second))
             .is_ok()
-    }
-
-    fn pause(&self) {
-        thread::sleep(self.rt, Duration::from_millis(PAUSE));
     }
 }
 

@@ -37,26 +37,26 @@ module _ {M : Type 0} (bytes : M → Option (List ℕ)) (counts : M → CallCoun
   bad_head rate file later wave.NoMemory means breaks is = cc
 
 -- where a song's file is not had, it could not be opened
-pub unopened : (fault : SongFault) (partner : Bool) → frames_fault fault partner ≡ Failed partner → fault ≡ song.Unopened
-unopened song.Unopened partner is = refl
-unopened song.NoMemory partner is = cc
+pub unopened : (fault : SongFault) (of_partner : Bool) → frames_fault fault of_partner ≡ Failed of_partner → fault ≡ song.Unopened
+unopened song.Unopened of_partner is = refl
+unopened song.NoMemory of_partner is = cc
 
 -- an entry that failed before its file was asked for is not in the queue: what holds of what was found holds of none
-pub has_left : {S E : Type 0} (P : Option S → Type 0) (found : Result (Option S) E) (partner : Bool) (fault : NoFrames) → found_song found partner ≡ Err fault → IfOk found P → fault ≡ Failed partner → P None
-has_left P (Ok (Some song)) partner fault is holds failed = cc
-has_left P (Ok None) partner fault is holds failed = holds
-has_left P (Err fault') partner fault is holds failed = cc
+pub has_left : {S E : Type 0} (P : Option S → Type 0) (found : Result (Option S) E) (of_partner : Bool) (fault : NoFrames) → found_song found of_partner ≡ Err fault → IfOk found P → fault ≡ Failed of_partner → P None
+has_left P (Ok (Some song)) of_partner fault is holds failed = cc
+has_left P (Ok None) of_partner fault is holds failed = holds
+has_left P (Err fault') of_partner fault is holds failed = cc
 
 -- and another is
-pub is_there : {S E : Type 0} (P : Option S → Type 0) (found : Result (Option S) E) (partner : Bool) (song : S) → found_song found partner ≡ Ok song → IfOk found P → P (Some song)
-is_there P (Ok (Some song')) partner song is holds = let same : song' ≡ song = cc in subst (λ s. P (Some s)) same holds
-is_there P (Ok None) partner song is holds = cc
-is_there P (Err fault) partner song is holds = cc
+pub is_there : {S E : Type 0} (P : Option S → Type 0) (found : Result (Option S) E) (of_partner : Bool) (song : S) → found_song found of_partner ≡ Ok song → IfOk found P → P (Some song)
+is_there P (Ok (Some song')) of_partner song is holds = let same : song' ≡ song = cc in subst (λ s. P (Some s)) same holds
+is_there P (Ok None) of_partner song is holds = cc
+is_there P (Err fault) of_partner song is holds = cc
 
 -- what holds of a fault that blames one song
-pub by_fault : (P : NoFrames → Type 0) (partner : Bool) (fault : NoFrames) → P NoMemory → (fault ≡ Failed partner → P (Failed partner)) → IsFaultOf partner fault → P fault
-by_fault P partner fault none failed (inl is) = subst P (sym is) none
-by_fault P partner fault none failed (inr is) = subst P (sym is) (failed is)
+pub by_fault : (P : NoFrames → Type 0) (of_partner : Bool) (fault : NoFrames) → P NoMemory → (fault ≡ Failed of_partner → P (Failed of_partner)) → IsFaultOf of_partner fault → P fault
+by_fault P of_partner fault none failed (inl is) = subst P (sym is) none
+by_fault P of_partner fault none failed (inr is) = subst P (sym is) (failed is)
 
 -- a fault that is handed on is the one that was met
 pub same_fault : {X : Type 0} (r : Result X NoFrames) (fault other : NoFrames) → IsErrAnd r (λ e. e ≡ fault) → r ≡ Err other → fault ≡ other

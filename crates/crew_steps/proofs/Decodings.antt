@@ -35,8 +35,8 @@ feeds seat before after index job frames others old new told tells hands = (tell
 pub each_finished : (seat : SeatCount) (before after index : ℕ) (job : Job) (read : Result JobFrames NoFrames) (told : Option OutcomeData) (old new : List Feeder) → FinishesJob seat before after index job read told old new → Each SameFeeder old new
 each_finished seat before after index job (Ok read) None old new done = absurd done
 each_finished seat before after index job (Ok read) (Some told) old new done = each_decoded seat before after index job read.frames.items read.others.items told old new done
-each_finished seat before after index job (Err (Failed partner)) None old new done = absurd done
-each_finished seat before after index job (Err (Failed partner)) (Some told) old new done = subst (λ fs. Each SameFeeder old fs) (sym done.1) (each_unchanged old)
+each_finished seat before after index job (Err (Failed of_partner)) None old new done = absurd done
+each_finished seat before after index job (Err (Failed of_partner)) (Some told) old new done = subst (λ fs. Each SameFeeder old fs) (sym done.1) (each_unchanged old)
 each_finished seat before after index job (Err NoMemory) None old new done = subst (λ fs. Each SameFeeder old fs) (sym done.1) (each_unchanged old)
 each_finished seat before after index job (Err NoMemory) (Some told) old new done = absurd done
 
@@ -46,8 +46,8 @@ does : (cause : ℕ → Job → Bool → Type 0) (songs : OpenSongs) (seat : Sea
     → FinishesJob seat before after index job read told old new → DoesJob cause songs seat before after index job told old new
 does cause songs seat before after index job (Ok read) None old new opens reads fails ends done = absurd done
 does cause songs seat before after index job (Ok read) (Some told) old new opens reads fails ends done = inr (opens, (read.frames.items, read.others.items, reads, done))
-does cause songs seat before after index job (Err (Failed partner)) None old new opens reads fails ends done = absurd done
-does cause songs seat before after index job (Err (Failed partner)) (Some told) old new opens reads fails ends done = inl (done.0, (done.1, (partner, fails, ends, done.2)))
+does cause songs seat before after index job (Err (Failed of_partner)) None old new opens reads fails ends done = absurd done
+does cause songs seat before after index job (Err (Failed of_partner)) (Some told) old new opens reads fails ends done = inl (done.0, (done.1, (of_partner, fails, ends, done.2)))
 does cause songs seat before after index job (Err NoMemory) None old new opens reads fails ends done = done
 does cause songs seat before after index job (Err NoMemory) (Some told) old new opens reads fails ends done = absurd done
 
@@ -81,7 +81,7 @@ ends cause cause' rate rate' old now new told did last = (last.1.3.0, (did.0, di
 
 -- the causes are forgotten
 abbrev whatever : ℕ → Job → Bool → Type 0
-whatever index job partner = Unit {0}
+whatever index job of_partner = Unit {0}
 
 job_anyhow : (cause : ℕ → Job → Bool → Type 0) (songs : OpenSongs) (seat : SeatCount) (before after index : ℕ) (job : Job) (told : Option OutcomeData) (old new : List Feeder)
     → DoesJob cause songs seat before after index job told old new → DoesJob whatever songs seat before after index job told old new

@@ -27,7 +27,7 @@ IsShortFor songs job =
 -- why a job has no frames: for want of memory, or since one of its songs has failed, for one of these causes
 abbrev pub EndsFor : (ℕ → Job → Bool → Type 0) → ℕ → Job → NoFrames → Type 0
 EndsFor cause index job NoMemory = Unit {0}
-EndsFor cause index job (Failed partner) = cause index job partner
+EndsFor cause index job (Failed of_partner) = cause index job of_partner
 
 -- Files are had of a source, of which is known what it answers of a URI; of a file are known its bytes, if they are,
 -- and how its calls ended.
@@ -62,7 +62,7 @@ module _ {M : Type 0} (bytes : M → Option (List ℕ)) (counts : M → CallCoun
   -- why a job has no frames whose songs are open: for want of memory, or since one of them failed as it was read
   abbrev pub EndsReading : OpenSongs → Job → NoFrames → Type 0
   EndsReading songs job NoMemory = Unit {0}
-  EndsReading songs job (Failed partner) = FailsAsRead songs job partner
+  EndsReading songs job (Failed of_partner) = FailsAsRead songs job of_partner
 
 module _ {S M : Type 0} (answers : S → List ℕ → Result M SongFault → Type 0) (bytes : M → Option (List ℕ)) (counts : M → CallCounts) where
   -- the file of a URI is not had at a rate: a source answered that it cannot be opened, or the file is none that can
@@ -89,11 +89,11 @@ module _ {S M : Type 0} (answers : S → List ℕ → Result M SongFault → Typ
 
   -- the songs of a job were open, each of a file, and this one failed as the job's frames were read
   abbrev pub IsNotRead : ℕ → ℕ → Job → Bool → Type 0
-  IsNotRead rate index job partner =
+  IsNotRead rate index job of_partner =
       (songs : OpenSongs) × (songs.rate ≡ rate) × AreOpenFor songs index job × IsOfFile bytes counts songs.current
-      × IsOfFile bytes counts songs.partner × FailsAsRead bytes counts songs job partner
+      × IsOfFile bytes counts songs.partner × FailsAsRead bytes counts songs job of_partner
 
   -- Why a song of a partition's job has failed, its own or the one that it fades into: it could not be opened, or it
   -- failed as it was read.
   abbrev pub HasCause : ℕ → ℕ → Job → Bool → Type 0
-  HasCause rate index job partner = IsNotOpenedFor rate index job partner ⊎ IsNotRead rate index job partner
+  HasCause rate index job of_partner = IsNotOpenedFor rate index job of_partner ⊎ IsNotRead rate index job of_partner

@@ -108,4 +108,4 @@ module _ (cause : ℕ → Job → Bool → Type 0) where
 
 -- the same, for whatever causes songs failed
 abbrev pub RunsDecoder : ℕ → List Feeder → List FeederEnd → Type 0
-RunsDecoder = RunsFor (λ index job partner. Unit {0})
+RunsDecoder = RunsFor (λ index job of_partner. Unit {0})

@@ -113,7 +113,7 @@ HandsOutRead job read told old new = HandsOut job.fade read.frames.items read.ot
 
 -- the event that a song of a partition's job has failed: its own, or the one that it fades into
 abbrev pub failure_of : ℕ → ℕ → Bool → Event
-failure_of index number partner = event.Failed index number partner
+failure_of index number of_partner = event.Failed index number of_partner
 
 -- It was told this of so many frames of a partition's job that are decoded, and these were handed out as it was
 -- told of them.
@@ -126,7 +126,7 @@ Feeds seat share_before share_after index job frames others told old new =
 abbrev pub FailsJob : (ℕ → Job → Bool → Type 0) → OpenSongs → SeatCount → ℕ → Job → OutcomeData → List Feeder → List Feeder → Type 0
 FailsJob cause songs seat index job told old new =
     (new ≡ old)
-    × ((partner : Bool) × IsShut songs index job partner × cause index job partner × TellsSomewhere seat (failure_of index job.number partner) told)
+    × ((of_partner : Bool) × IsShut songs index job of_partner × cause index job of_partner × TellsSomewhere seat (failure_of index job.number of_partner) told)
 
 -- The songs of a partition's job are open: the frames that they have were read, told of, and handed out as it was
 -- told.
@@ -148,8 +148,8 @@ abbrev pub FinishesJob : SeatCount → ℕ → ℕ → ℕ → Job → Result Jo
 FinishesJob seat share_before share_after index job (Ok read) None old new = ⊥
 FinishesJob seat share_before share_after index job (Ok read) (Some told) old new =
     Feeds seat share_before share_after index job read.frames.items read.others.items told old new
-FinishesJob seat share_before share_after index job (Err (Failed partner)) None old new = ⊥
-FinishesJob seat share_before share_after index job (Err (Failed partner)) (Some told) old new =
-    (share_after ≡ share_before) × (new ≡ old) × TellsSomewhere seat (failure_of index job.number partner) told
+FinishesJob seat share_before share_after index job (Err (Failed of_partner)) None old new = ⊥
+FinishesJob seat share_before share_after index job (Err (Failed of_partner)) (Some told) old new =
+    (share_after ≡ share_before) × (new ≡ old) × TellsSomewhere seat (failure_of index job.number of_partner) told
 FinishesJob seat share_before share_after index job (Err NoMemory) None old new = (share_after ≡ share_before) × (new ≡ old)
 FinishesJob seat share_before share_after index job (Err NoMemory) (Some told) old new = ⊥

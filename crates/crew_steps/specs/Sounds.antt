@@ -72,11 +72,11 @@ is_partner index (Some part) partner = is_song index part.partner partner
 
 -- the song in one of the two places
 abbrev pub song_at : Bool → OpenSongs → Option Opened
-song_at partner songs = if partner then songs.partner else songs.current
+song_at of_partner songs = if of_partner then songs.partner else songs.current
 
 -- the song in the other place is as it was
 abbrev pub KeepsOther : Bool → OpenSongs → OpenSongs → Type 0
-KeepsOther partner old new = song_at (not partner) new ≡ song_at (not partner) old
+KeepsOther of_partner old new = song_at (not of_partner) new ≡ song_at (not of_partner) old
 
 -- the songs of a partition's job are open: its own, and the one that it fades into
 abbrev pub AreOpenFor : OpenSongs → ℕ → Job → Type 0

@@ -10,6 +10,7 @@ use crate::mixing::mix_block;
 use crate::rounds::{count_of, next_index};
 use crate::song_source::SongSource;
 use crate::songs::{JobFrames, NoFrames, Songs};
+use crate::waiting::pause;
 use counted_devices::Media;
 use counted_player::{Decoded, Ledgers, Seat};
 use held_player::{News, Reported};
@@ -286,7 +287,7 @@ impl<'h, L: Ledgers, S: SongSource<M> + Drop, M: Media + Drop, R: Wait + Clock> 
             Ok(told) => told,
             Err(fault) => {
                 self.given = 0;
-                self.pause();
+                pause(self.rt, PAUSE);
                 return Next::Refused(fault);
             }
         };
@@ -412,7 +413,9 @@ impl<'h, L: Ledgers, S: SongSource<M> + Drop, M: Media + Drop, R: Wait + Clock> 
     {
         match read {
             Ok(read) => Some(self.feed(feeders, index, job, read)),
-            Err(NoFrames::Failed(partner)) => Some(self.tell_failure(index, job.number, partner)),
+            Err(NoFrames::Failed(of_partner)) => Some(self.tell_failure(
+                index, job.number, of_partner,
+            )),
             Err(NoFrames::NoMemory) => None,
         }
     }
@@ -481,17 +484,17 @@ impl<'h, L: Ledgers, S: SongSource<M> + Drop, M: Media + Drop, R: Wait + Clock> 
 
     /// Opens the song of an entry of a partition's queue, as the current one or as its partner. One that left
     /// the queue has failed, as has one of a partition that is gone.
-    fn open(&mut self, index: u8, id: u32, partner: bool) -> Result<(), NoFrames>
-        ensures open { OnOk result (is_song index id (song_at partner (open_of self.new)) ≡ true) }
-        ensures other { KeepsOther partner (open_of self.old) (open_of self.new) }
-        ensures fault { IfErr result (IsFaultOf partner) }
-        ensures cause { IfFailed partner result (IsNotOpenedBy self.old index id) }
+    fn open(&mut self, index: u8, id: u32, of_partner: bool) -> Result<(), NoFrames>
+        ensures open { OnOk result (is_song index id (song_at of_partner (open_of self.new)) ≡ true) }
+        ensures other { KeepsOther of_partner (open_of self.old) (open_of self.new) }
+        ensures fault { IfErr result (IsFaultOf of_partner) }
+        ensures cause { IfFailed of_partner result (IsNotOpenedBy self.old index id) }
         ensures unchanged { OnErr result (open_of self.new ≡ open_of self.old) }
         ensures kept { KeepsSeat self.old self.new }
         ensures rate { self.new.songs.rate ≡ self.old.songs.rate }
     {
-        let song = song_found(self.house.song(self.rt, index, id), partner)?;
-        self.songs.open(self.alloc, index, id, &song, partner)
+        let song = song_found(self.house.song(self.rt, index, id), of_partner)?;
+        self.songs.open(self.alloc, index, id, &song, of_partner)
     }
 
     /// Tells that frames of a partition's job are decoded; where that is refused, again after a while.
@@ -506,25 +509,22 @@ impl<'h, L: Ledgers, S: SongSource<M> + Drop, M: Media + Drop, R: Wait + Clock> 
                 .have(rt, &mut self.seat, index, number, frames, &mut self.share)
             {
                 Ok(told) => return told,
-                Err(_) => self.pause(),
+                Err(_) => pause(self.rt, PAUSE),
             }
         }
         unreachable!()
     }
 
     /// Tells that a song of a partition's job cannot be read; where that is refused, again after a while.
-    fn tell_failure(&mut self, index: u8, number: u64, partner: bool) -> Reported
-        ensures told { TellsSomewhere self.old.seat (failure_of index number partner) result }
+    fn tell_failure(&mut self, index: u8, number: u64, of_partner: bool) -> Reported
+        ensures told { TellsSomewhere self.old.seat (failure_of index number of_partner) result }
         ensures kept { (self.new.songs ≡ self.old.songs) × (self.new.share ≡ self.old.share) }
     {
         let rt = self.rt;
         for _ in rt.forever() {
-            match self
-                .house
-                .notice(rt, &mut self.seat, News::Failed(index, number, partner))
-            {
+            match self.house.notice(rt, &mut self.seat, News::Failed(index, number, of_partner)) {
                 Ok(told) => return told,
-                Err(_) => self.pause(),
+                Err(_) => pause(self.rt, PAUSE),
             }
         }
         unreachable!()
@@ -566,10 +566,6 @@ impl<'h, L: Ledgers, S: SongSource<M> + Drop, M: Media + Drop, R: Wait + Clock> 
             let _ = self.house.rest(self.rt, seen, wait, idle);
         }
     }
-
-    fn pause(&self) {
-        thread::sleep(self.rt, Duration::from_millis(PAUSE));
-    }
 }
 
 /// How long it rests at most where nothing is played, and it does not poll the rings.
@@ -589,14 +585,14 @@ fn are_all(passed: usize, partitions: usize) -> bool
 /// The song of an entry of a queue as the house found it. One that left the queue has failed.
 fn song_found(
     found: Result<Option<SharedSong>, AllocError>,
-    partner: bool,
+    of_partner: bool,
 ) -> Result<SharedSong, NoFrames>
-    ensures song { result ≡ found_song found partner }
-    ensures fault { IfErr result (IsFaultOf partner) }
+    ensures song { result ≡ found_song found of_partner }
+    ensures fault { IfErr result (IsFaultOf of_partner) }
 {
     match found {
         Ok(Some(song)) => Ok(song),
-        Ok(None) => Err(NoFrames::Failed(partner)),
+        Ok(None) => Err(NoFrames::Failed(of_partner)),
         Err(_) => Err(NoFrames::NoMemory),
     }
 }

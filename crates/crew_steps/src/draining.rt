@@ -6,6 +6,7 @@ ghost use Rattle.output_ring.specs.declared.frames.CutFrame.{CutFrame};
 ghost use Rattle.crew_steps.specs.Turns.{GivesFates, PlaysHand, Pops};
 
 use crate::output::{Gate, OutputEnd};
+use crate::waiting::pause;
 use counted_devices::Sink;
 use counted_player::{Discarded, Ledgers, Seat, Written};
 use frame_ledger::OutputShares;
@@ -124,12 +125,12 @@ impl<'h, L: Ledgers, O: Sink + Drop, G: Gate, R: Wait + Clock> Draining<'h, L, O
         ensures output { self.new.output ≡ self.old.output }
     {
         if !self.gate.ask(self.output) {
-            self.pause();
+            pause(self.rt, PAUSE);
             return None;
         }
         let popped = fill(drainer, if self.since_rest > 1 { SPINS } else { 1 });
         let Some(told) = self.tell(drainer.fates()) else {
-            self.pause();
+            pause(self.rt, PAUSE);
             return None;
         };
         drainer.reported();
@@ -157,7 +158,7 @@ impl<'h, L: Ledgers, O: Sink + Drop, G: Gate, R: Wait + Clock> Draining<'h, L, O
             }
             Report::Ended => false,
             _ => {
-                self.pause();
+                pause(self.rt, PAUSE);
                 true
             }
         }
@@ -213,10 +214,6 @@ impl<'h, L: Ledgers, O: Sink + Drop, G: Gate, R: Wait + Clock> Draining<'h, L, O
         let look = if enabled { LOOK } else { OFF };
         let (look, idle) = (Duration::from_millis(look), Duration::from_millis(OFF));
         let _ = self.house.rest(self.rt, changes, look, idle);
-    }
-
-    fn pause(&self) {
-        thread::sleep(self.rt, Duration::from_millis(PAUSE));
     }
 
     /// What is left of it. The frames that it holds are kept.

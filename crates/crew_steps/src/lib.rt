@@ -15,6 +15,7 @@ mod part_songs;
 mod rounds;
 mod song_source;
 mod songs;
+mod waiting;
 
 pub use decoder::{Decoder, DecoderEnd};
 pub use draining::Draining;
@@ -23,3 +24,4 @@ pub use new_rings::output_setups;
 pub use output::{Gate, Open, OutputEnd};
 pub use output_setup::OutputSetup;
 pub use song_source::{SongFault, SongSource};
+pub use waiting::pause;

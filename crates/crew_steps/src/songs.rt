@@ -149,25 +149,25 @@ impl<S: SongSource<M> + Drop, M: Media + Drop> Songs<S, M> {
         index: u8,
         id: u32,
         song: &SharedSong,
-        partner: bool,
+        of_partner: bool,
     ) -> Result<(), NoFrames>
-        ensures open { OnOk result (is_song index id (song_at partner (songs_of self.new)) ≡ true) }
-        ensures other { KeepsOther partner (songs_of self.old) (songs_of self.new) }
-        ensures fault { IfErr result (IsFaultOf partner) }
-        ensures cause { IfFailed partner result (IsNotHadBy self.old song.now.uri) }
+        ensures open { OnOk result (is_song index id (song_at of_partner (songs_of self.new)) ≡ true) }
+        ensures other { KeepsOther of_partner (songs_of self.old) (songs_of self.new) }
+        ensures fault { IfErr result (IsFaultOf of_partner) }
+        ensures cause { IfFailed of_partner result (IsNotHadBy self.old song.now.uri) }
         ensures kept { OnErr result (songs_of self.new ≡ songs_of self.old) }
         ensures rate { self.new.rate ≡ self.old.rate }
     {
         match self.opened(alloc, index, id, song) {
             Ok(opened) => {
-                if partner {
+                if of_partner {
                     self.partner = Some(opened);
                 } else {
                     self.current = Some(opened);
                 }
                 Ok(())
             }
-            Err(fault) => Err(no_frames(fault, partner)),
+            Err(fault) => Err(no_frames(fault, of_partner)),
         }
     }
 
@@ -202,12 +202,12 @@ impl<S: SongSource<M> + Drop, M: Media + Drop> Songs<S, M> {
     }
 
     /// Closes the current song, or its partner.
-    fn close(&mut self, partner: bool)
-        ensures closed { song_at partner (songs_of self.new) ≡ None }
-        ensures other { KeepsOther partner (songs_of self.old) (songs_of self.new) }
+    fn close(&mut self, of_partner: bool)
+        ensures closed { song_at of_partner (songs_of self.new) ≡ None }
+        ensures other { KeepsOther of_partner (songs_of self.old) (songs_of self.new) }
         ensures rate { self.new.rate ≡ self.old.rate }
     {
-        if partner {
+        if of_partner {
             self.partner = None;
         } else {
             self.current = None;
@@ -229,8 +229,8 @@ impl<S: SongSource<M> + Drop, M: Media + Drop> Songs<S, M> {
         ensures rate { self.new.rate ≡ self.old.rate }
     {
         let read = self.read_frames(alloc, job);
-        if let Err(NoFrames::Failed(partner)) = &read {
-            self.close(*partner);
+        if let Err(NoFrames::Failed(of_partner)) = &read {
+            self.close(*of_partner);
         }
         read
     }
@@ -289,13 +289,13 @@ fn song_fault(fault: WaveFault) -> SongFault
 }
 
 /// Why a job has no frames whose song's file is not had.
-fn no_frames(fault: SongFault, partner: bool) -> NoFrames
-    ensures fault { result ≡ frames_fault fault partner }
-    ensures cause { IsFaultOf partner result }
+fn no_frames(fault: SongFault, of_partner: bool) -> NoFrames
+    ensures fault { result ≡ frames_fault fault of_partner }
+    ensures cause { IsFaultOf of_partner result }
 {
     match fault {
         SongFault::NoMemory => NoFrames::NoMemory,
-        SongFault::Unopened => NoFrames::Failed(partner),
+        SongFault::Unopened => NoFrames::Failed(of_partner),
     }
 }
 
@@ -314,20 +314,20 @@ fn frames_in<M: Media + Drop>(
     song: &mut Option<OpenSong<M>>,
     from: u64,
     count: usize,
-    partner: bool,
+    of_partner: bool,
 ) -> Result<Vec<Frame>, NoFrames>
     ensures value { count ≤ WIDTH → IfOk result (AreFramesIn song.old from count) }
     ensures count { IfOk result (λ frames. vec_len frames ≤ count) }
-    ensures fault { IfErr result (IsFaultOf partner) }
-    ensures cause { result ≡ Err (NoFrames.Failed partner) → HasFault song.old song.new }
+    ensures fault { IfErr result (IsFaultOf of_partner) }
+    ensures cause { result ≡ Err (NoFrames.Failed of_partner) → HasFault song.old song.new }
     ensures song { opened_in song.new ≡ opened_in song.old }
 {
     let Some(song) = song else {
-        return Err(NoFrames::Failed(partner));
+        return Err(NoFrames::Failed(of_partner));
     };
     match song.frames_at(alloc, from, count) {
         Ok(frames) => Ok(frames),
         Err(WaveFault::NoMemory) => Err(NoFrames::NoMemory),
-        Err(_) => Err(NoFrames::Failed(partner)),
+        Err(_) => Err(NoFrames::Failed(of_partner)),
     }
 }

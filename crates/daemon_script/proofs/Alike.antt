@@ -23,7 +23,7 @@ use Rattle.mpd_command.specs.Requests.{request_of}
 use Rattle.mpd_command.specs.declared.command_set.CommandSet.{CommandSet}
 use Rattle.mpd_command.specs.declared.request.Request.{Request}
 use Rattle.player_events.specs.declared.event.Event.{Event}
-use Rattle.transitions.specs.declared.asked.Stand.TheVariants.{InList}
+use Rattle.transitions.specs.declared.asked.ListPlace.TheVariants.{InList}
 use Rattle.player_events.specs.declared.event.Event.TheVariants.{Connect, Disconnect, Line, OutputTurn}
 use Rattle.partition.specs.declared.partition.PartitionFault.{PartitionFault}
 use Rattle.partition.specs.declared.state.Limits.{Limits}

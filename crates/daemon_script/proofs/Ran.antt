@@ -262,7 +262,7 @@ pub few_in_all : (unread left old new start : Option (List ℕ)) (script : Scrip
     → Ran unread left old new start script iterations r r' w w' → iterations ≡ 2 ^ 32 → r'.calls ≤ r.calls + 2 ^ 32
 few_in_all unread left old new start script iterations r r' w w' ran e = at_most r.calls r'.calls (2 ^ 32) (2 ^ 64 - 1) (all_calls r r' iterations ran.calls e) (omega arith)
 
--- one more turn
+-- one more iteration
 pub one_iteration : Cuts → (unread left left' old mid new start start' : Option (List ℕ)) (script script' : ScriptData (Shelved Image)) (piece before after : List ℕ) (iterations : ℕ) (r r' r'' w w' w'' : CallCounts)
     → Ran unread left old mid start script iterations r r' w w' → Consumes left left' piece
     → before ≡ [] → ShowsPiece start piece script script' before after → Appends mid new after → start' ≡ (split_from start piece).next → IsSome start'

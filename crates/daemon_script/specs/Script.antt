@@ -31,7 +31,7 @@ use Rattle.mpd_command.specs.declared.request.Request.TheVariants.{Refused}
 use Rattle.mpd_text.specs.declared.answers.answer.ErrorNumber.TheVariants.{Argument}
 use Rattle.player_events.specs.Events.{ends_list}
 use Rattle.partition.specs.Lists.{fault_text, next_after}
-use Rattle.transitions.specs.declared.asked.Stand.TheVariants.{Alone, InList}
+use Rattle.transitions.specs.declared.asked.ListPlace.TheVariants.{Alone, InList}
 use Rattle.player_events.specs.declared.event.Event.{Event}
 use Rattle.player_events.specs.declared.event.Event.TheVariants.{Connect, Disconnect, Line, ScanResult, Want, Have, Failed, OutputTurn}
 use Rattle.transitions.specs.declared.reply.Next.{Next}
@@ -261,7 +261,7 @@ scan_result s = ScanResult (Some (in_byte_order s.songs)) 0
 abbrev pub job_event : ℕ → JobStep → Event
 job_event index WantStep = Want index all_off
 job_event index (HaveStep number frames) = Have index number frames
-job_event index (FailedStep number partner) = Failed index number partner
+job_event index (FailedStep number of_partner) = Failed index number of_partner
 
 module _ {P : Type 0} (kind : PlayerKind P) where
   -- why an event is refused, if it is, by what it found of memory

@@ -18,7 +18,7 @@ use mpd_text::{Answer, ErrorNumber};
 use partition::PartitionFault;
 use player_events::{Event, Outcome};
 use std::alloc::{AllocError, Global};
-use transitions::{Reply, Stand};
+use transitions::{ListPlace, Reply};
 
 /// What a client line found of memory, and whether its client was there when it was run.
 #[derive(Clone, Copy)]
@@ -198,7 +198,7 @@ fn run_request(
     ensures text { IfOk result (PrintsRun (asking player.old number request) shown.old shown.new) }
 {
     let name = request.name();
-    match player.apply(Event::line(number, Stand::Alone, request)) {
+    match player.apply(Event::line(number, ListPlace::Alone, request)) {
         Ok(outcome) => {
             push_outcome(alloc, shown, number, &outcome)?;
             Ok(None)

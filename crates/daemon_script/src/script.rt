@@ -129,7 +129,12 @@ impl Script {
             Ok(Some(Step::Job(step))) => self.happen(job_event(0, step), shown),
             Ok(Some(Step::JobIn(name, step))) => self.happen_in(name.as_str(), step, shown),
             Ok(Some(Step::Turn(written, discarded, failed))) => {
-                let event = Event::OutputTurn(0, u64::from(written), u64::from(discarded), failed);
+                let event = Event::OutputTurn {
+                    output: 0,
+                    written: u64::from(written),
+                    discarded: u64::from(discarded),
+                    failed,
+                };
                 self.happen(event, shown)
             }
             Ok(Some(Step::Window)) => self.show_window(shown),
@@ -350,7 +355,7 @@ fn job_event(index: u8, step: JobStep) -> Event
     match step {
         JobStep::Want => Event::Want(index, [false; 8]),
         JobStep::Have(number, frames) => Event::Have(index, u64::from(number), u64::from(frames)),
-        JobStep::Failed(number, partner) => Event::Failed(index, u64::from(number), partner),
+        JobStep::Failed(number, of_partner) => Event::Failed(index, u64::from(number), of_partner),
     }
 }
 

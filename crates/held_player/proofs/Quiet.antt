@@ -21,7 +21,7 @@ use Rattle.player_events.specs.declared.event.Event.TheVariants.{Line}
 use Rattle.transitions.specs.declared.reply.Move.{Move}
 use Rattle.transitions.specs.declared.reply.Move.TheVariants.{Stay, Wait, Learn, Resume, Join, Show, Enter}
 use Rattle.transitions.specs.declared.asked.Asked.{Asked}
-use Rattle.transitions.specs.declared.asked.Stand.TheVariants.{InList}
+use Rattle.transitions.specs.declared.asked.ListPlace.TheVariants.{InList}
 use Rattle.transitions.specs.declared.shelf_calls.StoreReply.{StoreReply}
 use Rattle.transitions.specs.declared.shelf_calls.Read.{Read}
 use Rattle.player_state.specs.declared.state.Client.{Client}

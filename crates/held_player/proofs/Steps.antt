@@ -33,16 +33,16 @@ news_steps (news.Goes client) = refl
 news_steps news.AsksToScan = refl
 news_steps (news.Scanned songs second) = refl
 news_steps (news.Wants index owes) = refl
-news_steps (news.Failed index number partner) = refl
+news_steps (news.Failed index number of_partner) = refl
 
 want_frameless : (ended : Bool) (part : Option Part) (owes : List Bool) → is_frameless (want ended part owes).effect ≡ true
 want_frameless ended None owes = refl
 want_frameless true (Some part) owes = refl
 want_frameless false (Some part) owes = refl
 
-failure_frameless : (part : Option Part) (number : ℕ) (partner : Bool) → is_frameless (failure part number partner).effect ≡ true
-failure_frameless None number partner = refl
-failure_frameless (Some part) number partner = refl
+failure_frameless : (part : Option Part) (number : ℕ) (of_partner : Bool) → is_frameless (failure part number of_partner).effect ≡ true
+failure_frameless None number of_partner = refl
+failure_frameless (Some part) number of_partner = refl
 
 news_frameless : (o : Overview) (part : Option Part) (library : Library) (client : Option Client) (piece : News) → is_frameless (transition_of o part library client (event_of piece)).effect ≡ true
 news_frameless o part library client (news.Comes number) = refl
@@ -50,7 +50,7 @@ news_frameless o part library client (news.Goes number) = refl
 news_frameless o part library client news.AsksToScan = refl
 news_frameless o part library client (news.Scanned songs second) = refl
 news_frameless o part library client (news.Wants index owes) = want_frameless o.ended part owes
-news_frameless o part library client (news.Failed index number partner) = failure_frameless part number partner
+news_frameless o part library client (news.Failed index number of_partner) = failure_frameless part number of_partner
 
 -- the same of the whole image
 quiet_frameless : (i : Image) (piece : News) → is_frameless (transition i (event_of piece)).effect ≡ true
@@ -150,14 +150,14 @@ module _ (before after : Chronicle) (seat : ℕ) (past : IsPast before) where
   quiet news.AsksToScan r joins leaves = step_stays before after seat ScanQuestion eight (quiet_frameless before.present news.AsksToScan) r joins leaves
   quiet (news.Scanned songs second) r joins leaves = step_stays before after seat (ScanResult songs second) eight (quiet_frameless before.present (news.Scanned songs second)) r joins leaves
   quiet (news.Wants index owes) r joins leaves = step_stays before after seat (Want index owes) eight (quiet_frameless before.present (news.Wants index owes)) r joins leaves
-  quiet (news.Failed index number partner) r joins leaves =
-      step_stays before after seat (Failed index number partner) eight (quiet_frameless before.present (news.Failed index number partner)) r joins leaves
+  quiet (news.Failed index number of_partner) r joins leaves =
+      step_stays before after seat (Failed index number of_partner) eight (quiet_frameless before.present (news.Failed index number of_partner)) r joins leaves
 
   pub follows : (event : Event) → is_line event ≡ false → (r : Result OutcomeData PartitionFault) → Joins before after seat event r → LeavesUnchanged before after seat event r
       → BooksFollow event before after
   follows (Connect client) step r joins leaves = quiet (news.Comes client) r joins leaves
   follows (Disconnect client) step r joins leaves = quiet (news.Goes client) r joins leaves
-  follows (Line client stand request heard) step r joins leaves = absurd (no_line step)
+  follows (Line client list_place request heard) step r joins leaves = absurd (no_line step)
   follows ScanQuestion step r joins leaves = quiet news.AsksToScan r joins leaves
   follows (ScanResult songs second) step r joins leaves = quiet (news.Scanned songs second) r joins leaves
   follows (Want index owes) step r joins leaves = quiet (news.Wants index owes) r joins leaves
@@ -167,7 +167,7 @@ module _ (before after : Chronicle) (seat : ℕ) (past : IsPast before) where
         step_part before after seat event eight (λ (b : FrameBooks). b.written) r (λ i is. (have_fates seat before.present i index number frames eight is).0) joins leaves,
         step_part before after seat event eight (λ (b : FrameBooks). b.discarded) r (λ i is. (have_fates seat before.present i index number frames eight is).1) joins leaves,
       )
-  follows (Failed index number partner) step r joins leaves = quiet (news.Failed index number partner) r joins leaves
+  follows (Failed index number of_partner) step r joins leaves = quiet (news.Failed index number of_partner) r joins leaves
   follows (OutputTurn output written discarded failed) step r joins leaves =
       let event : Event = OutputTurn output written discarded failed in (
         (written_rise before after seat event eight r joins leaves, discarded_rise before after seat event eight r joins leaves),
@@ -182,4 +182,4 @@ news_stay before after (news.Goes client) follow = follow
 news_stay before after news.AsksToScan follow = follow
 news_stay before after (news.Scanned songs second) follow = follow
 news_stay before after (news.Wants index owes) follow = follow
-news_stay before after (news.Failed index number partner) follow = follow
+news_stay before after (news.Failed index number of_partner) follow = follow

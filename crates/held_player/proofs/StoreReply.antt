@@ -6,7 +6,7 @@ use Rattle.shelf.specs.Maps.{Standing}
 use Rattle.mpd_command.specs.declared.request.Request.{Request}
 use Rattle.player_events.specs.declared.event.Event.{Event}
 use Rattle.player_events.specs.declared.event.Event.TheVariants.{Line}
-use Rattle.transitions.specs.declared.asked.Stand.TheVariants.{Alone}
+use Rattle.transitions.specs.declared.asked.ListPlace.TheVariants.{Alone}
 use Rattle.partition.specs.declared.partition.PartitionFault.{PartitionFault}
 use Rattle.transitions.specs.declared.shelf_calls.StoreReply.{StoreReply}
 use Rattle.player_events.specs.Outcomes.{OutcomeData}

@@ -15,7 +15,7 @@ event_of (news.Goes client) = Disconnect client
 event_of news.AsksToScan = ScanQuestion
 event_of (news.Scanned songs second) = ScanResult songs second
 event_of (news.Wants index owes) = Want index owes
-event_of (news.Failed index number partner) = Failed index number partner
+event_of (news.Failed index number of_partner) = Failed index number of_partner
 
 -- the client that goes at an event, if one goes
 abbrev pub gone_at : Event → Option ℕ

@@ -23,7 +23,7 @@ use Rattle.counted_player.specs.Counts.{AnswersSomewhere, MayFind}
 use Rattle.frame_ledger.specs.declared.books.OutputShares.{OutputShares}
 use Rattle.mpd_command.specs.declared.request.Request.{Request}
 use Rattle.output_ring.specs.declared.frames.Fates.{Fates}
-use Rattle.transitions.specs.declared.asked.Stand.TheVariants.{Alone}
+use Rattle.transitions.specs.declared.asked.ListPlace.TheVariants.{Alone}
 use Rattle.held_player.specs.declared.player.Core.{Core}
 use Rattle.held_player.specs.Waiting.{waiting_after}
 

@@ -35,7 +35,7 @@ impl News {
             News::AsksToScan => Event::ScanQuestion,
             News::Scanned(songs, second) => Event::ScanResult(songs, second),
             News::Wants(index, owes) => Event::Want(index, owes),
-            News::Failed(index, number, partner) => Event::Failed(index, number, partner),
+            News::Failed(index, number, of_partner) => Event::Failed(index, number, of_partner),
         }
     }
 }

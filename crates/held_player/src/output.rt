@@ -102,7 +102,12 @@ impl<L: Ledgers> Held<L> {
         ensures unchanged { OnErr result (IsUnchangedOrFolded self.old.player self.new.player) }
     {
         show_open(&mut self.closed, &mut shares.written);
-        let event = Event::OutputTurn(output, told_fates.written, told_fates.discarded, failed);
+        let event = Event::OutputTurn {
+            output,
+            written: told_fates.written,
+            discarded: told_fates.discarded,
+            failed,
+        };
         let told = self.core.take_step(seat, event)?;
         let written = self.core.counted.written();
         let discarded = self.core.counted.discarded();

@@ -20,7 +20,7 @@ use mpd_command::Request;
 use partition::PartitionFault;
 use player_events::Event;
 use shelf::Shelf;
-use transitions::{Read, Stand, StoreReply};
+use transitions::{ListPlace, Read, StoreReply};
 
 /// The player, and the notices that wait to be handed out.
 pub(crate) struct Core<L: Ledgers> {
@@ -90,7 +90,12 @@ impl<L: Ledgers> Core<L> {
             read: Read::Nothing,
             refused: None,
         };
-        let event = Event::Line(client, Stand::Alone, request, heard);
+        let event = Event::Line {
+            client,
+            list_place: ListPlace::Alone,
+            request,
+            heard,
+        };
         self.begin(seat)?;
         let outcome = self.counted.apply(seat, shelf, event)?;
         let front = take_first(&mut self.waiting, client);

@@ -92,7 +92,7 @@ pub(crate) fn race<L: Ledgers + Send + Sync, R: Threads + Wait + Clock + Sync>(
     recorder.add(format_args!("a fourth seat: {fourth}, a fifth: {fifth}\n"));
 }
 
-/// What is told of them.
+/// What is observed of them.
 pub(crate) const TELLS: &str = "events made: 101 and 101
 OK MPD 0.23.0
 heard

@@ -34,7 +34,7 @@ asks
 wants
 made";
 
-/// What is told of them. Events: 5 until the first client goes, 4 about the scan, of the crowd 124, 3, 1 and 1, and
+/// What is observed of them. Events: 5 until the first client goes, 4 about the scan, of the crowd 124, 3, 1 and 1, and
 /// 6 at the end.
 pub(crate) const TELLS: &str = "OK MPD 0.23.0
 heard

@@ -229,7 +229,7 @@ fn plays<L: Ledgers, R: Wait + Clock>(
     written(rt, alloc, house, &mut seat, &mut shares.outputs, recorder)
 }
 
-/// Adds what is told of frames, and what the outputs are settled with.
+/// Adds what is observed of frames, and what the outputs are settled with.
 pub(crate) fn frames<L: Ledgers, R: Wait + Clock>(
     rt: &R,
     alloc: Global,
@@ -246,7 +246,7 @@ pub(crate) fn frames<L: Ledgers, R: Wait + Clock>(
     }
 }
 
-/// What is told of them. No step between the two turns of the first output changes how it plays, so both are told
+/// What is observed of them. No step between the two turns of the first output changes how it plays, so both are told
 /// the same.
 pub(crate) const TELLS: &str = "OK MPD 0.23.0
 heard

@@ -176,5 +176,5 @@ pub(crate) fn race<L: Ledgers + Send + Sync, R: Threads + Wait + Sync>(
     ));
 }
 
-/// What is told of them.
+/// What is observed of them.
 pub(crate) const TELLS: &str = "by the outbox 50, in front 50, again 0\n";

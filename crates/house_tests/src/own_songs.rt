@@ -173,5 +173,5 @@ pub(crate) fn race<L: Ledgers + Send + Sync, R: Threads + Wait + Sync>(
     recorder.add(format_args!("found {ones} and {twos}, given once {once}\n"));
 }
 
-/// What is told of them.
+/// What is observed of them.
 pub(crate) const TELLS: &str = "found 100 and 100, given once 200\n";

@@ -152,7 +152,7 @@ pub(crate) fn rests<L: Ledgers + Send + Sync, R: Threads + Wait + Clock + Sync>(
     }
 }
 
-/// What is told of changes: what is played, the outputs and the end ends a rest, and no other change.
+/// What is observed of changes: what is played, the outputs and the end ends a rest, and no other change.
 pub(crate) const SEEN_TELLS: &str = "OK MPD 0.23.0
 heard
 OK MPD 0.23.0
@@ -178,7 +178,7 @@ stop: true
 play: true
 ";
 
-/// What is told of who waits.
+/// What is observed of who waits.
 pub(crate) const WAITS_TELL: &str = "OK MPD 0.23.0
 heard
 OK MPD 0.23.0

@@ -62,7 +62,7 @@ pub(crate) fn alone<L: Ledgers, R: Wait + Clock>(
     }
 }
 
-/// Adds what is told of a day without frames.
+/// Adds what is observed of a day without frames.
 fn without_frames<L: Ledgers + Send + Sync, R: Threads + Wait + Clock + Sync>(
     rt: &R,
     alloc: Global,
@@ -79,7 +79,7 @@ fn without_frames<L: Ledgers + Send + Sync, R: Threads + Wait + Clock + Sync>(
     }
 }
 
-/// Adds what is told of a day, of which that with frames takes the shares.
+/// Adds what is observed of a day, of which that with frames takes the shares.
 fn day_of<L: Ledgers + Send + Sync, R: Threads + Wait + Clock + Sync>(
     rt: &R,
     alloc: Global,
@@ -96,7 +96,7 @@ fn day_of<L: Ledgers + Send + Sync, R: Threads + Wait + Clock + Sync>(
     }
 }
 
-/// Opens a house, and adds what is told of a day in it.
+/// Opens a house, and adds what is observed of a day in it.
 fn evening<L: Ledgers + Send + Sync, R: Threads + Wait + Clock + Sync>(
     rt: &R,
     alloc: Global,
@@ -114,7 +114,7 @@ fn evening<L: Ledgers + Send + Sync, R: Threads + Wait + Clock + Sync>(
     day_of(rt, alloc, &house, shares, which, recorder);
 }
 
-/// What is told of a day in a house over two songs, whose window has at most so many events.
+/// What is observed of a day in a house over two songs, whose window has at most so many events.
 pub(crate) fn observed<R: Threads + Wait + Clock + Sync>(
     rt: &R,
     alloc: Global,
@@ -126,7 +126,7 @@ pub(crate) fn observed<R: Threads + Wait + Clock + Sync>(
     observed.into_text()
 }
 
-/// The days, the most events of their windows, and what is told of each. A test costs a proof of all that it is
+/// The days, the most events of their windows, and what is observed of each. A test costs a proof of all that it is
 /// linked with, so one runs all.
 const DAYS: &[(Day, u32, &str)] = &[
     (Day::Clients, 4096, days::TELLS),

@@ -35,7 +35,7 @@ use Rattle.mpd_command.specs.declared.playlists.PlaylistCommand.TheVariants as p
 
 -- the shelf refused the question
 abbrev pub refused : Asked → ShelfFault → CommandResult
-refused asked fault = only (refused_by_shelf asked.stand (Some asked.name) fault)
+refused asked fault = only (refused_by_shelf asked.list_place (Some asked.name) fault)
 
 -- the shelf answered another question, which no shelf does that is as it should be
 abbrev pub misread : Asked → CommandResult

@@ -58,7 +58,7 @@ pub(crate) fn refused(
     ensures { IsDecidedBy result (refused_lem asked fault) }
 {
     let name = Some(asked.name);
-    Ok(Transition::only(shelf_refuses(alloc, asked.stand, name, fault)?))
+    Ok(Transition::only(shelf_refuses(alloc, asked.list_place, name, fault)?))
 }
 
 /// The shelf answered another question, which no shelf does that is as it should be.

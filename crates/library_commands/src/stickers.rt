@@ -168,7 +168,13 @@ pub(crate) fn set_value(
     Transition::writes(
         alloc,
         asked,
-        ShelfWrite::SetSticker(kind, target, name, value, changes),
+        ShelfWrite::SetSticker {
+            kind,
+            target,
+            name,
+            value,
+            changes,
+        },
     )
 }
 

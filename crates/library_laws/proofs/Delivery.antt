@@ -45,7 +45,7 @@ names asked part channel text true false room client = refl
 names asked part channel text false heard room client = refl
 
 sent-to : (asked : Asked) (part : Part) (channel text : List ℕ) (client : ℕ) → is_channel_name channel ≡ true → is_receiver client channel part ≡ true
-    → (sending asked channel text (is_channel_name channel) (hears channel part.channels) (has_room channel part.channels)).answer ≡ succeeds asked.stand (codes "")
+    → (sending asked channel text (is_channel_name channel) (hears channel part.channels) (has_room channel part.channels)).answer ≡ succeeds asked.list_place (codes "")
 sent-to asked part channel text client named received =
     λ i. (sending asked channel text (named i) (receiver-hears client channel part.channels received i) (receiver-room client channel part.channels received i)).answer
 

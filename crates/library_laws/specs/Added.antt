@@ -45,7 +45,7 @@ entries_after part result = entries_in (part_after 0 part (ByCommand result.effe
 -- the command is answered `OK`, and the songs are in the queue from this position on, in their order, between the
 -- entries that were there; no scan begins, and nothing is written to the shelf
 pub record IsAdded (asked : Asked) (part : Part) (position : ℕ) (songs : List SongData) (result : CommandResult) : Type 0 where
-  pub answer : result.answer ≡ succeeds asked.stand (codes "")
+  pub answer : result.answer ≡ succeeds asked.list_place (codes "")
   pub new : List Entry
   pub songs_are : map (λ (entry : Entry). entry.song) new ≡ songs
   pub queue : entries_after part result ≡ take position (entries_in part) ++ new ++ drop position (entries_in part)

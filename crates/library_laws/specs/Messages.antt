@@ -36,7 +36,7 @@ with_message received channel text messages =
 pub record IsSent (asked : Asked) (part : Part) (channel text : List ℕ) (result : CommandResult) : Type 0 where
   -- where somebody receives it, it is sent
   pub sent : (client : ℕ) → is_channel_name channel ≡ true → is_receiver client channel part ≡ true
-      → result.answer ≡ succeeds asked.stand (codes "")
+      → result.answer ≡ succeeds asked.list_place (codes "")
   -- each client that receives it has it once more, as the last, and what waits for each other is as it was
   pub waits : result.answer.refused ≡ false → (client : ℕ)
       → waiting client (after part result)
@@ -55,7 +55,7 @@ message_lines messages =
 -- what `readmessages` answers, and what it makes of the partition
 pub record IsRead (asked : Asked) (part : Part) (result : CommandResult) : Type 0 where
   -- all that waits is told
-  pub told : result.answer ≡ succeeds asked.stand (message_lines (waiting asked.client part))
+  pub told : result.answer ≡ succeeds asked.list_place (message_lines (waiting asked.client part))
   -- and waits no more
   pub gone : waiting asked.client (after part result) ≡ []
   -- what waits for each other client is as it was

@@ -79,7 +79,7 @@ messages_are_told p asked stays own none h =
     let after : messages_of p.client.number p.later.channels ≡ [] = none-wait _ (none_begins p stays h.0 before) in
     let same : messages_of asked.client p.own.channels ≡ messages_of asked.client p.later.channels =
     ap (λ n. messages_of n p.own.channels) own ∙ none ∙ sym after ∙ ap (λ n. messages_of n p.later.channels) (sym own) in
-    ap (λ (l : List Message). record (only (succeeds asked.stand (lines_of_messages l))) { effect = ReadsMessages asked.client }) same
+    ap (λ (l : List Message). record (only (succeeds asked.list_place (lines_of_messages l))) { effect = ReadsMessages asked.client }) same
 
 names-known : (ps : List Part) → map (λ (f : Known). f.name) (map known ps) ≡ names_of (map watched_of ps)
 names-known [] = refl

@@ -20,11 +20,11 @@ use Rattle.player_state.specs.declared.effect.AudioStep.TheVariants.{Settles}
 use Rattle.player_state.specs.Outputs.{is_output}
 use Rattle.transitions.specs.declared.reply.Move.{Move}
 use Rattle.transitions.specs.declared.reply.Move.TheVariants.{Stay, Wait, Learn, Resume, Join, Show, Enter}
-use Rattle.transitions.specs.declared.asked.Stand.{Stand}
-use Rattle.transitions.specs.declared.asked.Stand.TheVariants.{Alone, InList}
+use Rattle.transitions.specs.declared.asked.ListPlace.{ListPlace}
+use Rattle.transitions.specs.declared.asked.ListPlace.TheVariants.{Alone, InList}
 use Rattle.player_state.specs.declared.state.Client.{Client}
 use Rattle.player_state.specs.declared.state.Part.{Part}
-use Rattle.transitions.specs.Answers.{Answer, ResponseData, refused_by_shelf, refuses, shut, stays, succeeds, tells, closes}
+use Rattle.transitions.specs.Answers.{Answer, ResponseData, refused_by_shelf, refuses, disconnects, stays, succeeds, tells, closes}
 use Rattle.transitions.specs.Shelves.{is_written}
 use Rattle.transitions.specs.declared.shelf_calls.StoreReply.{StoreReply}
 use Rattle.shelf.specs.declared.faults.ShelfFault.{ShelfFault}
@@ -109,14 +109,14 @@ quiet_response false x y p q = q
 quiet_resumes : (client : Client) → Quiet (move_of (resumes client))
 quiet_resumes client = quiet_response (is_some client.pending.waiting) (record { answer = tells (codes "OK\n"); move = Resume }) (stays (tells (codes ""))) tt tt
 
-quiet_refusal : (stand : Stand) (name : Option Name) (fault : ShelfFault) → Quiet (move_of (stays (refused_by_shelf stand name fault)))
-quiet_refusal stand name fault = quiet_stays (refused_by_shelf stand name fault)
+quiet_refusal : (list_place : ListPlace) (name : Option Name) (fault : ShelfFault) → Quiet (move_of (stays (refused_by_shelf list_place name fault)))
+quiet_refusal list_place name fault = quiet_stays (refused_by_shelf list_place name fault)
 
 -- a transition that writes to the shelf is as quiet as it would be else
-quiet_written : (stand : Stand) (request : Request) (refused : Option ShelfFault) (t : TransitionData) → Quiet (move_of t.response) → Quiet (move_of (written_transition stand request refused t).response)
-quiet_written stand request refused t q =
-    elim (is_written t.written) as (λ b. Quiet (move_of (if b then once_written stand request refused t else t).response)) [
-      | true ↦ elim refused as (λ r. Quiet (move_of (once_written stand request r t).response)) [ None ↦ q | Some fault ↦ quiet_refusal stand (name_of request) fault ]
+quiet_written : (list_place : ListPlace) (request : Request) (refused : Option ShelfFault) (t : TransitionData) → Quiet (move_of t.response) → Quiet (move_of (written_transition list_place request refused t).response)
+quiet_written list_place request refused t q =
+    elim (is_written t.written) as (λ b. Quiet (move_of (if b then once_written list_place request refused t else t).response)) [
+      | true ↦ elim refused as (λ r. Quiet (move_of (once_written list_place request r t).response)) [ None ↦ q | Some fault ↦ quiet_refusal list_place (name_of request) fault ]
       | false ↦ q
     ]
 
@@ -214,11 +214,11 @@ module _ (o : Overview) (part : Option Part) (library : Library) (heard : StoreR
   quiet_line ends done q = quiet_if (is_some k.pending.waiting && not ends) (departs k.number) done tt q
 
   module _ (name : Name) (command : Command) where
-    abbrev run : Stand → Option Wish → TransitionData
-    run stand wish = transition_wished (asked_by k name stand) k (transition_there o (asked_by k name stand) part library heard.read command) wish
+    abbrev run : ListPlace → Option Wish → TransitionData
+    run list_place wish = transition_wished (asked_by k name list_place) k (transition_there o (asked_by k name list_place) part library heard.read command) wish
 
-    abbrev Kind : Stand → Option Wish → Type 0
-    Kind stand wish = Quiet (move_of (line (ends_by stand wish) (run stand wish)).response) ⊎ IsAsking clients (Line number stand (Run name command) heard)
+    abbrev Kind : ListPlace → Option Wish → Type 0
+    Kind list_place wish = Quiet (move_of (line (ends_by list_place wish) (run list_place wish)).response) ⊎ IsAsking clients (Line number list_place (Run name command) heard)
 
     asking : (named : Subsystems) → wish_of command ≡ Some (ToWait named) → Kind Alone (Some (ToWait named))
     asking named e =
@@ -229,11 +229,11 @@ module _ (o : Overview) (part : Option Part) (library : Library) (heard : StoreR
         ] in
         cases k.pending.waiting refl
 
-    shows_quietly : (stand : Stand) (choice : List TagName → List TagName) → Quiet (move_of (run stand (Some (ToShow choice))).response)
-    shows_quietly stand choice = quiet_shown (succeeds stand (codes "")) (choice k.tags)
+    shows_quietly : (list_place : ListPlace) (choice : List TagName → List TagName) → Quiet (move_of (run list_place (Some (ToShow choice))).response)
+    shows_quietly list_place choice = quiet_shown (succeeds list_place (codes "")) (choice k.tags)
 
-    kind_of_wish : (stand : Stand) (wish : Option Wish) → wish_of command ≡ wish → Kind stand wish
-    kind_of_wish stand None e = inl (quiet_line (ends_by stand None) (run stand None) (quiet_there o (asked_by k name stand) part library heard.read command))
+    kind_of_wish : (list_place : ListPlace) (wish : Option Wish) → wish_of command ≡ wish → Kind list_place wish
+    kind_of_wish list_place None e = inl (quiet_line (ends_by list_place None) (run list_place None) (quiet_there o (asked_by k name list_place) part library heard.read command))
     kind_of_wish Alone (Some (ToWait named)) e = asking named e
     kind_of_wish Alone (Some ToGoOn) e = inl (quiet_line true (run Alone (Some ToGoOn)) (quiet_resumes k))
     kind_of_wish Alone (Some (ToShow choice)) e = inl (quiet_line false (run Alone (Some (ToShow choice))) (shows_quietly Alone choice))
@@ -242,7 +242,7 @@ module _ (o : Overview) (part : Option Part) (library : Library) (heard : StoreR
     kind_of_wish (InList form number_in_list) (Some (ToShow choice)) e =
         inl (quiet_line false (run (InList form number_in_list) (Some (ToShow choice))) (shows_quietly (InList form number_in_list) choice))
 
-  kind_of_line : (stand : Stand) (request : Request) → Quiet (move_of (transition_line o part library (Some k) stand request heard.read).response) ⊎ IsAsking clients (Line number stand request heard)
+  kind_of_line : (list_place : ListPlace) (request : Request) → Quiet (move_of (transition_line o part library (Some k) list_place request heard.read).response) ⊎ IsAsking clients (Line number list_place request heard)
   kind_of_line Alone (Run name command) = kind_of_wish name command Alone (wish_of command) refl
   kind_of_line (InList form number_in_list) (Run name command) = kind_of_wish name command (InList form number_in_list) (wish_of command) refl
   kind_of_line Alone (Refused ack) = inl (quiet_line false (quiet (stays (refuses Alone ack.command ack.number ack.text))) tt)
@@ -260,12 +260,12 @@ quiet_have : (ended : Bool) (part : Option Part) (number frames : ℕ) → Quiet
 quiet_have ended None number frames = tt
 quiet_have ended (Some part) number frames = tt
 
-quiet_failure : (part : Option Part) (number : ℕ) (partner : Bool) → Quiet (move_of (failure part number partner).response)
-quiet_failure None number partner = tt
-quiet_failure (Some part) number partner = tt
+quiet_failure : (part : Option Part) (number : ℕ) (of_partner : Bool) → Quiet (move_of (failure part number of_partner).response)
+quiet_failure None number of_partner = tt
+quiet_failure (Some part) number of_partner = tt
 
 quiet_new : (clients : List Seated) (client : Option Client) → Quiet (move_of (response_to_new clients client))
-quiet_new clients None = quiet_response (nat_le 64 (length clients)) (stays shut) greeting tt tt
+quiet_new clients None = quiet_response (nat_le 64 (length clients)) (stays disconnects) greeting tt tt
 quiet_new clients (Some client) = tt
 
 -- each event makes a quiet move, or is `idle`
@@ -277,15 +277,15 @@ kind_of o part library clients ScanQuestion = inl tt
 kind_of o part library clients (ScanResult songs second) = inl tt
 kind_of o part library clients (Want index owes) = inl (quiet_want o.ended part owes)
 kind_of o part library clients (Have index number frames) = inl (quiet_have o.ended part number frames)
-kind_of o part library clients (Failed index number partner) = inl (quiet_failure part number partner)
+kind_of o part library clients (Failed index number of_partner) = inl (quiet_failure part number of_partner)
 kind_of o part library clients End = inl tt
 kind_of o part library clients (OutputTurn output written discarded failed) = inl (quiet_turn part output written discarded failed)
-kind_of o part library clients (Line number stand request heard) =
-    let Kind : Option Client → Type 0 = λ c. Quiet (move_of (transition_line o part library c stand request heard.read).response) ⊎ IsAsking clients (Line number stand request heard) in
+kind_of o part library clients (Line number list_place request heard) =
+    let Kind : Option Client → Type 0 = λ c. Quiet (move_of (transition_line o part library c list_place request heard.read).response) ⊎ IsAsking clients (Line number list_place request heard) in
     let cases : (c : Option Client) → client_of number clients ≡ c → Kind c =
-    λ c. elim c as (λ c. client_of number clients ≡ c → Kind c) [ None ↦ λ e. inl tt | Some k ↦ λ e. kind_of_line o part library heard clients number k e stand request ] in
+    λ c. elim c as (λ c. client_of number clients ≡ c → Kind c) [ None ↦ λ e. inl tt | Some k ↦ λ e. kind_of_line o part library heard clients number k e list_place request ] in
     elim (cases (client_of number clients) refl) [
-      | inl q ↦ inl (quiet_written stand request heard.refused (transition_line o part library (client_of number clients) stand request heard.read) q)
+      | inl q ↦ inl (quiet_written list_place request heard.refused (transition_line o part library (client_of number clients) list_place request heard.read) q)
       | inr a ↦ inr a
     ]
 

@@ -25,7 +25,7 @@ use Rattle.transitions.specs.CommandResults.{bad_name}
 use Rattle.transitions.specs.Shelves.{is_written}
 use Rattle.transitions.specs.Transitions.{TransitionData, acts, crosses, departs, enters, transition_by}
 use Rattle.transitions.specs.declared.asked.Asked.{Asked}
-use Rattle.transitions.specs.declared.asked.Stand.{Stand}
+use Rattle.transitions.specs.declared.asked.ListPlace.{ListPlace}
 use Rattle.transitions.specs.declared.shelf_calls.Read.{Read}
 use Rattle.partition.specs.Image.{Overview}
 use Rattle.partition.specs.Step.{absent, asked_by, ends_waiting, failure, have, once_written, output_turn, transition_line, transition_of, transition_request, transition_run, transition_there, transition_wished, want, written_transition}
@@ -107,22 +107,22 @@ module _ (o : Overview) (library : Library) where
   fair_wished asked client t (Some wish) f = tt
   fair_wished asked client t None f = f
 
-  fair_request : (part : Option Part) (client : Client) (stand : Stand) (request : Request) (read : Read) → Fairly (transition_request o part library client stand request read)
-  fair_request part client stand (Run name command) read =
-      fair_wished (asked_by client name stand) client (transition_there o (asked_by client name stand) part library read command) (wish_of command)
-      (fair_there (asked_by client name stand) part read command)
-  fair_request part client stand (Refused ack) read = tt
+  fair_request : (part : Option Part) (client : Client) (list_place : ListPlace) (request : Request) (read : Read) → Fairly (transition_request o part library client list_place request read)
+  fair_request part client list_place (Run name command) read =
+      fair_wished (asked_by client name list_place) client (transition_there o (asked_by client name list_place) part library read command) (wish_of command)
+      (fair_there (asked_by client name list_place) part read command)
+  fair_request part client list_place (Refused ack) read = tt
 
-  fair_line : (part : Option Part) (client : Option Client) (stand : Stand) (request : Request) (read : Read) → Fairly (transition_line o part library client stand request read)
-  fair_line part None stand request read = tt
-  fair_line part (Some client) stand request read =
-      fair_if o.openings (is_some client.pending.waiting && not (ends_waiting stand request)) (departs client.number) (transition_request o part library client stand request read) tt
-      (fair_request part client stand request read)
+  fair_line : (part : Option Part) (client : Option Client) (list_place : ListPlace) (request : Request) (read : Read) → Fairly (transition_line o part library client list_place request read)
+  fair_line part None list_place request read = tt
+  fair_line part (Some client) list_place request read =
+      fair_if o.openings (is_some client.pending.waiting && not (ends_waiting list_place request)) (departs client.number) (transition_request o part library client list_place request read) tt
+      (fair_request part client list_place request read)
 
-  fair_written : (stand : Stand) (request : Request) (refused : Option ShelfFault) (t : TransitionData) → Fairly t → Fairly (written_transition stand request refused t)
-  fair_written stand request refused t f =
-      fair_if o.openings (is_written t.written) (once_written stand request refused t) t
-      (elim refused as (λ r. Fairly (once_written stand request r t)) [ None ↦ tt | Some fault ↦ tt ]) f
+  fair_written : (list_place : ListPlace) (request : Request) (refused : Option ShelfFault) (t : TransitionData) → Fairly t → Fairly (written_transition list_place request refused t)
+  fair_written list_place request refused t f =
+      fair_if o.openings (is_written t.written) (once_written list_place request refused t) t
+      (elim refused as (λ r. Fairly (once_written list_place request r t)) [ None ↦ tt | Some fault ↦ tt ]) f
 
   fair_turn : (part : Option Part) (output written discarded : ℕ) (failed : Bool) → Fairly (output_turn part output (Settles output written discarded failed))
   fair_turn None output written discarded failed = tt
@@ -137,22 +137,22 @@ module _ (o : Overview) (library : Library) where
   fair_have None number frames = tt
   fair_have (Some part) number frames = tt
 
-  fair_failure : (part : Option Part) (number : ℕ) (partner : Bool) → Fairly (failure part number partner)
-  fair_failure None number partner = tt
-  fair_failure (Some part) number partner = tt
+  fair_failure : (part : Option Part) (number : ℕ) (of_partner : Bool) → Fairly (failure part number of_partner)
+  fair_failure None number of_partner = tt
+  fair_failure (Some part) number of_partner = tt
 
 -- of every event
 pub opened_by : (o : Overview) (part : Option Part) (library : Library) (client : Option Client) (event : Event)
     → IsOpenedBy o.openings (transition_of o part library client event).crossing
 opened_by o part library client (Connect number) = tt
 opened_by o part library client (Disconnect number) = tt
-opened_by o part library client (Line number stand request heard) =
-    fair_written o library stand request heard.refused (transition_line o part library client stand request heard.read)
-    (fair_line o library part client stand request heard.read)
+opened_by o part library client (Line number list_place request heard) =
+    fair_written o library list_place request heard.refused (transition_line o part library client list_place request heard.read)
+    (fair_line o library part client list_place request heard.read)
 opened_by o part library client ScanQuestion = tt
 opened_by o part library client (ScanResult songs second) = tt
 opened_by o part library client (Want index owes) = fair_want o library part owes
 opened_by o part library client (Have index number frames) = fair_have o library part number frames
-opened_by o part library client (Failed index number partner) = fair_failure o library part number partner
+opened_by o part library client (Failed index number of_partner) = fair_failure o library part number of_partner
 opened_by o part library client (OutputTurn output written discarded failed) = fair_turn o library part output written discarded failed
 opened_by o part library client End = tt

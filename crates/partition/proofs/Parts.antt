@@ -287,7 +287,7 @@ same_limit rate part (ByCommand (Seeks position frame)) = seek_keeps part.player
 same_limit rate part (ByCommand (Switches output on)) = refl
 same_limit rate part (ByAudio (Wants owes)) = (numbers_rise part.player (Want rate (entries part) (any_enabled part.outputs) owes)).3
 same_limit rate part (ByAudio (Accepts number frames)) = (numbers_rise part.player (Have (entries part) number frames)).3
-same_limit rate part (ByAudio (Fails number partner)) = (numbers_rise part.player (Failed (entries part) number partner)).3
+same_limit rate part (ByAudio (Fails number of_partner)) = (numbers_rise part.player (Failed (entries part) number of_partner)).3
 same_limit rate part (ByAudio (Settles output written discarded failed)) = refl
 same_limit rate part (ByCommand (Subscribes client channel)) = refl
 same_limit rate part (ByCommand (Unsubscribes client channel)) = refl
@@ -336,7 +336,7 @@ comes_moved output to (Some c) p q comes = record {
   names = moved_names output (q.index == to) c q.outputs ∙ comes.names;
 }
 
--- each of some comes from the one at its index
+-- each of some comes from the one at the same index
 abbrev AllCome : List PartWorld → List PartWorld → Type 0
 AllCome [] [] = Unit {0}
 AllCome [] (q ∷ qs) = ⊥

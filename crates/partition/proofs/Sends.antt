@@ -13,8 +13,8 @@ use Rattle.mpd_command.specs.declared.name.Name.{Name}
 use Rattle.mpd_command.specs.declared.request.Request.{Request}
 use Rattle.mpd_command.specs.declared.request.Request.TheVariants.{Run, Refused}
 use Rattle.transitions.specs.declared.asked.Asked.{Asked}
-use Rattle.transitions.specs.declared.asked.Stand.{Stand}
-use Rattle.transitions.specs.declared.asked.Stand.TheVariants.{Alone, InList}
+use Rattle.transitions.specs.declared.asked.ListPlace.{ListPlace}
+use Rattle.transitions.specs.declared.asked.ListPlace.TheVariants.{Alone, InList}
 use Rattle.player_events.specs.declared.event.Event.{Event}
 use Rattle.player_events.specs.declared.event.Event.TheVariants.{Connect, Disconnect, Line, ScanQuestion, ScanResult, Want, Have, Failed, OutputTurn, End}
 use Rattle.player_state.specs.declared.effect.AudioStep.TheVariants.{Settles}
@@ -72,24 +72,24 @@ rests_stays answer = elim (closes answer.next) as (λ b. Rests (if b then Stay e
 module _ (o : Overview) (part : Option Part) (library : Library) (read : Read) (k : Client) (named : Subsystems) where
   abbrev Moves : Asked → Command → Option Wish → Type 0
   Moves asked command wish =
-      Rests (move_of (if is_some k.pending.waiting && not (ends_by asked.stand wish) then departs k.number else transition_wished asked k (transition_there o asked part library read command) wish).response)
+      Rests (move_of (if is_some k.pending.waiting && not (ends_by asked.list_place wish) then departs k.number else transition_wished asked k (transition_there o asked part library read command) wish).response)
 
-  wish_moves : (name : Name) (stand : Stand) (command : Command) (wish : Option Wish) → k.pending.waiting ≡ Some named → Moves (asked_by k name stand) command wish
+  wish_moves : (name : Name) (list_place : ListPlace) (command : Command) (wish : Option Wish) → k.pending.waiting ≡ Some named → Moves (asked_by k name list_place) command wish
   wish_moves name Alone command None w = rw w tt
   wish_moves name Alone command (Some (ToWait more)) w = rw w tt
   wish_moves name Alone command (Some ToGoOn) w = rw w tt
   wish_moves name Alone command (Some (ToShow choice)) w = rw w tt
   wish_moves name (InList form number_in_list) command wish w = rw w tt
 
-  line_moves : (stand : Stand) (request : Request) → k.pending.waiting ≡ Some named → Rests (move_of (transition_line o part library (Some k) stand request read).response)
-  line_moves stand (Run name command) w = wish_moves name stand command (wish_of command) w
-  line_moves stand (Refused ack) w = rw w tt
+  line_moves : (list_place : ListPlace) (request : Request) → k.pending.waiting ≡ Some named → Rests (move_of (transition_line o part library (Some k) list_place request read).response)
+  line_moves list_place (Run name command) w = wish_moves name list_place command (wish_of command) w
+  line_moves list_place (Refused ack) w = rw w tt
 
 -- a transition that writes to the shelf makes no other move than it would else
-written_moves : (stand : Stand) (request : Request) (refused : Option ShelfFault) (t : TransitionData) → Rests (move_of t.response) → Rests (move_of (written_transition stand request refused t).response)
-written_moves stand request refused t rests =
-    elim (is_written t.written) as (λ b. Rests (move_of (if b then once_written stand request refused t else t).response)) [
-      | true ↦ elim refused as (λ r. Rests (move_of (once_written stand request r t).response)) [ None ↦ rests | Some fault ↦ rests_stays (refused_by_shelf stand (name_of request) fault) ]
+written_moves : (list_place : ListPlace) (request : Request) (refused : Option ShelfFault) (t : TransitionData) → Rests (move_of t.response) → Rests (move_of (written_transition list_place request refused t).response)
+written_moves list_place request refused t rests =
+    elim (is_written t.written) as (λ b. Rests (move_of (if b then once_written list_place request refused t else t).response)) [
+      | true ↦ elim refused as (λ r. Rests (move_of (once_written list_place request r t).response)) [ None ↦ rests | Some fault ↦ rests_stays (refused_by_shelf list_place (name_of request) fault) ]
       | false ↦ rests
     ]
 
@@ -112,9 +112,9 @@ module _ (o : Overview) (part : Option Part) (library : Library) (k : Client) (n
   rests_have None number frames = tt
   rests_have (Some part) number frames = tt
 
-  rests_failure : (part : Option Part) (number : ℕ) (partner : Bool) → Rests (move_of (failure part number partner).response)
-  rests_failure None number partner = tt
-  rests_failure (Some part) number partner = tt
+  rests_failure : (part : Option Part) (number : ℕ) (of_partner : Bool) → Rests (move_of (failure part number of_partner).response)
+  rests_failure None number of_partner = tt
+  rests_failure (Some part) number of_partner = tt
 
   pub waiter_rests : (event : Event) (client : Option Client) → client ≡ Some k → Rests (move_of (transition_of o part library client event).response)
   waiter_rests (Connect number) client e = rw e tt
@@ -123,12 +123,12 @@ module _ (o : Overview) (part : Option Part) (library : Library) (k : Client) (n
   waiter_rests (ScanResult songs second) client e = tt
   waiter_rests (Want index owes) client e = rests_want part owes
   waiter_rests (Have index number frames) client e = rests_have part number frames
-  waiter_rests (Failed index number partner) client e = rests_failure part number partner
+  waiter_rests (Failed index number of_partner) client e = rests_failure part number of_partner
   waiter_rests End client e = tt
   waiter_rests (OutputTurn output written discarded failed) client e = rests_turn part output written discarded failed
-  waiter_rests (Line number stand request heard) client e =
-      written_moves stand request heard.refused (transition_line o part library client stand request heard.read)
-      (subst (λ (c : Option Client). Rests (move_of (transition_line o part library c stand request heard.read).response)) (sym e) (line_moves o part library heard.read k named stand request waits_named))
+  waiter_rests (Line number list_place request heard) client e =
+      written_moves list_place request heard.refused (transition_line o part library client list_place request heard.read)
+      (subst (λ (c : Option Client). Rests (move_of (transition_line o part library c list_place request heard.read).response)) (sym e) (line_moves o part library heard.read k named list_place request waits_named))
 
 -- so it does not begin to wait
 pub rests_unwaiting : (move : Move) (names : Subsystems) → Rests move → move ≡ Wait names → ⊥
@@ -156,21 +156,21 @@ have_unsaid : (ended : Bool) (part : Option Part) (number frames : ℕ) → (hav
 have_unsaid ended None number frames = refl
 have_unsaid ended (Some part) number frames = refl
 
-failure_unsaid : (part : Option Part) (number : ℕ) (partner : Bool) → (failure part number partner).response ≡ no_response
-failure_unsaid None number partner = refl
-failure_unsaid (Some part) number partner = refl
+failure_unsaid : (part : Option Part) (number : ℕ) (of_partner : Bool) → (failure part number of_partner).response ≡ no_response
+failure_unsaid None number of_partner = refl
+failure_unsaid (Some part) number of_partner = refl
 
 -- an event of another sender is of another client, or of no client: then nothing is said
 pub is_other_sender : (o : Overview) (part : Option Part) (library : Library) (client : Option Client) (event : Event) (number : ℕ) → sender event ≢ Some number
     → ((number == sender_number event) ≡ false) ⊎ ((transition_of o part library client event).response ≡ no_response)
 is_other_sender o part library client (Connect c) number ne = inl (ne_eqb number c (λ e. ne (ap Some (sym e))))
 is_other_sender o part library client (Disconnect c) number ne = inl (ne_eqb number c (λ e. ne (ap Some (sym e))))
-is_other_sender o part library client (Line c stand request heard) number ne = inl (ne_eqb number c (λ e. ne (ap Some (sym e))))
+is_other_sender o part library client (Line c list_place request heard) number ne = inl (ne_eqb number c (λ e. ne (ap Some (sym e))))
 is_other_sender o part library client ScanQuestion number ne = inr refl
 is_other_sender o part library client (ScanResult songs second) number ne = inr refl
 is_other_sender o part library client (Want index owes) number ne = inr (want_unsaid o.ended part owes)
 is_other_sender o part library client (Have index job frames) number ne = inr (have_unsaid o.ended part job frames)
-is_other_sender o part library client (Failed index job partner) number ne = inr (failure_unsaid part job partner)
+is_other_sender o part library client (Failed index job of_partner) number ne = inr (failure_unsaid part job of_partner)
 is_other_sender o part library client End number ne = inr refl
 is_other_sender o part library client (OutputTurn output written discarded failed) number ne = inr (turn_unsaid part output written discarded failed)
 
@@ -179,12 +179,12 @@ unsaid : (o : Overview) (part : Option Part) (library : Library) (client : Optio
     → (transition_of o part library client event).response ≡ no_response
 unsaid o part library client (Connect c) e = cc
 unsaid o part library client (Disconnect c) e = cc
-unsaid o part library client (Line c stand request heard) e = cc
+unsaid o part library client (Line c list_place request heard) e = cc
 unsaid o part library client ScanQuestion e = refl
 unsaid o part library client (ScanResult songs second) e = refl
 unsaid o part library client (Want index owes) e = want_unsaid o.ended part owes
 unsaid o part library client (Have index job frames) e = have_unsaid o.ended part job frames
-unsaid o part library client (Failed index job partner) e = failure_unsaid part job partner
+unsaid o part library client (Failed index job of_partner) e = failure_unsaid part job of_partner
 unsaid o part library client End e = refl
 unsaid o part library client (OutputTurn output written discarded failed) e = turn_unsaid part output written discarded failed
 

@@ -30,12 +30,12 @@ heard_so e later a is = is ∙ hears_so e a ∙ ap (λ (x : Event). with_store_r
 pub unrefused : (e : Event) (read : Read) → (store_reply_at (with_store_reply e (heard_read read))).refused ≡ None
 unrefused (Connect number) read = refl
 unrefused (Disconnect number) read = refl
-unrefused (Line number stand request heard) read = refl
+unrefused (Line number list_place request heard) read = refl
 unrefused ScanQuestion read = refl
 unrefused (ScanResult songs second) read = refl
 unrefused (Want index owes) read = refl
 unrefused (Have index number frames) read = refl
-unrefused (Failed index number partner) read = refl
+unrefused (Failed index number of_partner) read = refl
 unrefused (OutputTurn output written discarded failed) read = refl
 unrefused End read = refl
 
@@ -63,12 +63,12 @@ module _ {S : Type 0} (standing : S → Standing) (failed : S → S → Call →
       → Changes (standing old) (standing between) (is_read (store_reply_at (refused_to e read r)).read) (standing old).maps
   asked_by old between (Connect number) read r changes = dropped (standing old) (standing between) (is_read read) changes
   asked_by old between (Disconnect number) read r changes = dropped (standing old) (standing between) (is_read read) changes
-  asked_by old between (Line number stand request heard) read r changes = changes
+  asked_by old between (Line number list_place request heard) read r changes = changes
   asked_by old between ScanQuestion read r changes = dropped (standing old) (standing between) (is_read read) changes
   asked_by old between (ScanResult songs second) read r changes = dropped (standing old) (standing between) (is_read read) changes
   asked_by old between (Want index owes) read r changes = dropped (standing old) (standing between) (is_read read) changes
   asked_by old between (Have index number frames) read r changes = dropped (standing old) (standing between) (is_read read) changes
-  asked_by old between (Failed index number partner) read r changes = dropped (standing old) (standing between) (is_read read) changes
+  asked_by old between (Failed index number of_partner) read r changes = dropped (standing old) (standing between) (is_read read) changes
   asked_by old between (OutputTurn output written discarded failed) read r changes = dropped (standing old) (standing between) (is_read read) changes
   asked_by old between End read r changes = dropped (standing old) (standing between) (is_read read) changes
 
@@ -79,12 +79,12 @@ module _ {S : Type 0} (standing : S → Standing) (failed : S → S → Call →
       → Reads old between i e read → Reads old between i e (store_reply_at (refused_to e read r)).read
   read_by i old between (Connect number) read r reads = λ trusted. refl
   read_by i old between (Disconnect number) read r reads = λ trusted. refl
-  read_by i old between (Line number stand request heard) read r reads = reads
+  read_by i old between (Line number list_place request heard) read r reads = reads
   read_by i old between ScanQuestion read r reads = λ trusted. refl
   read_by i old between (ScanResult songs second) read r reads = λ trusted. refl
   read_by i old between (Want index owes) read r reads = λ trusted. refl
   read_by i old between (Have index number frames) read r reads = λ trusted. refl
-  read_by i old between (Failed index number partner) read r reads = λ trusted. refl
+  read_by i old between (Failed index number of_partner) read r reads = λ trusted. refl
   read_by i old between (OutputTurn output written discarded failed) read r reads = λ trusted. refl
   read_by i old between End read r reads = λ trusted. refl
 
@@ -93,12 +93,12 @@ module _ {S : Type 0} (standing : S → Standing) (failed : S → S → Call →
       → writing i e (store_reply_at (refused_to e read r)) ≡ (transition i (with_store_reply e (heard_read read))).written
   writes_by i (Connect number) read r = refl
   writes_by i (Disconnect number) read r = refl
-  writes_by i (Line number stand request heard) read r = refl
+  writes_by i (Line number list_place request heard) read r = refl
   writes_by i ScanQuestion read r = refl
   writes_by i (ScanResult songs second) read r = refl
   writes_by i (Want index owes) read r = refl
   writes_by i (Have index number frames) read r = refl
-  writes_by i (Failed index number partner) read r = refl
+  writes_by i (Failed index number of_partner) read r = refl
   writes_by i (OutputTurn output written discarded failed) read r = refl
   writes_by i End read r = refl
 

@@ -18,14 +18,14 @@ use Rattle.player_events.specs.Events.{is_line}
 
 -- a step hears nothing
 pub hears_nothing : (event : Event) (heard : StoreReply) → is_line event ≡ false → with_store_reply event heard ≡ event
-hears_nothing (Line number stand request before) heard step = cc
+hears_nothing (Line number list_place request before) heard step = cc
 hears_nothing (Connect number) heard step = refl
 hears_nothing (Disconnect number) heard step = refl
 hears_nothing ScanQuestion heard step = refl
 hears_nothing (ScanResult songs second) heard step = refl
 hears_nothing (Want index owes) heard step = refl
 hears_nothing (Have index number frames) heard step = refl
-hears_nothing (Failed index number partner) heard step = refl
+hears_nothing (Failed index number of_partner) heard step = refl
 hears_nothing (OutputTurn output written discarded failed) heard step = refl
 hears_nothing End heard step = refl
 
@@ -42,21 +42,21 @@ have_writes : (ended : Bool) (part : Option Part) (number frames : ℕ) → is_w
 have_writes ended None number frames = refl
 have_writes ended (Some part) number frames = refl
 
-failure_writes : (part : Option Part) (number : ℕ) (partner : Bool) → is_written (failure part number partner).written ≡ false
-failure_writes None number partner = refl
-failure_writes (Some part) number partner = refl
+failure_writes : (part : Option Part) (number : ℕ) (of_partner : Bool) → is_written (failure part number of_partner).written ≡ false
+failure_writes None number of_partner = refl
+failure_writes (Some part) number of_partner = refl
 
 -- it writes nothing
 pub steps_write_nothing : (o : Overview) (part : Option Part) (library : Library) (client : Option Client) (event : Event) → is_line event ≡ false
     → is_written (transition_of o part library client event).written ≡ false
-steps_write_nothing o part library client (Line number stand request before) step = cc
+steps_write_nothing o part library client (Line number list_place request before) step = cc
 steps_write_nothing o part library client (Connect number) step = refl
 steps_write_nothing o part library client (Disconnect number) step = refl
 steps_write_nothing o part library client ScanQuestion step = refl
 steps_write_nothing o part library client (ScanResult songs second) step = refl
 steps_write_nothing o part library client (Want index owes) step = want_writes o.ended part owes
 steps_write_nothing o part library client (Have index number frames) step = have_writes o.ended part number frames
-steps_write_nothing o part library client (Failed index number partner) step = failure_writes part number partner
+steps_write_nothing o part library client (Failed index number of_partner) step = failure_writes part number of_partner
 steps_write_nothing o part library client (OutputTurn output written discarded failed) step = turn_writes part output written discarded failed
 steps_write_nothing o part library client End step = refl
 

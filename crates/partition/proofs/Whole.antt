@@ -5,7 +5,7 @@ use Rattle.command_lists.specs.declared.word.ListForm.{ListForm}
 use Rattle.player_events.specs.declared.event.Event.{Event}
 use Rattle.player_events.specs.declared.event.Event.TheVariants.{Line}
 use Rattle.player_events.specs.declared.event.LogEntry.{LogEntry}
-use Rattle.transitions.specs.declared.asked.Stand.TheVariants.{InList}
+use Rattle.transitions.specs.declared.asked.ListPlace.TheVariants.{InList}
 use Rattle.partition.specs.Image.{Image}
 use Rattle.partition.specs.Lists.{Answered, entries_of, AreEntries, EntriesAre}
 use Rattle.player_events.specs.Events.{ends_list}

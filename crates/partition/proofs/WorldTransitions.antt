@@ -15,7 +15,7 @@ use Rattle.mpd_command.specs.declared.command.Command.TheVariants as command_gro
 use Rattle.mpd_command.specs.declared.status.StatusCommand.TheVariants as status_command
 use Rattle.mpd_command.specs.declared.request.Request.TheVariants.{Run}
 use Rattle.player_events.specs.declared.event.Event.TheVariants.{Line}
-use Rattle.transitions.specs.declared.asked.Stand.TheVariants.{Alone}
+use Rattle.transitions.specs.declared.asked.ListPlace.TheVariants.{Alone}
 use Rattle.player_events.specs.declared.event.Event.{Event}
 use Rattle.player_events.specs.declared.event.LogEntry.{LogEntry}
 use Rattle.transitions.specs.declared.reply.Move.{Move}

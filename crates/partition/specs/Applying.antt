@@ -16,7 +16,7 @@ use Rattle.mpd_command.specs.declared.request.Request.{Request}
 use Rattle.partition_table.specs.Parts.{FitsIn, part_at}
 use Rattle.partition_table.specs.declared.crossing.Crossing.{Crossing}
 use Rattle.transitions.specs.declared.asked.Asked.{Asked}
-use Rattle.transitions.specs.declared.asked.Stand.{Stand}
+use Rattle.transitions.specs.declared.asked.ListPlace.{ListPlace}
 use Rattle.transitions.specs.declared.shelf_calls.Read.{Read}
 use Rattle.partition.specs.Steps.{entry}
 use Rattle.partition.specs.Step.{after_transition, books_by, counts_frames, keeps_limits, index_at, report_at, told_by, transition, transition_command, transition_line, transition_request, transition_run, transition_there}
@@ -66,19 +66,19 @@ answer_to state event = (transition (image_of_state state) event).response.answe
 module _ {E : Type 0} where
   -- a result, unless it is an error, is what a state's daemon makes of a line of a client that is in a partition,
   -- if both are there
-  abbrev pub OkGivesLine : Result TransitionData E → State → Option (Bor Part) → Option Client → Stand → Request → Read → Type 0
-  OkGivesLine result state part client stand request read =
-      OkGives result (transition_line (overview (image_of_state state)) (option_copied part) state.library client stand request read)
+  abbrev pub OkGivesLine : Result TransitionData E → State → Option (Bor Part) → Option Client → ListPlace → Request → Read → Type 0
+  OkGivesLine result state part client list_place request read =
+      OkGives result (transition_line (overview (image_of_state state)) (option_copied part) state.library client list_place request read)
 
   -- a result, unless it is an error, is what it makes of a request of a client that is there
-  abbrev pub OkGivesRequest : Result TransitionData E → State → Option (Bor Part) → Client → Stand → Request → Read → Type 0
-  OkGivesRequest result state part client stand request read =
-      OkGives result (transition_request (overview (image_of_state state)) (option_copied part) state.library client stand request read)
+  abbrev pub OkGivesRequest : Result TransitionData E → State → Option (Bor Part) → Client → ListPlace → Request → Read → Type 0
+  OkGivesRequest result state part client list_place request read =
+      OkGives result (transition_request (overview (image_of_state state)) (option_copied part) state.library client list_place request read)
 
   -- a result, unless it is an error, is what it makes of a command of a client that is there
-  abbrev pub OkGivesCommand : Result TransitionData E → State → Option (Bor Part) → Client → Name → Stand → Command → Read → Type 0
-  OkGivesCommand result state part client name stand command read =
-      OkGives result (transition_command (overview (image_of_state state)) (option_copied part) state.library client name stand command read)
+  abbrev pub OkGivesCommand : Result TransitionData E → State → Option (Bor Part) → Client → Name → ListPlace → Command → Read → Type 0
+  OkGivesCommand result state part client name list_place command read =
+      OkGives result (transition_command (overview (image_of_state state)) (option_copied part) state.library client name list_place command read)
 
   -- a result, unless it is an error, is what it makes of a command that is no wish, whether or not its partition
   -- is there

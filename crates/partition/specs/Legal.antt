@@ -26,7 +26,7 @@ HasDistinctIds part = AllPairs (λ e f. e.id ≢ f.id) (queue_of part.queue)
 -- An image is what can be read of the trace after a history, so each slot's stamp and mark are those of all
 -- past queues, each output's frames are summed over all events, and each seat's count is that of all its
 -- events; each client's flags are its pending set; each transition raised what differs between its worlds,
--- and told whom it had to tell; each reply was the one of its position, and what was told with it is what its
+-- and told whom it had to tell; each reply was the one for its position in the history, and what was told with it is what its
 -- transition tells; clients are in the order of their numbers.
 pub record Stands (opened : Image) (history : List LogEntry) (i : Image) : Type 0 where
   pub world : i ≡ image_of (trace_after opened history) history

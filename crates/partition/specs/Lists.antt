@@ -11,7 +11,7 @@ use Rattle.mpd_text.specs.Answers.Answer.{ack_line}
 use Rattle.player_events.specs.declared.event.Event.{Event}
 use Rattle.player_events.specs.declared.event.Event.TheVariants.{Line}
 use Rattle.player_events.specs.declared.event.LogEntry.{LogEntry}
-use Rattle.transitions.specs.declared.asked.Stand.TheVariants.{InList}
+use Rattle.transitions.specs.declared.asked.ListPlace.TheVariants.{InList}
 use Rattle.transitions.specs.declared.reply.Next.{Next}
 use Rattle.transitions.specs.declared.reply.Next.TheVariants.{Goes}
 use Rattle.partition.specs.declared.partition.PartitionFault.{PartitionFault}

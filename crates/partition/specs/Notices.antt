@@ -17,7 +17,7 @@ use Rattle.player_events.specs.declared.event.Event.TheVariants.{Line}
 use Rattle.player_events.specs.declared.event.LogEntry.{LogEntry}
 use Rattle.transitions.specs.declared.reply.Next.TheVariants.{Goes, Waits}
 use Rattle.connected_clients.specs.declared.notices.Notice.{Notice}
-use Rattle.transitions.specs.declared.asked.Stand.TheVariants.{Alone}
+use Rattle.transitions.specs.declared.asked.ListPlace.TheVariants.{Alone}
 use Rattle.player_core.specs.Player.{PlayerState}
 use Rattle.player_events.specs.Outcomes.{OutcomeData}
 use Rattle.transitions.specs.declared.shelf_calls.StoreReply.{StoreReply}
@@ -42,7 +42,7 @@ AgreesButForUnwatched before after =
     })
     × (pairs before.channels ≡ pairs after.channels)
 
--- each of some partitions agrees so with the one at its index of others
+-- each of some partitions agrees so with the one at the same index of others
 abbrev pub AllAgree : List PartWorld → List PartWorld → Type 0
 AllAgree [] [] = Unit {0}
 AllAgree [] (after ∷ afters) = ⊥
@@ -55,7 +55,7 @@ abbrev pub AgreeButForUnwatched : World → World → Type 0
 AgreeButForUnwatched before after =
     (after ≡ record before { parts = after.parts; clients = after.clients; ended = after.ended }) × AllAgree before.parts after.parts
 
--- nothing that a subsystem speaks of differs between any partition and the one at its index
+-- nothing that a subsystem speaks of differs between any partition and the one at the same index
 abbrev pub NoneDiffers : List PartWorld → List PartWorld → Type 0
 NoneDiffers (before ∷ befores) (after ∷ afters) =
     ((number : ℕ) (subsystem : Subsystem) → DiffersWithin number subsystem before after → ⊥) × NoneDiffers befores afters

@@ -11,8 +11,8 @@ use Rattle.transitions.specs.declared.asked.Asked.{Asked}
 use Rattle.player_events.specs.declared.event.Event.{Event}
 use Rattle.player_events.specs.declared.event.Event.TheVariants.{Connect, Disconnect, Line, ScanQuestion, ScanResult, Want, Have, Failed, OutputTurn, End}
 use Rattle.transitions.specs.declared.reply.Move.TheVariants.{Join}
-use Rattle.transitions.specs.declared.asked.Stand.{Stand}
-use Rattle.transitions.specs.declared.asked.Stand.TheVariants.{Alone, InList}
+use Rattle.transitions.specs.declared.asked.ListPlace.{ListPlace}
+use Rattle.transitions.specs.declared.asked.ListPlace.TheVariants.{Alone, InList}
 use Rattle.player_state.specs.declared.effect.AudioStep.TheVariants.{Wants, Accepts, Fails, Settles}
 use Rattle.partition.specs.declared.partition.PartitionFault.{PartitionFault}
 use Rattle.partition.specs.declared.partition.PartitionFault.TheVariants.{CutsAtLimit, AtLimit}
@@ -26,7 +26,7 @@ use Rattle.player_state.specs.declared.state.Client.{Client}
 use Rattle.player_state.specs.declared.state.Library.{Library}
 use Rattle.player_state.specs.declared.state.Part.{Part}
 use Rattle.player_events.specs.Outcomes.{OutcomeData}
-use Rattle.transitions.specs.Answers.{ResponseData, refused_by_shelf, refuses, shut, stays, tells}
+use Rattle.transitions.specs.Answers.{ResponseData, refused_by_shelf, refuses, disconnects, stays, tells}
 use Rattle.connected_clients.specs.Clients.{entering, move_of, watched_all, raised, clients_after, notices_after}
 use Rattle.status_commands.specs.Connection.{result_of as connection_result}
 use Rattle.library_commands.specs.Database.{result_of as database_result}
@@ -71,22 +71,22 @@ transition_wished asked client t (Some wish) = quiet (wished asked client wish)
 transition_wished asked client t None = t
 
 -- what an answer is made for: a command of a client, which names it so and whose line comes so
-abbrev pub asked_by : Client → Name → Stand → Asked
-asked_by client name stand = record { client = client.number; tags = client.tags; name = name; stand = stand }
+abbrev pub asked_by : Client → Name → ListPlace → Asked
+asked_by client name list_place = record { client = client.number; tags = client.tags; name = name; list_place = list_place }
 
 -- a command of a client whose partition is not there closes it
 abbrev pub transition_there : Overview → Asked → Option Part → Library → Read → Command → TransitionData
-transition_there o asked None library read command = quiet (stays shut)
+transition_there o asked None library read command = quiet (stays disconnects)
 transition_there o asked (Some part) library read command = transition_run o asked part library read command
 
-abbrev pub transition_command : Overview → Option Part → Library → Client → Name → Stand → Command → Read → TransitionData
-transition_command o part library client name stand command read =
-    let asked : Asked = asked_by client name stand in
+abbrev pub transition_command : Overview → Option Part → Library → Client → Name → ListPlace → Command → Read → TransitionData
+transition_command o part library client name list_place command read =
+    let asked : Asked = asked_by client name list_place in
     transition_wished asked client (transition_there o asked part library read command) (wish_of command)
 
-abbrev pub transition_request : Overview → Option Part → Library → Client → Stand → Request → Read → TransitionData
-transition_request o part library client stand (Run name command) read = transition_command o part library client name stand command read
-transition_request o part library client stand (Refused ack) read = quiet (stays (refuses stand ack.command ack.number ack.text))
+abbrev pub transition_request : Overview → Option Part → Library → Client → ListPlace → Request → Read → TransitionData
+transition_request o part library client list_place (Run name command) read = transition_command o part library client name list_place command read
+transition_request o part library client list_place (Refused ack) read = quiet (stays (refuses list_place ack.command ack.number ack.text))
 
 abbrev pub greeting : ResponseData
 greeting = record { answer = tells (codes "OK MPD 0.23.0\n"); move = Join }
@@ -94,37 +94,37 @@ greeting = record { answer = tells (codes "OK MPD 0.23.0\n"); move = Join }
 -- a client that comes is greeted; one that is there stays as it is; one that finds no room is closed
 abbrev pub response_to_new : List Seated → Option Client → ResponseData
 response_to_new clients (Some client) = stays (tells (codes ""))
-response_to_new clients None = if nat_le 64 (length clients) then stays shut else greeting
+response_to_new clients None = if nat_le 64 (length clients) then stays disconnects else greeting
 
 abbrev pub is_to_go_on : Option Wish → Bool
 is_to_go_on (Some ToGoOn) = true
 is_to_go_on _ = false
 
 -- the one command that a client may send while it waits is `noidle`, alone in its line
-abbrev pub ends_by : Stand → Option Wish → Bool
+abbrev pub ends_by : ListPlace → Option Wish → Bool
 ends_by Alone wish = is_to_go_on wish
 ends_by (InList form place) wish = false
 
-abbrev pub ends_waiting : Stand → Request → Bool
-ends_waiting stand (Run name command) = ends_by stand (wish_of command)
-ends_waiting stand (Refused ack) = false
+abbrev pub ends_waiting : ListPlace → Request → Bool
+ends_waiting list_place (Run name command) = ends_by list_place (wish_of command)
+ends_waiting list_place (Refused ack) = false
 
 -- a line of a client that is not there closes it; so does a line other than `noidle` while it waits, whatever
 -- the line says
-abbrev pub transition_line : Overview → Option Part → Library → Option Client → Stand → Request → Read → TransitionData
-transition_line o part library None stand request read = quiet (stays shut)
-transition_line o part library (Some client) stand request read =
-    if is_some client.pending.waiting && not (ends_waiting stand request) then departs client.number
-    else transition_request o part library client stand request read
+abbrev pub transition_line : Overview → Option Part → Library → Option Client → ListPlace → Request → Read → TransitionData
+transition_line o part library None list_place request read = quiet (stays disconnects)
+transition_line o part library (Some client) list_place request read =
+    if is_some client.pending.waiting && not (ends_waiting list_place request) then departs client.number
+    else transition_request o part library client list_place request read
 
 -- a transition that writes to the shelf does nothing else; where the shelf refuses, it is answered so, and
 -- nothing happens
-abbrev pub once_written : Stand → Request → Option ShelfFault → TransitionData → TransitionData
-once_written stand request None t = record (quiet t.response) { written = t.written }
-once_written stand request (Some fault) t = quiet (stays (refused_by_shelf stand (name_of request) fault))
+abbrev pub once_written : ListPlace → Request → Option ShelfFault → TransitionData → TransitionData
+once_written list_place request None t = record (quiet t.response) { written = t.written }
+once_written list_place request (Some fault) t = quiet (stays (refused_by_shelf list_place (name_of request) fault))
 
-abbrev pub written_transition : Stand → Request → Option ShelfFault → TransitionData → TransitionData
-written_transition stand request refused t = if is_written t.written then once_written stand request refused t else t
+abbrev pub written_transition : ListPlace → Request → Option ShelfFault → TransitionData → TransitionData
+written_transition list_place request refused t = if is_written t.written then once_written list_place request refused t else t
 
 -- an output that is not there has nothing to play (this profile's)
 abbrev pub absent : TransitionData
@@ -153,8 +153,8 @@ have ended (Some part) number frames = acts_unless ended (ToFeed None) (Accepts 
 
 -- the song of a job of a partition cannot be read
 abbrev pub failure : Option Part → ℕ → Bool → TransitionData
-failure None number partner = quiet no_response
-failure (Some part) number partner = acts (Fails number partner)
+failure None number of_partner = quiet no_response
+failure (Some part) number of_partner = acts (Fails number of_partner)
 
 -- the end of a scan: what it found, if it found songs, and whether that scan ran
 abbrev pub ended_scan : Library → Option (List SongData) → ℕ → TransitionData
@@ -166,13 +166,13 @@ ended_scan library songs second = record (quiet no_response) { scan = EndsScan s
 abbrev pub transition_of : Overview → Option Part → Library → Option Client → Event → TransitionData
 transition_of o part library client (Connect number) = quiet (response_to_new o.clients client)
 transition_of o part library client (Disconnect number) = departs number
-transition_of o part library client (Line number stand request heard) =
-    written_transition stand request heard.refused (transition_line o part library client stand request heard.read)
+transition_of o part library client (Line number list_place request heard) =
+    written_transition list_place request heard.refused (transition_line o part library client list_place request heard.read)
 transition_of o part library client ScanQuestion = record (quiet no_response) { report = if o.ended then Ended else ToScan (running library.scan) }
 transition_of o part library client (ScanResult songs second) = ended_scan library songs second
 transition_of o part library client (Want index owes) = want o.ended part owes
 transition_of o part library client (Have index number frames) = have o.ended part number frames
-transition_of o part library client (Failed index number partner) = failure part number partner
+transition_of o part library client (Failed index number of_partner) = failure part number of_partner
 transition_of o part library client (OutputTurn output written discarded failed) =
     or_ended o.ended (output_turn part output (Settles output written discarded failed))
 transition_of o part library client End = quiet no_response
@@ -182,25 +182,25 @@ abbrev pub question_in : Library → Request → Question
 question_in library (Run name command) = question_by library command
 question_in library (Refused ack) = NoQuestion
 
-abbrev pub question_line : Library → Option Client → Stand → Request → Question
-question_line library None stand request = NoQuestion
-question_line library (Some client) stand request =
-    if is_some client.pending.waiting && not (ends_waiting stand request) then NoQuestion else question_in library request
+abbrev pub question_line : Library → Option Client → ListPlace → Request → Question
+question_line library None list_place request = NoQuestion
+question_line library (Some client) list_place request =
+    if is_some client.pending.waiting && not (ends_waiting list_place request) then NoQuestion else question_in library request
 
 abbrev pub question_of : Library → List Client → Event → Question
-question_of library clients (Line number stand request heard) = question_line library (client_of number clients) stand request
+question_of library clients (Line number list_place request heard) = question_line library (client_of number clients) list_place request
 question_of library clients _ = NoQuestion
 
 -- the client that an event comes from, if it comes from one
 abbrev pub sender : Event → Option ℕ
 sender (Connect number) = Some number
 sender (Disconnect number) = Some number
-sender (Line number stand request heard) = Some number
+sender (Line number list_place request heard) = Some number
 sender ScanQuestion = None
 sender (ScanResult songs second) = None
 sender (Want index owes) = None
 sender (Have index number frames) = None
-sender (Failed index number partner) = None
+sender (Failed index number of_partner) = None
 sender (OutputTurn output written discarded failed) = None
 sender End = None
 
@@ -227,12 +227,12 @@ index_in (Some client) = client.index
 abbrev pub index_of : List Known → Option Client → Event → ℕ
 index_of parts client (Connect number) = index_in client
 index_of parts client (Disconnect number) = index_in client
-index_of parts client (Line number stand request heard) = index_in client
+index_of parts client (Line number list_place request heard) = index_in client
 index_of parts client ScanQuestion = 0
 index_of parts client (ScanResult songs second) = 0
 index_of parts client (Want index owes) = index
 index_of parts client (Have index number frames) = index
-index_of parts client (Failed index number partner) = index
+index_of parts client (Failed index number of_partner) = index
 index_of parts client (OutputTurn output written discarded failed) = unwrap_or (holder output parts) 0
 index_of parts client End = 0
 

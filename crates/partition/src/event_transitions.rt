@@ -35,7 +35,8 @@ use status_commands::status::wish;
 use status_commands::{connection, messages, options, outputs, status};
 use std::alloc::{AllocError, Global};
 use transitions::{
-    Asked, EarlyReport, Move, Read, Response, Stand, Transition, refuses_line, shut, tells,
+    Asked, EarlyReport, ListPlace, Move, Read, Response, Transition, disconnects, refuses_line,
+    tells,
 };
 
 /// What an event asks for.
@@ -55,8 +56,21 @@ pub(crate) fn transition_of_event(
     match event {
         Event::Connect(_) => Ok(Transition::only(connect(alloc, &state.clients, client)?)),
         Event::Disconnect(number) => Ok(Transition::departs(alloc, *number)),
-        Event::Line(_, stand, request, heard) => {
-            let transition = answer_line(alloc, state, part, client, *stand, request, &heard.read)?;
+        Event::Line {
+            list_place,
+            request,
+            heard,
+            ..
+        } => {
+            let transition = answer_line(
+                alloc,
+                state,
+                part,
+                client,
+                *list_place,
+                request,
+                &heard.read,
+            )?;
             Ok(transition.once_written())
         }
         Event::ScanQuestion => {
@@ -75,9 +89,19 @@ pub(crate) fn transition_of_event(
         ),
         Event::Want(_, owes) => Ok(want(alloc, state.ended, part, *owes)),
         Event::Have(_, number, frames) => Ok(have(alloc, state.ended, part, *number, *frames)),
-        Event::Failed(_, number, partner) => Ok(failure(alloc, part, *number, *partner)),
-        Event::OutputTurn(output, written, discarded, failed) => {
-            let turn = AudioStep::Settles(*output, *written, *discarded, *failed);
+        Event::Failed(_, number, of_partner) => Ok(failure(alloc, part, *number, *of_partner)),
+        Event::OutputTurn {
+            output,
+            written,
+            discarded,
+            failed,
+        } => {
+            let turn = AudioStep::Settles {
+                output: *output,
+                written: *written,
+                discarded: *discarded,
+                failed: *failed,
+            };
             Ok(settle(alloc, part, *output, turn).or_ended(state.ended))
         }
         Event::End => { Ok(Transition::reports(alloc, ScanMove::Stay, EarlyReport::Nothing)) }
@@ -96,14 +120,14 @@ fn sender_in(clients: &[Client], event: &Event) -> Option<Client>
     ensures { result ≡ sender_in_lem clients.now event.now }
 {
     match event {
-        Event::Connect(number) | Event::Disconnect(number) | Event::Line(number, _, _, _) =>
+        Event::Connect(number) | Event::Disconnect(number) | Event::Line { client: number, .. } =>
             find_client(clients, *number),
         Event::ScanQuestion
         | Event::ScanResult(_, _)
         | Event::Want(_, _)
         | Event::Have(_, _, _)
         | Event::Failed(_, _, _)
-        | Event::OutputTurn(_, _, _, _)
+        | Event::OutputTurn { .. }
         | Event::End => None,
     }
 }
@@ -114,9 +138,9 @@ fn index_of(parts: &Parts, client: Option<Client>, event: &Event) -> u8
     ensures { result ≡ index_of_lem (map known parts.now) client event.now }
 {
     match event {
-        Event::Connect(_) | Event::Disconnect(_) | Event::Line(_, _, _, _) => index_in(client),
+        Event::Connect(_) | Event::Disconnect(_) | Event::Line { .. } => index_in(client),
         Event::Want(index, _) | Event::Have(index, _, _) | Event::Failed(index, _, _) => *index,
-        Event::OutputTurn(output, _, _, _) => parts.holder(*output).unwrap_or(0),
+        Event::OutputTurn { output, .. } => parts.holder(*output).unwrap_or(0),
         Event::ScanQuestion | Event::ScanResult(_, _) | Event::End => 0,
     }
 }
@@ -158,13 +182,13 @@ fn have(alloc: Global, ended: bool, part: Option<&Part>, number: u64, frames: u6
 }
 
 /// The song of a job of a partition cannot be read.
-fn failure(alloc: Global, part: Option<&Part>, number: u64, partner: bool) -> Transition
-    ensures { result ≡ failure_lem (option_copied part.entry) number partner }
+fn failure(alloc: Global, part: Option<&Part>, number: u64, of_partner: bool) -> Transition
+    ensures { result ≡ failure_lem (option_copied part.entry) number of_partner }
 {
     if part.is_none() {
         return Transition::reports(alloc, ScanMove::Stay, EarlyReport::Nothing);
     }
-    Transition::acts(alloc, AudioStep::Fails(number, partner))
+    Transition::acts(alloc, AudioStep::Fails(number, of_partner))
 }
 
 /// Ends the scan that runs at this second, with the library that it found.
@@ -212,7 +236,7 @@ fn connect(
         return Ok(tells(String::new(alloc), Move::Stay));
     }
     if clients.len() >= MAX_CLIENTS {
-        return Ok(shut(alloc));
+        return Ok(disconnects(alloc));
     }
     Ok(tells(String::from_str(alloc, "OK MPD 0.23.0\n")?, Move::Join))
 }
@@ -223,21 +247,21 @@ fn answer_line(
     state: &State,
     part: Option<&Part>,
     client: Option<Client>,
-    stand: Stand,
+    list_place: ListPlace,
     request: &Request,
     read: &Read,
 ) -> Result<Transition, AllocError>
-    ensures transition { OkGivesLine result state.now part.entry client stand request.now read.now }
+    ensures transition { OkGivesLine result state.now part.entry client list_place request.now read.now }
     ensures fits { IfOk result (λ transition. FitsIn (option_copied part.entry) transition.effect) }
     ensures command { IfOk result (λ transition. IsOfCommand transition.effect) }
 {
     let Some(client) = client else {
-        return Ok(Transition::only(shut(alloc)));
+        return Ok(Transition::only(disconnects(alloc)));
     };
-    if client.pending.is_waiting() && !ends_waiting(stand, request) {
+    if client.pending.is_waiting() && !ends_waiting(list_place, request) {
         return Ok(Transition::departs(alloc, client.number));
     }
-    answer_request(alloc, state, part, client, stand, request, read)
+    answer_request(alloc, state, part, client, list_place, request, read)
 }
 
 /// What an event asks the shelf, and its answer.
@@ -250,13 +274,19 @@ pub(crate) fn ask_shelf<S: Shelf>(
     ensures changes { ChangesByRead S.standing shelf.old shelf.new (is_ok_read result) }
     ensures read { ReadsFor S.standing S.failed shelf.old shelf.new library.now clients.now event.now result }
 {
-    let Event::Line(number, stand, request, _) = event else {
+    let Event::Line {
+        client: number,
+        list_place,
+        request,
+        ..
+    } = event
+    else {
         return Ok(Read::Nothing);
     };
     let Some(client) = find_client(clients, *number) else {
         return Ok(Read::Nothing);
     };
-    if client.pending.is_waiting() && !ends_waiting(*stand, request) {
+    if client.pending.is_waiting() && !ends_waiting(*list_place, request) {
         return Ok(Read::Nothing);
     }
     match request {
@@ -265,11 +295,11 @@ pub(crate) fn ask_shelf<S: Shelf>(
     }
 }
 
-fn ends_waiting(stand: Stand, request: &Request) -> bool
-    ensures { result ≡ ends_waiting_lem stand request.now }
+fn ends_waiting(list_place: ListPlace, request: &Request) -> bool
+    ensures { result ≡ ends_waiting_lem list_place request.now }
 {
-    match (stand, request) {
-        (Stand::Alone, Request::Run(_, Command::Status(StatusCommand::NoIdle))) => true,
+    match (list_place, request) {
+        (ListPlace::Alone, Request::Run(_, Command::Status(StatusCommand::NoIdle))) => true,
         _ => false,
     }
 }
@@ -280,20 +310,26 @@ fn answer_request(
     state: &State,
     part: Option<&Part>,
     client: Client,
-    stand: Stand,
+    list_place: ListPlace,
     request: &Request,
     read: &Read,
 ) -> Result<Transition, AllocError>
-    ensures transition { OkGivesRequest result state.now part.entry client stand request.now read.now }
+    ensures transition { OkGivesRequest result state.now part.entry client list_place request.now read.now }
     ensures fits { IfOk result (λ transition. FitsIn (option_copied part.entry) transition.effect) }
     ensures command { IfOk result (λ transition. IsOfCommand transition.effect) }
 {
     match request {
         Request::Run(name, command) => {
-            answer_command(alloc, state, part, read, client, *name, stand, command)
+            answer_command(alloc, state, part, read, client, *name, list_place, command)
         }
         Request::Refused(ack) => {
-            let response = refuses_line(alloc, stand, ack.command, ack.number, ack.text.as_str())?;
+            let response = refuses_line(
+                alloc,
+                list_place,
+                ack.command,
+                ack.number,
+                ack.text.as_str(),
+            )?;
             Ok(Transition::only(response))
         }
     }
@@ -307,15 +343,15 @@ fn answer_command(
     read: &Read,
     client: Client,
     name: Name,
-    stand: Stand,
+    list_place: ListPlace,
     command: &Command,
 ) -> Result<Transition, AllocError>
-    ensures transition { OkGivesCommand result state.now part.entry client name stand command.now read.now }
+    ensures transition { OkGivesCommand result state.now part.entry client name list_place command.now read.now }
     ensures fits { IfOk result (λ transition. FitsIn (option_copied part.entry) transition.effect) }
     ensures command { IfOk result (λ transition. IsOfCommand transition.effect) }
 {
-    let asked = asked_by(&client, name, stand);
-    match wish(alloc, asked_by(&client, name, stand), client, command)? {
+    let asked = asked_by(&client, name, list_place);
+    match wish(alloc, asked_by(&client, name, list_place), client, command)? {
         Some(response) => Ok(Transition::only(response)),
         None => run_in(alloc, asked, state, part, read, command),
     }
@@ -336,19 +372,19 @@ fn run_in(
 {
     match part {
         Some(part) => run(alloc, asked, state, part, read, command),
-        None => Ok(Transition::only(shut(alloc))),
+        None => Ok(Transition::only(disconnects(alloc))),
     }
 }
 
 /// What an answer is made for: a command of a client, which names it so and whose line comes so.
-fn asked_by(client: &Client, name: Name, stand: Stand) -> Asked
-    ensures { result ≡ asked_by_lem client.now name stand }
+fn asked_by(client: &Client, name: Name, list_place: ListPlace) -> Asked
+    ensures { result ≡ asked_by_lem client.now name list_place }
 {
     Asked {
         client: client.number,
         tags: client.tags,
         name,
-        stand,
+        list_place,
     }
 }
 

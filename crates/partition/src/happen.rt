@@ -46,7 +46,7 @@ ghost use Rattle.connected_clients.specs.UpToDate.{AllUpToDate, HasRoom, nothing
 ghost use Rattle.transitions.specs.Shelves.{LeavesUnchanged, is_out_of_memory, is_written};
 ghost use Rattle.partition.specs.Step.{counts_frames, keeps_limits, transition as transition_at};
 ghost use Rattle.partition.specs.Step.{ended_after as ended_after_lem, moved_client as moved_client_lem, sender_number as sender_number_lem};
-ghost use Rattle.player_events.specs.Events.{store_reply_at, with_store_reply, name_at, stand_of};
+ghost use Rattle.player_events.specs.Events.{store_reply_at, with_store_reply, name_at, list_place_of};
 
 use crate::event_transitions::{ask_shelf, index_of_event, transition_of_event};
 use crate::lent::write;
@@ -410,7 +410,7 @@ fn write_out<S: Shelf>(
     requires alone { IsAlone transition }
     requires written { is_written transition.written ≡ true }
     requires unrefused { (store_reply_at event.old).refused ≡ None }
-    requires refusals { refusals ≡ (stand_of event.old, name_at event.old) }
+    requires refusals { refusals ≡ (list_place_of event.old, name_at event.old) }
     ensures event { HearsRefusal event.old event.new }
     ensures transition { OkGives result (transition_at (image_of_state state.now) event.new) }
     ensures alone { IfOk result IsAlone }
@@ -515,14 +515,14 @@ fn sender_number(event: &Event) -> u32
     ensures { result ≡ sender_number_lem event.now }
 {
     match event {
-        Event::Connect(number) | Event::Disconnect(number) | Event::Line(number, _, _, _) =>
+        Event::Connect(number) | Event::Disconnect(number) | Event::Line { client: number, .. } =>
             *number,
         Event::ScanQuestion
         | Event::ScanResult(_, _)
         | Event::Want(_, _)
         | Event::Have(_, _, _)
         | Event::Failed(_, _, _)
-        | Event::OutputTurn(_, _, _, _)
+        | Event::OutputTurn { .. }
         | Event::End => 0,
     }
 }

@@ -15,9 +15,13 @@ pub(crate) fn write<S: Shelf>(shelf: &mut S, written: &ShelfWrite) -> Result<(),
         ShelfWrite::Create(name, uris) => shelf.create(name.as_str(), uris),
         ShelfWrite::Rename(name, new, _) => shelf.rename(name.as_str(), new.as_str()),
         ShelfWrite::Remove(name, _) => shelf.remove(name.as_str()),
-        ShelfWrite::SetSticker(kind, target, name, value, _) => {
-            shelf.set_sticker(*kind, target.as_str(), name.as_str(), value.as_str())
-        }
+        ShelfWrite::SetSticker {
+            kind,
+            target,
+            name,
+            value,
+            ..
+        } => { shelf.set_sticker(*kind, target.as_str(), name.as_str(), value.as_str()) }
         ShelfWrite::DeleteSticker(kind, target, name) => {
             shelf.delete_sticker(*kind, target.as_str(), name.as_str())
         }

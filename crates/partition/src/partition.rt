@@ -51,7 +51,7 @@ use shelf::{MemShelf, Shelf};
 use std::alloc::{AllocError, Global};
 use std::marker::Model;
 use std::snapshot::Snapshot;
-use transitions::Stand;
+use transitions::ListPlace;
 
 /// Why an event was not applied.
 #[derive(Clone, Copy, Debug, PartialEq, Eq)]
@@ -185,7 +185,7 @@ impl Partition {
     ///
     /// `HistoryFull` where the window was full and there was no memory to fold it: nothing changed.
     /// `CutsAtLimit` where the event would raise a number above the greatest, `AtLimit` where it could not be
-    /// counted or its frames could not; want of memory may come instead of them, but not in that of a seat
+    /// counted or its frames could not; want of memory may come instead of them, but not instead of the refusal of a seat
     /// which made 2^63-1 events. The shelf keeps its maps.
     pub fn apply<S: Shelf>(
         &mut self,
@@ -361,7 +361,7 @@ impl Partition {
         for request in requests {
             let done = outcomes.len();
             let command = request.name();
-            let event = Event::line(client, Stand::InList(form, done), request);
+            let event = Event::line(client, ListPlace::InList(form, done), request);
             match self.apply(seat, shelf, event) {
                 Ok(outcome) => {
                     let ends = outcome.ends_list();

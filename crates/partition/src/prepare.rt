@@ -3,7 +3,7 @@ ghost use Rattle.std.specs.Prelude.{◌≡◌, [], true, false, IfErr, IfOk, OnO
 ghost use Rattle.player_state.specs.Outputs.{can_count_all};
 ghost use Rattle.connected_clients.specs.Rooms.{listed};
 ghost use Rattle.transitions.specs.Shelves.{is_written};
-ghost use Rattle.player_events.specs.Events.{name_at, name_of as name_of_lem, stand_of};
+ghost use Rattle.player_events.specs.Events.{name_at, name_of as name_of_lem, list_place_of};
 ghost use Rattle.partition_table.specs.declared.crossing.Crossing.{Crossing};
 ghost use Rattle.partition.specs.Applying.{ActsAt, GoesNowhere, HasReadings, HasRoomForWaiting, IsStill};
 ghost use Rattle.partition.specs.Applying.{RefusesFramesIn, books_in};
@@ -17,7 +17,7 @@ use partition_table::Crossing;
 use player_events::Event;
 use player_state::FrameCounts;
 use std::alloc::{AllocError, Global};
-use transitions::{Move, Refusals, Stand, Transition};
+use transitions::{ListPlace, Move, Refusals, Transition};
 
 /// A list for the notices of an event, and what tells whether it changed a part of the player.
 #[derive(Drop)]
@@ -96,7 +96,7 @@ pub(crate) fn prepare_write(
     ensures notices { IfOk result (λ made. listed made.0.notices ≡ []) }
     ensures room { IfOk result (λ made. HasRoomForWaiting state.now made.0) }
     ensures before { IfOk result (λ made. HasReadings state.now Crossing.Stays index made.0) }
-    ensures refusals { IfOk result (λ made. made.1 ≡ (stand_of event.now, name_at event.now)) }
+    ensures refusals { IfOk result (λ made. made.1 ≡ (list_place_of event.now, name_at event.now)) }
 {
     let prepared = Prepared::with_room(alloc, &Crossing::Stays, index, state)?;
     let refusals = refusals_of(alloc, event)?;
@@ -121,11 +121,15 @@ fn enters(client_move: Move) -> bool
 
 /// The answers to the line of an event for each refusal of the shelf; for another event they are never given.
 fn refusals_of(alloc: Global, event: &Event) -> Result<Refusals, AllocError>
-    ensures { IfOk result (λ refusals. refusals ≡ (stand_of event.now, name_at event.now)) }
+    ensures { IfOk result (λ refusals. refusals ≡ (list_place_of event.now, name_at event.now)) }
 {
     match event {
-        Event::Line(_, stand, request, _) => Refusals::for_line(alloc, *stand, name_of(request)),
-        _ => Refusals::for_line(alloc, Stand::Alone, None),
+        Event::Line {
+            list_place,
+            request,
+            ..
+        } => Refusals::for_line(alloc, *list_place, name_of(request)),
+        _ => Refusals::for_line(alloc, ListPlace::Alone, None),
     }
 }
 

@@ -18,7 +18,7 @@ use Rattle.partition_table.specs.Parts.{Known, crosses_beyond, holder, is_within
 use Rattle.partition_commands.specs.Partitions.{planned, seated}
 use Rattle.transitions.specs.Answers.{ResponseData, closes}
 use Rattle.transitions.specs.Transitions.{TransitionData, max_cut_in, no_response, parts_after}
-use Rattle.transitions.specs.declared.asked.Stand.{Stand}
+use Rattle.transitions.specs.declared.asked.ListPlace.{ListPlace}
 use Rattle.transitions.specs.declared.reply.Move.{Move}
 use Rattle.transitions.specs.declared.reply.Move.TheVariants.{Stay, Wait, Learn, Resume, Join, Show, Enter}
 use Rattle.transitions.specs.declared.shelf_calls.StoreReply.{StoreReply}
@@ -91,12 +91,12 @@ module _ (index : ℕ) (i j : Image) (a : Agree index i j) where
   pub index_same : (event : Event) → index_at i event ≡ index_at j event
   index_same (Connect number) = indices number
   index_same (Disconnect number) = indices number
-  index_same (Line number stand request heard) = indices number
+  index_same (Line number list_place request heard) = indices number
   index_same ScanQuestion = refl
   index_same (ScanResult songs second) = refl
   index_same (Want at owes) = refl
   index_same (Have at number frames) = refl
-  index_same (Failed at number partner) = refl
+  index_same (Failed at number of_partner) = refl
   index_same (OutputTurn output written discarded failed) = ap (λ (fs : List Known). unwrap_or (holder output fs) 0) knowns
   index_same End = refl
 
@@ -112,12 +112,12 @@ module _ (index : ℕ) (i j : Image) (a : Agree index i j) where
   sender_same : (event : Event) → index_at i event ≡ index → sender_in i.clients event ≡ sender_in j.clients event
   sender_same (Connect number) p = same_client number p
   sender_same (Disconnect number) p = same_client number p
-  sender_same (Line number stand request heard) p = same_client number p
+  sender_same (Line number list_place request heard) p = same_client number p
   sender_same ScanQuestion p = refl
   sender_same (ScanResult songs second) p = refl
   sender_same (Want at owes) p = refl
   sender_same (Have at number frames) p = refl
-  sender_same (Failed at number partner) p = refl
+  sender_same (Failed at number of_partner) p = refl
   sender_same (OutputTurn output written discarded failed) p = refl
   sender_same End p = refl
 
@@ -134,12 +134,12 @@ module _ (index : ℕ) (i j : Image) (a : Agree index i j) where
   speaks_there : (event : Event) → IsIn index (sender_number event) i → (index_at i event ≡ index) ⊎ (sender event ≡ None)
   speaks_there (Connect number) is = inl (in_index number is)
   speaks_there (Disconnect number) is = inl (in_index number is)
-  speaks_there (Line number stand request heard) is = inl (in_index number is)
+  speaks_there (Line number list_place request heard) is = inl (in_index number is)
   speaks_there ScanQuestion is = inr refl
   speaks_there (ScanResult songs second) is = inr refl
   speaks_there (Want at owes) is = inr refl
   speaks_there (Have at number frames) is = inr refl
-  speaks_there (Failed at number partner) is = inr refl
+  speaks_there (Failed at number of_partner) is = inr refl
   speaks_there (OutputTurn output written discarded failed) is = inr refl
   speaks_there End is = inr refl
 
@@ -150,12 +150,12 @@ module _ (index : ℕ) (i j : Image) (a : Agree index i j) where
   pub nobody_speaks : (event : Event) → happens_in index i event ≡ false → IsIn index (sender_number event) i → sender event ≡ None
   nobody_speaks (Connect number) e is = absurd (clash number e is)
   nobody_speaks (Disconnect number) e is = absurd (clash number e is)
-  nobody_speaks (Line number stand request heard) e is = absurd (clash number e is)
+  nobody_speaks (Line number list_place request heard) e is = absurd (clash number e is)
   nobody_speaks ScanQuestion e is = refl
   nobody_speaks (ScanResult songs second) e is = refl
   nobody_speaks (Want at owes) e is = refl
   nobody_speaks (Have at number frames) e is = refl
-  nobody_speaks (Failed at number partner) e is = refl
+  nobody_speaks (Failed at number of_partner) e is = refl
   nobody_speaks (OutputTurn output written discarded failed) e is = refl
   nobody_speaks End e is = refl
 
@@ -183,7 +183,7 @@ module _ (index : ℕ) (i j : Image) (a : Agree index i j) where
   abbrev Reaches : Image → Event → Type 0
   Reaches x event = reaches index (overview x).parts (transition x event) ≡ true
 
-  no_line : (x : Image) (event : Event) → ((number : ℕ) (stand : Stand) (request : Request) (heard : StoreReply) → event ≡ Line number stand request heard → ⊥) → Reaches x event → ⊥
+  no_line : (x : Image) (event : Event) → ((number : ℕ) (list_place : ListPlace) (request : Request) (heard : StoreReply) → event ≡ Line number list_place request heard → ⊥) → Reaches x event → ⊥
   no_line x event unlined r =
       let e : reaches index (overview x).parts (transition x event) ≡ false = others_stay index (overview x) (part_at (index_at x event) x.parts) x.shared.library (sender_in x.clients event) event unlined in
       let clash : true ≡ false = sym r ∙ e in cc
@@ -192,16 +192,16 @@ module _ (index : ℕ) (i j : Image) (a : Agree index i j) where
   abbrev IsOne : Event → Type 0
   IsOne event = (transition i event ≡ transition j event) × (report_at i event (transition i event) ≡ report_at j event (transition j event))
 
-  line_reaches : (number : ℕ) (stand : Stand) (request : Request) (heard : StoreReply)
-      → Reaches i (Line number stand request heard) → Reaches j (Line number stand request heard) → IsOne (Line number stand request heard)
-  line_reaches number stand request heard r q =
-      let event : Event = Line number stand request heard in
+  line_reaches : (number : ℕ) (list_place : ListPlace) (request : Request) (heard : StoreReply)
+      → Reaches i (Line number list_place request heard) → Reaches j (Line number list_place request heard) → IsOne (Line number list_place request heard)
+  line_reaches number list_place request heard r q =
+      let event : Event = Line number list_place request heard in
       let parts_i : Option Part = part_at (index_at i event) i.parts in
       let parts_j : Option Part = part_at (index_at j event) j.parts in
-      let x : Reached (overview i) stand request parts_i (client_of number i.clients) (transition i event) =
-      reached index (overview i) i.shared.library parts_i (client_of number i.clients) stand request heard r in
-      let y : Reached (overview j) stand request parts_j (client_of number j.clients) (transition j event) =
-      reached index (overview j) j.shared.library parts_j (client_of number j.clients) stand request heard q in
+      let x : Reached (overview i) list_place request parts_i (client_of number i.clients) (transition i event) =
+      reached index (overview i) i.shared.library parts_i (client_of number i.clients) list_place request heard r in
+      let y : Reached (overview j) list_place request parts_j (client_of number j.clients) (transition j event) =
+      reached index (overview j) j.shared.library parts_j (client_of number j.clients) list_place request heard q in
       let numbers : x.k.number ≡ y.k.number = found_number number i.clients x.k x.client_is ∙ sym (found_number number j.clients y.k y.client_is) in
       let owns : x.p.index ≡ y.p.index =
       found_index (overview i).openings (index_at i event) i.parts x.p x.part_is ∙ index_same index i j a event
@@ -211,25 +211,25 @@ module _ (index : ℕ) (i j : Image) (a : Agree index i j) where
       let its : x.it ≡ y.it = cc in
       let o : overview i ≡ overview j = overviews index i j a in
       let same : transition i event ≡ transition j event =
-      x.is ∙ (λ z. planned (o z).parts (o z).clients (o z).openings (asked_by x.k (names z) stand) (owns z) (its z))
-      ∙ planned_alike (overview j).parts (overview j).clients (overview j).openings x.k y.k y.name stand y.p.index y.it numbers
+      x.is ∙ (λ z. planned (o z).parts (o z).clients (o z).openings (asked_by x.k (names z) list_place) (owns z) (its z))
+      ∙ planned_alike (overview j).parts (overview j).clients (overview j).openings x.k y.k y.name list_place y.p.index y.it numbers
       ∙ sym y.is in (
         same,
-        reached_silent (overview i) stand request parts_i (client_of number i.clients) (transition i event) x i.shared.library.rate parts_i
-            ∙ sym (reached_silent (overview j) stand request parts_j (client_of number j.clients) (transition j event) y j.shared.library.rate parts_j),
+        reached_silent (overview i) list_place request parts_i (client_of number i.clients) (transition i event) x i.shared.library.rate parts_i
+            ∙ sym (reached_silent (overview j) list_place request parts_j (client_of number j.clients) (transition j event) y j.shared.library.rate parts_j),
       )
 
   pub reach : (event : Event) → Reaches i event → Reaches j event → IsOne event
-  reach (Line number stand request heard) r q = line_reaches number stand request heard r q
-  reach (Connect n) r q = absurd (no_line i (Connect n) (λ number stand request heard e. cc) r)
-  reach (Disconnect n) r q = absurd (no_line i (Disconnect n) (λ number stand request heard e. cc) r)
-  reach ScanQuestion r q = absurd (no_line i ScanQuestion (λ number stand request heard e. cc) r)
-  reach (ScanResult songs second) r q = absurd (no_line i (ScanResult songs second) (λ number stand request heard e. cc) r)
-  reach (Want at owes) r q = absurd (no_line i (Want at owes) (λ number stand request heard e. cc) r)
-  reach (Have at n frames) r q = absurd (no_line i (Have at n frames) (λ number stand request heard e. cc) r)
-  reach (Failed at n partner) r q = absurd (no_line i (Failed at n partner) (λ number stand request heard e. cc) r)
-  reach (OutputTurn output written discarded failed) r q = absurd (no_line i (OutputTurn output written discarded failed) (λ number stand request heard e. cc) r)
-  reach End r q = absurd (no_line i End (λ number stand request heard e. cc) r)
+  reach (Line number list_place request heard) r q = line_reaches number list_place request heard r q
+  reach (Connect n) r q = absurd (no_line i (Connect n) (λ number list_place request heard e. cc) r)
+  reach (Disconnect n) r q = absurd (no_line i (Disconnect n) (λ number list_place request heard e. cc) r)
+  reach ScanQuestion r q = absurd (no_line i ScanQuestion (λ number list_place request heard e. cc) r)
+  reach (ScanResult songs second) r q = absurd (no_line i (ScanResult songs second) (λ number list_place request heard e. cc) r)
+  reach (Want at owes) r q = absurd (no_line i (Want at owes) (λ number list_place request heard e. cc) r)
+  reach (Have at n frames) r q = absurd (no_line i (Have at n frames) (λ number list_place request heard e. cc) r)
+  reach (Failed at n of_partner) r q = absurd (no_line i (Failed at n of_partner) (λ number list_place request heard e. cc) r)
+  reach (OutputTurn output written discarded failed) r q = absurd (no_line i (OutputTurn output written discarded failed) (λ number list_place request heard e. cc) r)
+  reach End r q = absurd (no_line i End (λ number list_place request heard e. cc) r)
 
   own_report : (event : Event) → index_at i event ≡ index → IsOne event
   own_report event p =
@@ -337,12 +337,12 @@ comes_of index i event e c =
 pub sender_number_is : (index : ℕ) (i : Image) (event : Event) → comes_to index (move_of (transition i event).response) ≡ true → sender_in i.clients event ≡ client_of (sender_number event) i.clients
 sender_number_is index i (Connect number) c = refl
 sender_number_is index i (Disconnect number) c = refl
-sender_number_is index i (Line number stand request heard) c = refl
+sender_number_is index i (Line number list_place request heard) c = refl
 sender_number_is index i ScanQuestion c = absurd (comes_of index i ScanQuestion refl c)
 sender_number_is index i (ScanResult songs second) c = absurd (comes_of index i (ScanResult songs second) refl c)
 sender_number_is index i (Want at owes) c = absurd (comes_of index i (Want at owes) refl c)
 sender_number_is index i (Have at number frames) c = absurd (comes_of index i (Have at number frames) refl c)
-sender_number_is index i (Failed at number partner) c = absurd (comes_of index i (Failed at number partner) refl c)
+sender_number_is index i (Failed at number of_partner) c = absurd (comes_of index i (Failed at number of_partner) refl c)
 sender_number_is index i (OutputTurn output written discarded failed) c = absurd (comes_of index i (OutputTurn output written discarded failed) refl c)
 sender_number_is index i End c = absurd (comes_of index i End refl c)
 

@@ -18,7 +18,7 @@ use Rattle.partition_table.proofs.Looks.{known_changed, known_crossed, knowns_ch
 use Rattle.transitions.specs.CommandResults.{bad_name}
 use Rattle.transitions.specs.Transitions.{TransitionData, acts, crosses, enters, or_ended, transition_by}
 use Rattle.transitions.specs.declared.asked.Asked.{Asked}
-use Rattle.transitions.specs.declared.asked.Stand.{Stand}
+use Rattle.transitions.specs.declared.asked.ListPlace.{ListPlace}
 use Rattle.transitions.specs.declared.shelf_calls.StoreReply.{StoreReply}
 use Rattle.partition_commands.specs.Partitions.{Seated, begins, brings, by_name, done, ends, goes, is_in, is_partition_name, is_used, moves, output_named, outputs_elsewhere, planned, refused}
 use Rattle.player_events.specs.declared.event.Event.{Event}
@@ -123,32 +123,32 @@ module _ (fs : List Known) (ks : List Seated) (openings : OpeningsData) (asked :
 abbrev IsSafeOf : Overview → TransitionData → Type 0
 IsSafeOf o t = IsSafe o.parts t.effect t.crossing
 
-safe_line : (o : Overview) (part : Option Part) (library : Library) (client : Option Client) (stand : Stand) (request : Request) (heard : StoreReply)
-    → IsSafeOf o (written_transition stand request heard.refused (transition_line o part library client stand request heard.read))
-safe_line o part library None stand request heard = tt
-safe_line o None library (Some k) stand request heard =
-    let t : TransitionData = written_transition stand request heard.refused (transition_line o None library (Some k) stand request heard.read) in
-    elim (line_nowhere o library k stand heard.read request heard.refused) [ inl a ↦ subst (IsSafe o.parts t.effect) (sym a.0) tt | inr w ↦ subst (IsSafeOf o) (sym w.2) tt ]
-safe_line o (Some p) library (Some k) stand request heard =
-    let t : TransitionData = written_transition stand request heard.refused (transition_line o (Some p) library (Some k) stand request heard.read) in
-    elim (line_kind o library k p stand heard.read request heard.refused) [
+safe_line : (o : Overview) (part : Option Part) (library : Library) (client : Option Client) (list_place : ListPlace) (request : Request) (heard : StoreReply)
+    → IsSafeOf o (written_transition list_place request heard.refused (transition_line o part library client list_place request heard.read))
+safe_line o part library None list_place request heard = tt
+safe_line o None library (Some k) list_place request heard =
+    let t : TransitionData = written_transition list_place request heard.refused (transition_line o None library (Some k) list_place request heard.read) in
+    elim (line_nowhere o library k list_place heard.read request heard.refused) [ inl a ↦ subst (IsSafe o.parts t.effect) (sym a.0) tt | inr w ↦ subst (IsSafeOf o) (sym w.2) tt ]
+safe_line o (Some p) library (Some k) list_place request heard =
+    let t : TransitionData = written_transition list_place request heard.refused (transition_line o (Some p) library (Some k) list_place request heard.read) in
+    elim (line_kind o library k p list_place heard.read request heard.refused) [
       | inl a ↦ subst (IsSafe o.parts t.effect) (sym a.0) tt
       | inr (inl w) ↦ subst (IsSafeOf o) (sym w.2) tt
-      | inr (inr q) ↦ subst (IsSafeOf o) (sym q.3) (safe o.parts o.clients o.openings (asked_by k q.0 stand) p.index q.1)
+      | inr (inr q) ↦ subst (IsSafeOf o) (sym q.3) (safe o.parts o.clients o.openings (asked_by k q.0 list_place) p.index q.1)
     ]
 
 safe_of : (o : Overview) (part : Option Part) (library : Library) (client : Option Client) (event : Event) → IsSafeOf o (transition_of o part library client event)
 safe_of o part library client (Connect number) = tt
 safe_of o part library client (Disconnect number) = tt
-safe_of o part library client (Line number stand request heard) = safe_line o part library client stand request heard
+safe_of o part library client (Line number list_place request heard) = safe_line o part library client list_place request heard
 safe_of o part library client ScanQuestion = tt
 safe_of o part library client (ScanResult songs second) = tt
 safe_of o None library client (Want at owes) = tt
 safe_of o (Some part) library client (Want at owes) = tt
 safe_of o None library client (Have at number frames) = tt
 safe_of o (Some part) library client (Have at number frames) = tt
-safe_of o None library client (Failed at number partner) = tt
-safe_of o (Some part) library client (Failed at number partner) = tt
+safe_of o None library client (Failed at number of_partner) = tt
+safe_of o (Some part) library client (Failed at number of_partner) = tt
 safe_of o None library client (OutputTurn output written discarded failed) = tt
 safe_of o (Some part) library client (OutputTurn output written discarded failed) =
     elim (is_output part.outputs output) as (λ b. IsSafeOf o (or_ended o.ended (if b then acts (Settles output written discarded failed) else absent))) [ true ↦ tt | false ↦ tt ]

@@ -25,13 +25,13 @@ use Rattle.partition_table.specs.Openings.{OpeningsData}
 use Rattle.partition_table.specs.Parts.{Known, free_index, holder, named, opening_part, report_in, shown_outputs}
 use Rattle.partition_table.specs.declared.crossing.Crossing.{Crossing}
 use Rattle.partition_table.specs.declared.crossing.Crossing.TheVariants.{Stays, Opens, Closes, Brings}
-use Rattle.transitions.specs.Answers.{Answer, ResponseData, closes, refused_by_shelf, refuses, refuses_command, shut, stays, succeeds, tells}
+use Rattle.transitions.specs.Answers.{Answer, ResponseData, closes, refused_by_shelf, refuses, refuses_command, disconnects, stays, succeeds, tells}
 use Rattle.transitions.specs.CommandResults.{bad_name, only}
 use Rattle.transitions.specs.Shelves.{is_written}
 use Rattle.transitions.specs.Transitions.{CommandResult, TransitionData, acts, crosses, departs, enters, no_response, or_ended, quiet, transition_by}
 use Rattle.transitions.specs.declared.asked.Asked.{Asked}
-use Rattle.transitions.specs.declared.asked.Stand.{Stand}
-use Rattle.transitions.specs.declared.asked.Stand.TheVariants.{Alone, InList}
+use Rattle.transitions.specs.declared.asked.ListPlace.{ListPlace}
+use Rattle.transitions.specs.declared.asked.ListPlace.TheVariants.{Alone, InList}
 use Rattle.transitions.specs.declared.reply.Move.{Move}
 use Rattle.transitions.specs.declared.reply.Move.TheVariants.{Stay, Wait, Resume}
 use Rattle.transitions.specs.declared.shelf_calls.Read.{Read}
@@ -103,7 +103,7 @@ module _ (fs : List Known) (ks : List Seated) (openings : OpeningsData) (asked :
   plain_refused number text = plain_only (refuses_command asked number text)
 
   plain_done : Plain (done asked)
-  plain_done = plain_only (succeeds asked.stand (codes ""))
+  plain_done = plain_only (succeeds asked.list_place (codes ""))
 
   plain_crosses : (crossing : Crossing) → IsProper openings own crossing → Plain (crosses asked crossing)
   plain_crosses crossing proper = record { proper = proper; unwritten = refl; calm = tt; silent = silent_rests }
@@ -148,7 +148,7 @@ module _ (fs : List Known) (ks : List Seated) (openings : OpeningsData) (asked :
   pub plain : (it : PartitionCommand) → Plain (planned fs ks openings asked own it)
   unfolding planned
   plain (DelPartition name) = plain_named name (ends fs ks asked (named name fs)) (plain_ends (named name fs))
-  plain ListPartitions = plain_only (succeeds asked.stand (lines_of_names (names_in fs)))
+  plain ListPartitions = plain_only (succeeds asked.list_place (lines_of_names (names_in fs)))
   plain (MoveOutput name) = plain_moves (output_named name fs)
   plain (NewPartition name) =
       let there : Bool = is_some (named name fs) in
@@ -159,12 +159,12 @@ module _ (fs : List Known) (ks : List Seated) (openings : OpeningsData) (asked :
   plain (Partition name) = plain_named name (goes asked own (named name fs)) (plain_goes (named name fs))
 
 -- of who asks, these commands read the number alone, and how the line comes
-module _ (fs : List Known) (ks : List Seated) (openings : OpeningsData) (client : ℕ) (name : Name) (stand : Stand) (x y : List TagName) (own : ℕ) where
+module _ (fs : List Known) (ks : List Seated) (openings : OpeningsData) (client : ℕ) (name : Name) (list_place : ListPlace) (x y : List TagName) (own : ℕ) where
   abbrev one : Asked
-  one = record { client = client; tags = x; name = name; stand = stand }
+  one = record { client = client; tags = x; name = name; list_place = list_place }
 
   abbrev two : Asked
-  two = record { client = client; tags = y; name = name; stand = stand }
+  two = record { client = client; tags = y; name = name; list_place = list_place }
 
   ends_same : (o : Option ℕ) → ends fs ks one o ≡ ends fs ks two o
   ends_same None = refl
@@ -197,110 +197,110 @@ module _ (fs : List Known) (ks : List Seated) (openings : OpeningsData) (client 
       ap (λ (t : TransitionData). if is_partition_name of then (if there then refused one Exist (codes "partition exists") else t) else transition_by (bad_name one of)) (begins_same of at)
   planned_same (Partition of) = ap (λ (t : TransitionData). if is_partition_name of then t else transition_by (bad_name one of)) (goes_same (named of fs))
 
-pub planned_alike : (fs : List Known) (ks : List Seated) (openings : OpeningsData) (k l : Client) (name : Name) (stand : Stand) (own : ℕ) (it : PartitionCommand)
-    → k.number ≡ l.number → planned fs ks openings (asked_by k name stand) own it ≡ planned fs ks openings (asked_by l name stand) own it
-planned_alike fs ks openings k l name stand own it e =
-    ap (λ n. planned fs ks openings (record { client = n; tags = k.tags; name = name; stand = stand }) own it) e
-    ∙ planned_same fs ks openings l.number name stand k.tags l.tags own it
+pub planned_alike : (fs : List Known) (ks : List Seated) (openings : OpeningsData) (k l : Client) (name : Name) (list_place : ListPlace) (own : ℕ) (it : PartitionCommand)
+    → k.number ≡ l.number → planned fs ks openings (asked_by k name list_place) own it ≡ planned fs ks openings (asked_by l name list_place) own it
+planned_alike fs ks openings k l name list_place own it e =
+    ap (λ n. planned fs ks openings (record { client = n; tags = k.tags; name = name; list_place = list_place }) own it) e
+    ∙ planned_same fs ks openings l.number name list_place k.tags l.tags own it
 
 -- an answer and nothing that passes between partitions
 abbrev pub Answers : TransitionData → Type 0
 Answers t = (t.crossing ≡ Stays) × (move_of t.response ≡ Stay)
 
 -- a wish of the client
-abbrev pub Wishes : Client → Stand → TransitionData → Type 0
-Wishes k stand t = (name : Name) × (wish : Wish) × (t ≡ quiet (wished (asked_by k name stand) k wish))
+abbrev pub Wishes : Client → ListPlace → TransitionData → Type 0
+Wishes k list_place t = (name : Name) × (wish : Wish) × (t ≡ quiet (wished (asked_by k name list_place) k wish))
 
 -- one of the five commands of partitions
-abbrev pub Plans : Overview → Client → Part → Stand → Request → TransitionData → Type 0
-Plans o k part stand request t =
-    (name : Name) × (it : PartitionCommand) × (request ≡ Run name (command.Partitions it)) × (t ≡ planned o.parts o.clients o.openings (asked_by k name stand) part.index it)
+abbrev pub Plans : Overview → Client → Part → ListPlace → Request → TransitionData → Type 0
+Plans o k part list_place request t =
+    (name : Name) × (it : PartitionCommand) × (request ≡ Run name (command.Partitions it)) × (t ≡ planned o.parts o.clients o.openings (asked_by k name list_place) part.index it)
 
 -- a line of a client that is there, in a partition that is
-module _ (o : Overview) (library : Library) (k : Client) (part : Part) (stand : Stand) (read : Read) where
+module _ (o : Overview) (library : Library) (k : Client) (part : Part) (list_place : ListPlace) (read : Read) where
   abbrev pub Kind : Request → TransitionData → Type 0
-  Kind request t = Answers t ⊎ (Wishes k stand t ⊎ Plans o k part stand request t)
+  Kind request t = Answers t ⊎ (Wishes k list_place t ⊎ Plans o k part list_place request t)
 
   by_result : (r : CommandResult) → Answers (transition_by r)
   by_result r = (refl, stays_put r.answer)
 
-  run_kind : (name : Name) (c : Command) → Kind (Run name c) (transition_run o (asked_by k name stand) part library read c)
-  run_kind name (command.Status it) = inl (by_result (status_result (asked_by k name stand) part library it))
-  run_kind name (command.Options it) = inl (by_result (options_result (asked_by k name stand) part it))
-  run_kind name (command.Playback it) = inl (by_result (playback_result (asked_by k name stand) part library it))
-  run_kind name (command.Queue it) = inl (by_result (queue_result (asked_by k name stand) part library it))
-  run_kind name (command.Playlists it) = inl (by_result (playlists_result (asked_by k name stand) part library read it))
-  run_kind name (command.Database it) = inl (by_result (database_result (asked_by k name stand) part library read it))
-  run_kind name (command.Stickers it) = inl (by_result (stickers_result (asked_by k name stand) library read it))
-  run_kind name (command.Connection it) = inl (by_result (connection_result (asked_by k name stand) it))
-  run_kind name (command.Outputs it) = inl (by_result (outputs_result (asked_by k name stand) part it))
-  run_kind name (command.Messages it) = inl (by_result (messages_result (asked_by k name stand) part it))
+  run_kind : (name : Name) (c : Command) → Kind (Run name c) (transition_run o (asked_by k name list_place) part library read c)
+  run_kind name (command.Status it) = inl (by_result (status_result (asked_by k name list_place) part library it))
+  run_kind name (command.Options it) = inl (by_result (options_result (asked_by k name list_place) part it))
+  run_kind name (command.Playback it) = inl (by_result (playback_result (asked_by k name list_place) part library it))
+  run_kind name (command.Queue it) = inl (by_result (queue_result (asked_by k name list_place) part library it))
+  run_kind name (command.Playlists it) = inl (by_result (playlists_result (asked_by k name list_place) part library read it))
+  run_kind name (command.Database it) = inl (by_result (database_result (asked_by k name list_place) part library read it))
+  run_kind name (command.Stickers it) = inl (by_result (stickers_result (asked_by k name list_place) library read it))
+  run_kind name (command.Connection it) = inl (by_result (connection_result (asked_by k name list_place) it))
+  run_kind name (command.Outputs it) = inl (by_result (outputs_result (asked_by k name list_place) part it))
+  run_kind name (command.Messages it) = inl (by_result (messages_result (asked_by k name list_place) part it))
   run_kind name (command.Partitions it) = inr (inr (name, it, refl, refl))
 
-  wished_kind : (name : Name) (c : Command) (w : Option Wish) → Kind (Run name c) (transition_wished (asked_by k name stand) k (transition_there o (asked_by k name stand) (Some part) library read c) w)
+  wished_kind : (name : Name) (c : Command) (w : Option Wish) → Kind (Run name c) (transition_wished (asked_by k name list_place) k (transition_there o (asked_by k name list_place) (Some part) library read c) w)
   wished_kind name c None = run_kind name c
   wished_kind name c (Some wish) = inr (inl (name, wish, refl))
 
-  request_kind : (request : Request) → Kind request (transition_request o (Some part) library k stand request read)
+  request_kind : (request : Request) → Kind request (transition_request o (Some part) library k list_place request read)
   request_kind (Run name c) = wished_kind name c (wish_of c)
-  request_kind (Refused ack) = inl (refl, stays_put (refuses stand ack.command ack.number ack.text))
+  request_kind (Refused ack) = inl (refl, stays_put (refuses list_place ack.command ack.number ack.text))
 
-  in_kind : (request : Request) → Kind request (transition_line o (Some part) library (Some k) stand request read)
+  in_kind : (request : Request) → Kind request (transition_line o (Some part) library (Some k) list_place request read)
   in_kind request =
-      let line : TransitionData = transition_request o (Some part) library k stand request read in
-      elim (is_some k.pending.waiting && not (ends_waiting stand request)) as (λ b. Kind request (if b then departs k.number else line))
+      let line : TransitionData = transition_request o (Some part) library k list_place request read in
+      elim (is_some k.pending.waiting && not (ends_waiting list_place request)) as (λ b. Kind request (if b then departs k.number else line))
       [ true ↦ inl (refl, refl) | false ↦ request_kind request ]
 
-  written_answers : (request : Request) (fault : Option ShelfFault) (t : TransitionData) → Answers t → Answers (written_transition stand request fault t)
+  written_answers : (request : Request) (fault : Option ShelfFault) (t : TransitionData) → Answers t → Answers (written_transition list_place request fault t)
   written_answers request fault t a =
-      elim (is_written t.written) as (λ b. Answers (if b then once_written stand request fault t else t)) [
-        | true ↦ elim fault as (λ f. Answers (once_written stand request f t)) [ None ↦ (refl, a.1) | Some f ↦ (refl, stays_put (refused_by_shelf stand (name_of request) f)) ]
+      elim (is_written t.written) as (λ b. Answers (if b then once_written list_place request fault t else t)) [
+        | true ↦ elim fault as (λ f. Answers (once_written list_place request f t)) [ None ↦ (refl, a.1) | Some f ↦ (refl, stays_put (refused_by_shelf list_place (name_of request) f)) ]
         | false ↦ a
       ]
 
-  written_kind : (request : Request) (fault : Option ShelfFault) (t : TransitionData) → Kind request t → Kind request (written_transition stand request fault t)
+  written_kind : (request : Request) (fault : Option ShelfFault) (t : TransitionData) → Kind request t → Kind request (written_transition list_place request fault t)
   written_kind request fault t (inl a) = inl (written_answers request fault t a)
-  written_kind request fault t (inr (inl w)) = inr (inl (w.0, w.1, ap (written_transition stand request fault) w.2))
+  written_kind request fault t (inr (inl w)) = inr (inl (w.0, w.1, ap (written_transition list_place request fault) w.2))
   written_kind request fault t (inr (inr p)) =
-      let u : TransitionData = planned o.parts o.clients o.openings (asked_by k p.0 stand) part.index p.1 in
-      let unwritten : is_written u.written ≡ false = (plain o.parts o.clients o.openings (asked_by k p.0 stand) part.index p.1).unwritten in
-      inr (inr (p.0, p.1, p.2, ap (written_transition stand request fault) p.3 ∙ ap (λ b. if b then once_written stand request fault u else u) unwritten))
+      let u : TransitionData = planned o.parts o.clients o.openings (asked_by k p.0 list_place) part.index p.1 in
+      let unwritten : is_written u.written ≡ false = (plain o.parts o.clients o.openings (asked_by k p.0 list_place) part.index p.1).unwritten in
+      inr (inr (p.0, p.1, p.2, ap (written_transition list_place request fault) p.3 ∙ ap (λ b. if b then once_written list_place request fault u else u) unwritten))
 
-  pub line_kind : (request : Request) (fault : Option ShelfFault) → Kind request (written_transition stand request fault (transition_line o (Some part) library (Some k) stand request read))
-  line_kind request fault = written_kind request fault (transition_line o (Some part) library (Some k) stand request read) (in_kind request)
+  pub line_kind : (request : Request) (fault : Option ShelfFault) → Kind request (written_transition list_place request fault (transition_line o (Some part) library (Some k) list_place request read))
+  line_kind request fault = written_kind request fault (transition_line o (Some part) library (Some k) list_place request read) (in_kind request)
 
 -- a line of a client that is there, whose partition is not
-module _ (o : Overview) (library : Library) (k : Client) (stand : Stand) (read : Read) where
+module _ (o : Overview) (library : Library) (k : Client) (list_place : ListPlace) (read : Read) where
   abbrev pub Nowhere : TransitionData → Type 0
-  Nowhere t = Answers t ⊎ Wishes k stand t
+  Nowhere t = Answers t ⊎ Wishes k list_place t
 
-  wished_nowhere : (name : Name) (w : Option Wish) → Nowhere (transition_wished (asked_by k name stand) k (quiet (stays shut)) w)
-  wished_nowhere name None = inl (refl, stays_put shut)
+  wished_nowhere : (name : Name) (w : Option Wish) → Nowhere (transition_wished (asked_by k name list_place) k (quiet (stays disconnects)) w)
+  wished_nowhere name None = inl (refl, stays_put disconnects)
   wished_nowhere name (Some wish) = inr (name, wish, refl)
 
-  request_nowhere : (request : Request) → Nowhere (transition_request o None library k stand request read)
+  request_nowhere : (request : Request) → Nowhere (transition_request o None library k list_place request read)
   request_nowhere (Run name c) = wished_nowhere name (wish_of c)
-  request_nowhere (Refused ack) = inl (refl, stays_put (refuses stand ack.command ack.number ack.text))
+  request_nowhere (Refused ack) = inl (refl, stays_put (refuses list_place ack.command ack.number ack.text))
 
-  in_nowhere : (request : Request) → Nowhere (transition_line o None library (Some k) stand request read)
+  in_nowhere : (request : Request) → Nowhere (transition_line o None library (Some k) list_place request read)
   in_nowhere request =
-      let line : TransitionData = transition_request o None library k stand request read in
-      elim (is_some k.pending.waiting && not (ends_waiting stand request)) as (λ b. Nowhere (if b then departs k.number else line))
+      let line : TransitionData = transition_request o None library k list_place request read in
+      elim (is_some k.pending.waiting && not (ends_waiting list_place request)) as (λ b. Nowhere (if b then departs k.number else line))
       [ true ↦ inl (refl, refl) | false ↦ request_nowhere request ]
 
-  answers_nowhere : (request : Request) (fault : Option ShelfFault) (t : TransitionData) → Answers t → Answers (written_transition stand request fault t)
+  answers_nowhere : (request : Request) (fault : Option ShelfFault) (t : TransitionData) → Answers t → Answers (written_transition list_place request fault t)
   answers_nowhere request fault t a =
-      elim (is_written t.written) as (λ b. Answers (if b then once_written stand request fault t else t)) [
-        | true ↦ elim fault as (λ f. Answers (once_written stand request f t)) [ None ↦ (refl, a.1) | Some f ↦ (refl, stays_put (refused_by_shelf stand (name_of request) f)) ]
+      elim (is_written t.written) as (λ b. Answers (if b then once_written list_place request fault t else t)) [
+        | true ↦ elim fault as (λ f. Answers (once_written list_place request f t)) [ None ↦ (refl, a.1) | Some f ↦ (refl, stays_put (refused_by_shelf list_place (name_of request) f)) ]
         | false ↦ a
       ]
 
-  written_nowhere : (request : Request) (fault : Option ShelfFault) (t : TransitionData) → Nowhere t → Nowhere (written_transition stand request fault t)
+  written_nowhere : (request : Request) (fault : Option ShelfFault) (t : TransitionData) → Nowhere t → Nowhere (written_transition list_place request fault t)
   written_nowhere request fault t (inl a) = inl (answers_nowhere request fault t a)
-  written_nowhere request fault t (inr w) = inr (w.0, w.1, ap (written_transition stand request fault) w.2)
+  written_nowhere request fault t (inr w) = inr (w.0, w.1, ap (written_transition list_place request fault) w.2)
 
-  pub line_nowhere : (request : Request) (fault : Option ShelfFault) → Nowhere (written_transition stand request fault (transition_line o None library (Some k) stand request read))
-  line_nowhere request fault = written_nowhere request fault (transition_line o None library (Some k) stand request read) (in_nowhere request)
+  pub line_nowhere : (request : Request) (fault : Option ShelfFault) → Nowhere (written_transition list_place request fault (transition_line o None library (Some k) list_place request read))
+  line_nowhere request fault = written_nowhere request fault (transition_line o None library (Some k) list_place request read) (in_nowhere request)
 
 -- a wish leads to no other partition
 idles_comes : (index : ℕ) (named : Subsystems) (o : Option Subsystems) → comes_to index (move_of (idles named o)) ≡ false
@@ -312,7 +312,7 @@ resumes_comes index k =
     elim (is_some k.pending.waiting) as (λ b. comes_to index (move_of (if b then record { answer = tells (codes "OK\n"); move = Resume } else stays (tells (codes "")))) ≡ false)
     [ true ↦ refl | false ↦ refl ]
 
-wish_comes : (index : ℕ) (k : Client) (name : Name) (stand : Stand) (wish : Wish) → comes_to index (move_of (wished (asked_by k name stand) k wish)) ≡ false
+wish_comes : (index : ℕ) (k : Client) (name : Name) (list_place : ListPlace) (wish : Wish) → comes_to index (move_of (wished (asked_by k name list_place) k wish)) ≡ false
 wish_comes index k name Alone (ToWait names) = idles_comes index names (notice_of (waits names k.pending))
 wish_comes index k name Alone ToGoOn = resumes_comes index k
 wish_comes index k name Alone (ToShow choice) = refl
@@ -325,7 +325,7 @@ unreached index fs t stays comes =
     ap (λ b. b || passes index fs t.crossing) comes ∙ ap (passes index fs) stays
 
 -- a line that reaches a partition is one of the five commands
-pub record Reached (o : Overview) (stand : Stand) (request : Request) (part : Option Part) (client : Option Client) (t : TransitionData) : Type 0 where
+pub record Reached (o : Overview) (list_place : ListPlace) (request : Request) (part : Option Part) (client : Option Client) (t : TransitionData) : Type 0 where
   pub k : Client
   pub p : Part
   pub name : Name
@@ -333,48 +333,48 @@ pub record Reached (o : Overview) (stand : Stand) (request : Request) (part : Op
   pub client_is : client ≡ Some k
   pub part_is : part ≡ Some p
   pub request_is : request ≡ Run name (command.Partitions it)
-  pub is : t ≡ planned o.parts o.clients o.openings (asked_by k name stand) p.index it
+  pub is : t ≡ planned o.parts o.clients o.openings (asked_by k name list_place) p.index it
 
-pub reached : (index : ℕ) (o : Overview) (library : Library) (part : Option Part) (client : Option Client) (stand : Stand) (request : Request) (heard : StoreReply)
-    → reaches index o.parts (written_transition stand request heard.refused (transition_line o part library client stand request heard.read)) ≡ true
-    → Reached o stand request part client (written_transition stand request heard.refused (transition_line o part library client stand request heard.read))
-reached index o library part None stand request heard r = cc
-reached index o library None (Some k) stand request heard r =
-    let t : TransitionData = written_transition stand request heard.refused (transition_line o None library (Some k) stand request heard.read) in
-    let R : Type 0 = Reached o stand request None (Some k) t in
+pub reached : (index : ℕ) (o : Overview) (library : Library) (part : Option Part) (client : Option Client) (list_place : ListPlace) (request : Request) (heard : StoreReply)
+    → reaches index o.parts (written_transition list_place request heard.refused (transition_line o part library client list_place request heard.read)) ≡ true
+    → Reached o list_place request part client (written_transition list_place request heard.refused (transition_line o part library client list_place request heard.read))
+reached index o library part None list_place request heard r = cc
+reached index o library None (Some k) list_place request heard r =
+    let t : TransitionData = written_transition list_place request heard.refused (transition_line o None library (Some k) list_place request heard.read) in
+    let R : Type 0 = Reached o list_place request None (Some k) t in
     let none : reaches index o.parts t ≡ false → R = λ e. (let clash : true ≡ false = sym r ∙ e in cc) in
-    elim (line_nowhere o library k stand heard.read request heard.refused) [
+    elim (line_nowhere o library k list_place heard.read request heard.refused) [
       | inl a ↦ none (unreached index o.parts t a.0 (ap (comes_to index) a.1))
-      | inr w ↦ none (unreached index o.parts t (ap (λ (u : TransitionData). u.crossing) w.2) (ap (λ (u : TransitionData). comes_to index (move_of u.response)) w.2 ∙ wish_comes index k w.0 stand w.1))
+      | inr w ↦ none (unreached index o.parts t (ap (λ (u : TransitionData). u.crossing) w.2) (ap (λ (u : TransitionData). comes_to index (move_of u.response)) w.2 ∙ wish_comes index k w.0 list_place w.1))
     ]
-reached index o library (Some p) (Some k) stand request heard r =
-    let t : TransitionData = written_transition stand request heard.refused (transition_line o (Some p) library (Some k) stand request heard.read) in
-    let R : Type 0 = Reached o stand request (Some p) (Some k) t in
+reached index o library (Some p) (Some k) list_place request heard r =
+    let t : TransitionData = written_transition list_place request heard.refused (transition_line o (Some p) library (Some k) list_place request heard.read) in
+    let R : Type 0 = Reached o list_place request (Some p) (Some k) t in
     let none : reaches index o.parts t ≡ false → R = λ e. (let clash : true ≡ false = sym r ∙ e in cc) in
-    elim (line_kind o library k p stand heard.read request heard.refused) [
+    elim (line_kind o library k p list_place heard.read request heard.refused) [
       | inl a ↦ none (unreached index o.parts t a.0 (ap (comes_to index) a.1))
-      | inr (inl w) ↦ none (unreached index o.parts t (ap (λ (u : TransitionData). u.crossing) w.2) (ap (λ (u : TransitionData). comes_to index (move_of u.response)) w.2 ∙ wish_comes index k w.0 stand w.1))
+      | inr (inl w) ↦ none (unreached index o.parts t (ap (λ (u : TransitionData). u.crossing) w.2) (ap (λ (u : TransitionData). comes_to index (move_of u.response)) w.2 ∙ wish_comes index k w.0 list_place w.1))
       | inr (inr q) ↦ record { k = k; p = p; name = q.0; it = q.1; client_is = refl; part_is = refl; request_is = q.2; is = q.3 }
     ]
 
 -- events that are no line reach no other partition
 pub others_stay : (index : ℕ) (o : Overview) (part : Option Part) (library : Library) (client : Option Client) (event : Event)
-    → ((number : ℕ) (stand : Stand) (request : Request) (heard : StoreReply) → event ≡ Line number stand request heard → ⊥)
+    → ((number : ℕ) (list_place : ListPlace) (request : Request) (heard : StoreReply) → event ≡ Line number list_place request heard → ⊥)
     → reaches index o.parts (transition_of o part library client event) ≡ false
 others_stay index o part library (Some k) (Connect number) unlined = refl
 others_stay index o part library None (Connect number) unlined =
     let full : Bool = nat_le 64 (length o.clients) in
-    elim full as (λ b. reaches index o.parts (quiet (if b then stays shut else greeting)) ≡ false) [ true ↦ refl | false ↦ refl ]
+    elim full as (λ b. reaches index o.parts (quiet (if b then stays disconnects else greeting)) ≡ false) [ true ↦ refl | false ↦ refl ]
 others_stay index o part library client (Disconnect number) unlined = refl
-others_stay index o part library client (Line number stand request heard) unlined = absurd (unlined number stand request heard refl)
+others_stay index o part library client (Line number list_place request heard) unlined = absurd (unlined number list_place request heard refl)
 others_stay index o part library client ScanQuestion unlined = refl
 others_stay index o part library client (ScanResult songs second) unlined = refl
 others_stay index o None library client (Want at owes) unlined = refl
 others_stay index o (Some part) library client (Want at owes) unlined = refl
 others_stay index o None library client (Have at number frames) unlined = refl
 others_stay index o (Some part) library client (Have at number frames) unlined = refl
-others_stay index o None library client (Failed at number partner) unlined = refl
-others_stay index o (Some part) library client (Failed at number partner) unlined = refl
+others_stay index o None library client (Failed at number of_partner) unlined = refl
+others_stay index o (Some part) library client (Failed at number of_partner) unlined = refl
 others_stay index o None library client (OutputTurn output written discarded failed) unlined = refl
 others_stay index o (Some part) library client (OutputTurn output written discarded failed) unlined =
     elim (is_output part.outputs output) as (λ b. reaches index o.parts (or_ended o.ended (if b then acts (Settles output written discarded failed) else absent)) ≡ false) [ true ↦ refl | false ↦ refl ]
@@ -384,38 +384,38 @@ others_stay index o part library client End unlined = refl
 pub speechless : (o : Overview) (part : Option Part) (library : Library) (client : Option Client) (event : Event) → sender event ≡ None → (transition_of o part library client event).response ≡ no_response
 speechless o part library client (Connect number) e = cc
 speechless o part library client (Disconnect number) e = cc
-speechless o part library client (Line number stand request heard) e = cc
+speechless o part library client (Line number list_place request heard) e = cc
 speechless o part library client ScanQuestion e = refl
 speechless o part library client (ScanResult songs second) e = refl
 speechless o None library client (Want at owes) e = refl
 speechless o (Some part) library client (Want at owes) e = refl
 speechless o None library client (Have at number frames) e = refl
 speechless o (Some part) library client (Have at number frames) e = refl
-speechless o None library client (Failed at number partner) e = refl
-speechless o (Some part) library client (Failed at number partner) e = refl
+speechless o None library client (Failed at number of_partner) e = refl
+speechless o (Some part) library client (Failed at number of_partner) e = refl
 speechless o None library client (OutputTurn output written discarded failed) e = refl
 speechless o (Some part) library client (OutputTurn output written discarded failed) e =
     elim (is_output part.outputs output) as (λ b. (or_ended o.ended (if b then acts (Settles output written discarded failed) else absent)).response ≡ no_response) [ true ↦ refl | false ↦ refl ]
 speechless o part library client End e = refl
 
 -- what passes between partitions is proper
-proper_line : (o : Overview) (part : Option Part) (library : Library) (client : Option Client) (own : ℕ) (stand : Stand) (request : Request) (heard : StoreReply)
+proper_line : (o : Overview) (part : Option Part) (library : Library) (client : Option Client) (own : ℕ) (list_place : ListPlace) (request : Request) (heard : StoreReply)
     → ((p : Part) → part ≡ Some p → p.index ≡ own)
-    → IsProper o.openings own (written_transition stand request heard.refused (transition_line o part library client stand request heard.read)).crossing
-proper_line o part library None own stand request heard has = tt
-proper_line o None library (Some k) own stand request heard has =
-    let t : TransitionData = written_transition stand request heard.refused (transition_line o None library (Some k) stand request heard.read) in
+    → IsProper o.openings own (written_transition list_place request heard.refused (transition_line o part library client list_place request heard.read)).crossing
+proper_line o part library None own list_place request heard has = tt
+proper_line o None library (Some k) own list_place request heard has =
+    let t : TransitionData = written_transition list_place request heard.refused (transition_line o None library (Some k) list_place request heard.read) in
     let by : t.crossing ≡ Stays → IsProper o.openings own t.crossing = λ e. subst (IsProper o.openings own) (sym e) tt in
-    elim (line_nowhere o library k stand heard.read request heard.refused) [ inl a ↦ by a.0 | inr w ↦ by (ap (λ (u : TransitionData). u.crossing) w.2) ]
-proper_line o (Some p) library (Some k) own stand request heard has =
-    let t : TransitionData = written_transition stand request heard.refused (transition_line o (Some p) library (Some k) stand request heard.read) in
+    elim (line_nowhere o library k list_place heard.read request heard.refused) [ inl a ↦ by a.0 | inr w ↦ by (ap (λ (u : TransitionData). u.crossing) w.2) ]
+proper_line o (Some p) library (Some k) own list_place request heard has =
+    let t : TransitionData = written_transition list_place request heard.refused (transition_line o (Some p) library (Some k) list_place request heard.read) in
     let by : (c : Crossing) → t.crossing ≡ c → IsProper o.openings own c → IsProper o.openings own t.crossing = λ c e proper. subst (IsProper o.openings own) (sym e) proper in
-    elim (line_kind o library k p stand heard.read request heard.refused) [
+    elim (line_kind o library k p list_place heard.read request heard.refused) [
       | inl a ↦ by Stays a.0 tt
       | inr (inl w) ↦ by Stays (ap (λ (u : TransitionData). u.crossing) w.2) tt
       | inr (inr q) ↦ (
-          let u : TransitionData = planned o.parts o.clients o.openings (asked_by k q.0 stand) p.index q.1 in
-          let proper : IsProper o.openings p.index u.crossing = (plain o.parts o.clients o.openings (asked_by k q.0 stand) p.index q.1).proper in
+          let u : TransitionData = planned o.parts o.clients o.openings (asked_by k q.0 list_place) p.index q.1 in
+          let proper : IsProper o.openings p.index u.crossing = (plain o.parts o.clients o.openings (asked_by k q.0 list_place) p.index q.1).proper in
           by u.crossing (ap (λ (u : TransitionData). u.crossing) q.3) (subst (λ n. IsProper o.openings n u.crossing) (has p refl) proper)
           )
     ]
@@ -424,15 +424,15 @@ pub proper : (o : Overview) (part : Option Part) (library : Library) (client : O
     → IsProper o.openings own (transition_of o part library client event).crossing
 proper o part library client own (Connect number) has = tt
 proper o part library client own (Disconnect number) has = tt
-proper o part library client own (Line number stand request heard) has = proper_line o part library client own stand request heard has
+proper o part library client own (Line number list_place request heard) has = proper_line o part library client own list_place request heard has
 proper o part library client own ScanQuestion has = tt
 proper o part library client own (ScanResult songs second) has = tt
 proper o None library client own (Want at owes) has = tt
 proper o (Some part) library client own (Want at owes) has = tt
 proper o None library client own (Have at number frames) has = tt
 proper o (Some part) library client own (Have at number frames) has = tt
-proper o None library client own (Failed at number partner) has = tt
-proper o (Some part) library client own (Failed at number partner) has = tt
+proper o None library client own (Failed at number of_partner) has = tt
+proper o (Some part) library client own (Failed at number of_partner) has = tt
 proper o None library client own (OutputTurn output written discarded failed) has = tt
 proper o (Some part) library client own (OutputTurn output written discarded failed) has =
     elim (is_output part.outputs output) as (λ b. IsProper o.openings own (or_ended o.ended (if b then acts (Settles output written discarded failed) else absent)).crossing) [ true ↦ tt | false ↦ tt ]
@@ -443,12 +443,12 @@ pub free : (o : Overview) (part : Option Part) (library : Library) (client : Opt
     → ((transition_of o part library client event).crossing ≡ Stays) × ((transition_of o part library client event).effect ≡ ByCommand Rests)
 free o part library client (Connect number) e = cc
 free o part library client (Disconnect number) e = cc
-free o part library client (Line number stand request heard) e = cc
+free o part library client (Line number list_place request heard) e = cc
 free o part library client ScanQuestion e = (refl, refl)
 free o part library client (ScanResult songs second) e = (refl, refl)
 free o part library client (Want at owes) e = cc
 free o part library client (Have at number frames) e = cc
-free o part library client (Failed at number partner) e = cc
+free o part library client (Failed at number of_partner) e = cc
 free o part library client (OutputTurn output written discarded failed) e = cc
 free o part library client End e = (refl, refl)
 
@@ -456,7 +456,7 @@ free o part library client End e = (refl, refl)
 abbrev pub Idles : Option Client → TransitionData → Type 0
 Idles client t = (k : Client) × (names : Subsystems) × (client ≡ Some k) × (t ≡ quiet (idles names (notice_of (waits names k.pending))))
 
-calm_wish : (k : Client) (name : Name) (stand : Stand) (wish : Wish) (t : TransitionData) → t ≡ quiet (wished (asked_by k name stand) k wish) → IsCalm (move_of t.response) ⊎ Idles (Some k) t
+calm_wish : (k : Client) (name : Name) (list_place : ListPlace) (wish : Wish) (t : TransitionData) → t ≡ quiet (wished (asked_by k name list_place) k wish) → IsCalm (move_of t.response) ⊎ Idles (Some k) t
 calm_wish k name Alone (ToWait names) t e = inr (k, names, refl, e)
 calm_wish k name Alone ToGoOn t e =
     let calm : IsCalm (move_of (resumes k)) =
@@ -467,19 +467,19 @@ calm_wish k name (InList form at) (ToWait names) t e = inl (subst (λ (u : Trans
 calm_wish k name (InList form at) ToGoOn t e = inl (subst (λ (u : TransitionData). IsCalm (move_of u.response)) (sym e) tt)
 calm_wish k name (InList form at) (ToShow choice) t e = inl (subst (λ (u : TransitionData). IsCalm (move_of u.response)) (sym e) tt)
 
-calm_line : (o : Overview) (part : Option Part) (library : Library) (client : Option Client) (stand : Stand) (request : Request) (heard : StoreReply)
-    → IsCalm (move_of (written_transition stand request heard.refused (transition_line o part library client stand request heard.read)).response)
-    ⊎ Idles client (written_transition stand request heard.refused (transition_line o part library client stand request heard.read))
-calm_line o part library None stand request heard = inl tt
-calm_line o None library (Some k) stand request heard =
-    let t : TransitionData = written_transition stand request heard.refused (transition_line o None library (Some k) stand request heard.read) in
-    elim (line_nowhere o library k stand heard.read request heard.refused) [ inl a ↦ inl (calm_stay (move_of t.response) a.1) | inr w ↦ calm_wish k w.0 stand w.1 t w.2 ]
-calm_line o (Some p) library (Some k) stand request heard =
-    let t : TransitionData = written_transition stand request heard.refused (transition_line o (Some p) library (Some k) stand request heard.read) in
-    elim (line_kind o library k p stand heard.read request heard.refused) [
+calm_line : (o : Overview) (part : Option Part) (library : Library) (client : Option Client) (list_place : ListPlace) (request : Request) (heard : StoreReply)
+    → IsCalm (move_of (written_transition list_place request heard.refused (transition_line o part library client list_place request heard.read)).response)
+    ⊎ Idles client (written_transition list_place request heard.refused (transition_line o part library client list_place request heard.read))
+calm_line o part library None list_place request heard = inl tt
+calm_line o None library (Some k) list_place request heard =
+    let t : TransitionData = written_transition list_place request heard.refused (transition_line o None library (Some k) list_place request heard.read) in
+    elim (line_nowhere o library k list_place heard.read request heard.refused) [ inl a ↦ inl (calm_stay (move_of t.response) a.1) | inr w ↦ calm_wish k w.0 list_place w.1 t w.2 ]
+calm_line o (Some p) library (Some k) list_place request heard =
+    let t : TransitionData = written_transition list_place request heard.refused (transition_line o (Some p) library (Some k) list_place request heard.read) in
+    elim (line_kind o library k p list_place heard.read request heard.refused) [
       | inl a ↦ inl (calm_stay (move_of t.response) a.1)
-      | inr (inl w) ↦ calm_wish k w.0 stand w.1 t w.2
-      | inr (inr q) ↦ inl (subst (λ (u : TransitionData). IsCalm (move_of u.response)) (sym q.3) (plain o.parts o.clients o.openings (asked_by k q.0 stand) p.index q.1).calm)
+      | inr (inl w) ↦ calm_wish k w.0 list_place w.1 t w.2
+      | inr (inr q) ↦ inl (subst (λ (u : TransitionData). IsCalm (move_of u.response)) (sym q.3) (plain o.parts o.clients o.openings (asked_by k q.0 list_place) p.index q.1).calm)
     ]
 
 calm_by : (t : TransitionData) → t.response ≡ no_response → IsCalm (move_of t.response)
@@ -489,20 +489,20 @@ pub calm_or_idles : (o : Overview) (part : Option Part) (library : Library) (cli
     → IsCalm (move_of (transition_of o part library client event).response) ⊎ Idles client (transition_of o part library client event)
 calm_or_idles o part library (Some k) (Connect number) = inl tt
 calm_or_idles o part library None (Connect number) =
-    inl (elim (nat_le 64 (length o.clients)) as (λ b. IsCalm (move_of (if b then stays shut else greeting))) [ true ↦ tt | false ↦ tt ])
+    inl (elim (nat_le 64 (length o.clients)) as (λ b. IsCalm (move_of (if b then stays disconnects else greeting))) [ true ↦ tt | false ↦ tt ])
 calm_or_idles o part library client (Disconnect number) = inl tt
-calm_or_idles o part library client (Line number stand request heard) = calm_line o part library client stand request heard
+calm_or_idles o part library client (Line number list_place request heard) = calm_line o part library client list_place request heard
 calm_or_idles o part library client ScanQuestion = inl tt
 calm_or_idles o part library client (ScanResult songs second) = inl tt
 calm_or_idles o part library client (Want at owes) = inl (calm_by (transition_of o part library client (Want at owes)) (speechless o part library client (Want at owes) refl))
 calm_or_idles o part library client (Have at number frames) = inl (calm_by (transition_of o part library client (Have at number frames)) (speechless o part library client (Have at number frames) refl))
-calm_or_idles o part library client (Failed at number partner) = inl (calm_by (transition_of o part library client (Failed at number partner)) (speechless o part library client (Failed at number partner) refl))
+calm_or_idles o part library client (Failed at number of_partner) = inl (calm_by (transition_of o part library client (Failed at number of_partner)) (speechless o part library client (Failed at number of_partner) refl))
 calm_or_idles o part library client (OutputTurn output written discarded failed) =
     inl (calm_by (transition_of o part library client (OutputTurn output written discarded failed)) (speechless o part library client (OutputTurn output written discarded failed) refl))
 calm_or_idles o part library client End = inl tt
 
 -- it reports nothing
-pub reached_silent : (o : Overview) (stand : Stand) (request : Request) (part : Option Part) (client : Option Client) (t : TransitionData) → Reached o stand request part client t
+pub reached_silent : (o : Overview) (list_place : ListPlace) (request : Request) (part : Option Part) (client : Option Client) (t : TransitionData) → Reached o list_place request part client t
     → (rate : ℕ) (own : Option Part) → report_in rate own t.effect t.report ≡ Nothing
-reached_silent o stand request part client t r rate own =
-    subst (λ (u : TransitionData). report_in rate own u.effect u.report ≡ Nothing) (sym r.is) ((plain o.parts o.clients o.openings (asked_by r.k r.name stand) r.p.index r.it).silent rate own)
+reached_silent o list_place request part client t r rate own =
+    subst (λ (u : TransitionData). report_in rate own u.effect u.report ≡ Nothing) (sym r.is) ((plain o.parts o.clients o.openings (asked_by r.k r.name list_place) r.p.index r.it).silent rate own)

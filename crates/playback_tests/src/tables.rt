@@ -63,7 +63,7 @@ pub trait Led: Sized + Drop {
     fn step(&mut self, observed: &mut Recorder, alloc: Global, line: &str);
 }
 
-/// Takes a step, which may be `keep`, that takes an image, or `back`, at which one and its image change positions.
+/// Takes a step, which may be `keep`, that takes an image, or `back`, at which one and its image are swapped.
 fn step_of_two<L: Led>(
     observed: &mut Recorder,
     led: &mut L,

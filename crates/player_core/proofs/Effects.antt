@@ -139,11 +139,11 @@ of-have p entries (Some job) number count =
       | false ↦ Stays refl refl refl
     ]
 
-of-failed : (p : PlayerState) (entries : List Entry) (job : Option Job) (number : ℕ) (partner : Bool) → Effect p (decoding.failed_of p entries job number partner)
-of-failed p entries None number partner = Stays refl refl refl
-of-failed p entries (Some job) number partner =
+of-failed : (p : PlayerState) (entries : List Entry) (job : Option Job) (number : ℕ) (of_partner : Bool) → Effect p (decoding.failed_of p entries job number of_partner)
+of-failed p entries None number of_partner = Stays refl refl refl
+of-failed p entries (Some job) number of_partner =
     either p _ p (job.number == number)
-    (either p _ (decoding.unread p entries job.id) partner (either p (player.given_up p) p (is_some job.fade) (Voids refl refl) (Stays refl refl refl)) (Voids refl refl))
+    (either p _ (decoding.unread p entries job.id) of_partner (either p (player.given_up p) p (is_some job.fade) (Voids refl refl) (Stays refl refl refl)) (Voids refl refl))
     (Stays refl refl refl)
 
 pub of-event : (p : PlayerState) (event : Event) → Effect p (after p event)
@@ -165,4 +165,4 @@ of-event p (laws.Insert q songs) = Stays refl refl refl
 of-event p (laws.Remove entries from end) = of-removed p entries from end
 of-event p (laws.Want rate entries enabled owes) = of-want rate p entries enabled owes
 of-event p (laws.Have entries number count) = of-have p entries p.job number count
-of-event p (laws.Failed entries number partner) = of-failed p entries p.job number partner
+of-event p (laws.Failed entries number of_partner) = of-failed p entries p.job number of_partner

@@ -168,13 +168,13 @@ of-have p entries (Some job) number count =
       | false ↦ same p
     ]
 
-of-failed : (p : PlayerState) (entries : List Entry) (job : Option Job) (number : ℕ) (partner : Bool) → Rises p (decoding.failed_of p entries job number partner)
-of-failed p entries None number partner = same p
-of-failed p entries (Some job) number partner =
+of-failed : (p : PlayerState) (entries : List Entry) (job : Option Job) (number : ℕ) (of_partner : Bool) → Rises p (decoding.failed_of p entries job number of_partner)
+of-failed p entries None number of_partner = same p
+of-failed p entries (Some job) number of_partner =
     let given_up : Rises p (player.given_up p) = stays p (player.given_up p) refl refl refl refl in
     let unread : Rises p (decoding.unread p entries job.id) = cuts p (decoding.unread p entries job.id) refl refl refl refl in
     either p _ p (job.number == number)
-    (either p _ (decoding.unread p entries job.id) partner (either p (player.given_up p) p (is_some job.fade) given_up (same p)) unread)
+    (either p _ (decoding.unread p entries job.id) of_partner (either p (player.given_up p) p (is_some job.fade) given_up (same p)) unread)
     (same p)
 
 of-seek : (p : PlayerState) (entry : Entry) (frame : ℕ) → Rises p (steps.seek p entry frame)
@@ -202,7 +202,7 @@ of-event p (laws.Insert q songs) = stays p _ refl refl refl refl
 of-event p (laws.Remove entries from end) = of-removed p entries from end
 of-event p (laws.Want rate entries enabled owes) = of-want rate p entries enabled owes
 of-event p (laws.Have entries number count) = of-have p entries p.job number count
-of-event p (laws.Failed entries number partner) = of-failed p entries p.job number partner
+of-event p (laws.Failed entries number of_partner) = of-failed p entries p.job number of_partner
 
 pub numbers_rise : NumbersRise
 numbers_rise p event = let h = of-event p event in (h.cuts, h.starts, h.jobs, h.limit)

@@ -183,13 +183,13 @@ abbrev pub unread : PlayerState → List Entry → ℕ → PlayerState
 unread p entries id = record (cut (halted p p.current)) { error = Some (error_text (entry_of entries id)) }
 
 abbrev pub failed_of : PlayerState → List Entry → Option Job → ℕ → Bool → PlayerState
-failed_of p entries None number partner = p
-failed_of p entries (Some job) number partner =
-    if job.number == number then (if partner then (if is_some job.fade then given_up p else p) else unread p entries job.id) else p
+failed_of p entries None number of_partner = p
+failed_of p entries (Some job) number of_partner =
+    if job.number == number then (if of_partner then (if is_some job.fade then given_up p else p) else unread p entries job.id) else p
 
 -- the decoder could not read the song of a job, or of its partner
 abbrev pub failed : PlayerState → List Entry → ℕ → Bool → PlayerState
-failed p entries number partner = failed_of p entries p.job number partner
+failed p entries number of_partner = failed_of p entries p.job number of_partner
 
 -- what an output is told at its turn: the cut whose frames are to be heard, whether it is enabled, whether it
 -- keeps its frames

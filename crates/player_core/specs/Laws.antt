@@ -52,7 +52,7 @@ after p (Insert q songs) = steps.inserted p q songs
 after p (Remove entries from end) = steps.removed p entries from end
 after p (Want rate entries enabled owes) = (decoding.want rate p entries enabled owes).stepped.player
 after p (Have entries number count) = (decoding.have p entries number count).stepped.player
-after p (Failed entries number partner) = decoding.failed p entries number partner
+after p (Failed entries number of_partner) = decoding.failed p entries number of_partner
 
 -- one after the other
 abbrev pub run : PlayerState → List Event → PlayerState

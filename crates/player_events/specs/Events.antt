@@ -4,8 +4,8 @@ use Rattle.mpd_command.specs.declared.name.Name.{Name}
 use Rattle.mpd_command.specs.declared.request.Request.{Request}
 use Rattle.mpd_command.specs.declared.request.Request.TheVariants.{Run, Refused}
 use Rattle.transitions.specs.Shelves.{no_store_reply}
-use Rattle.transitions.specs.declared.asked.Stand.{Stand}
-use Rattle.transitions.specs.declared.asked.Stand.TheVariants.{Alone}
+use Rattle.transitions.specs.declared.asked.ListPlace.{ListPlace}
+use Rattle.transitions.specs.declared.asked.ListPlace.TheVariants.{Alone}
 use Rattle.transitions.specs.declared.shelf_calls.StoreReply.{StoreReply}
 use Rattle.transitions.specs.Answers.{closes}
 use Rattle.player_events.specs.declared.event.Event.{Event}
@@ -14,7 +14,7 @@ use Rattle.player_events.specs.Outcomes.{OutcomeData}
 
 -- a line is the one event that a shelf is lent to
 abbrev pub is_line : Event → Bool
-is_line (Line number stand request heard) = true
+is_line (Line number list_place request heard) = true
 is_line _ = false
 
 -- the command that a request names, if it names one
@@ -24,21 +24,21 @@ name_of (Refused ack) = ack.command
 
 -- what a shelf answered to an event
 abbrev pub store_reply_at : Event → StoreReply
-store_reply_at (Line number stand request heard) = heard
+store_reply_at (Line number list_place request heard) = heard
 store_reply_at _ = no_store_reply
 
 -- how a line comes, and the command that it names, for what the shelf refuses
-abbrev pub stand_of : Event → Stand
-stand_of (Line number stand request heard) = stand
-stand_of _ = Alone
+abbrev pub list_place_of : Event → ListPlace
+list_place_of (Line number list_place request heard) = list_place
+list_place_of _ = Alone
 
 abbrev pub name_at : Event → Option Name
-name_at (Line number stand request heard) = name_of request
+name_at (Line number list_place request heard) = name_of request
 name_at _ = None
 
 -- the event, with what a shelf answered to it
 abbrev pub with_store_reply : Event → StoreReply → Event
-with_store_reply (Line number stand request before) heard = Line number stand request heard
+with_store_reply (Line number list_place request before) heard = Line number list_place request heard
 with_store_reply event heard = event
 
 -- a list ends at its first refusal, and where its client is closed

@@ -11,7 +11,7 @@ use player_state::Report;
 use shelf::ShelfFault;
 use song_db::SharedDb;
 use std::marker::Model;
-use transitions::{Reply, Stand, StoreReply};
+use transitions::{ListPlace, Reply, StoreReply};
 
 /// Something that happens to the player. Each is applied whole.
 pub enum Event {
@@ -21,7 +21,12 @@ pub enum Event {
     Disconnect(u32),
     /// A line of a client, how it comes, and what the lent shelf answered to it. That is put in as the event
     /// is applied, in place of whatever was there.
-    Line(u32, Stand, Request, StoreReply),
+    Line {
+        client: u32,
+        list_place: ListPlace,
+        request: Request,
+        heard: StoreReply,
+    },
     /// Whether a scan is to be made.
     ScanQuestion,
     /// The library that a scan found, and at which second from the beginning of 1970 on; one that failed
@@ -35,9 +40,13 @@ pub enum Event {
     /// The song of a partition's job, of this number, could not be read, or where this is so, that of its
     /// partner in a fade.
     Failed(u8, u64, bool),
-    /// An output has its turn: its number, how many frames it wrote and discarded since its last one, and
-    /// whether it failed.
-    OutputTurn(usize, u64, u64, bool),
+    /// An output has its turn: how many frames it wrote and discarded since its last one, and whether it failed.
+    OutputTurn {
+        output: usize,
+        written: u64,
+        discarded: u64,
+        failed: bool,
+    },
     /// The daemon ends: from now on nothing is decoded and no scan begins.
     End,
 }
@@ -48,13 +57,23 @@ impl Drop for Event {
         match self {
             Event::Connect(_)
             | Event::Disconnect(_)
-            | Event::Line(_, _, _, _)
+            | Event::Line {
+                client: _,
+                list_place: _,
+                request: _,
+                heard: _,
+            }
             | Event::ScanQuestion
             | Event::ScanResult(_, _)
             | Event::Want(_, _)
             | Event::Have(_, _, _)
             | Event::Failed(_, _, _)
-            | Event::OutputTurn(_, _, _, _)
+            | Event::OutputTurn {
+                output: _,
+                written: _,
+                discarded: _,
+                failed: _,
+            }
             | Event::End => {}
         }
     }
@@ -62,17 +81,22 @@ impl Drop for Event {
 
 impl Event {
     /// A line of a client, before a shelf heard of it.
-    pub fn line(client: u32, stand: Stand, request: Request) -> Event
-        ensures { result ≡ Event.Line client stand request no_store_reply }
+    pub fn line(client: u32, list_place: ListPlace, request: Request) -> Event
+        ensures { result ≡ Event.Line client list_place request no_store_reply }
     {
-        Event::Line(client, stand, request, StoreReply::nothing())
+        Event::Line {
+            client,
+            list_place,
+            request,
+            heard: StoreReply::nothing(),
+        }
     }
 
     /// Whether a client said it. A shelf is lent to a line alone.
     pub fn is_line(&self) -> bool
         ensures { result ≡ is_line_lem self.now }
     {
-        matches!(self, Event::Line(_, _, _, _))
+        matches!(self, Event::Line { .. })
     }
 
     /// Puts in what the shelf answered.
@@ -80,7 +104,7 @@ impl Event {
         ensures { self.new ≡ with_store_reply self.old heard }
     {
         match self {
-            Event::Line(_, _, _, before) => *before = heard,
+            Event::Line { heard: before, .. } => *before = heard,
             _ => {}
         }
     }
@@ -92,7 +116,7 @@ impl Event {
         ensures { self.new ≡ with_store_reply self.old (record (store_reply_at self.old) { refused = Some fault }) }
     {
         match self {
-            Event::Line(_, _, _, heard) => heard.refused = Some(fault),
+            Event::Line { heard, .. } => heard.refused = Some(fault),
             _ => {}
         }
     }

@@ -20,7 +20,7 @@ fn store_reply_bytes(event: &Event) -> u64
     ensures { result ≡ min (read_bytes_lem (store_reply_at event.now).read) (2 ^ 64 - 1) }
 {
     match event {
-        Event::Line(_, _, _, heard) => read_bytes(&heard.read),
+        Event::Line { heard, .. } => read_bytes(&heard.read),
         _ => 0,
     }
 }

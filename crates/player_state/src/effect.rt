@@ -142,7 +142,12 @@ pub enum AudioStep {
     /// The song of a job could not be read, or that of its partner.
     Fails(u64, bool),
     /// An output wrote and discarded so many frames, and whether it failed.
-    Settles(usize, u64, u64, bool),
+    Settles {
+        output: usize,
+        written: u64,
+        discarded: u64,
+        failed: bool,
+    },
 }
 
 /// What an event does to what one player owns.
@@ -191,8 +196,8 @@ fn take_step(part: &mut Part, rate: &Rate, step: AudioStep, report: Report) -> R
     match step {
         AudioStep::Wants(owes) => want(part, rate, owes),
         AudioStep::Accepts(number, frames) => accept(part, number, frames),
-        AudioStep::Fails(number, partner) => { part.player.failed(&part.queue, number, partner)?; Ok(done(part)) }
-        AudioStep::Settles(output, _, _, failed) => Ok(told_or(report, settle(part, output, failed))),
+        AudioStep::Fails(number, of_partner) => { part.player.failed(&part.queue, number, of_partner)?; Ok(done(part)) }
+        AudioStep::Settles { output, failed, .. } => Ok(told_or(report, settle(part, output, failed))),
     }
 }
 

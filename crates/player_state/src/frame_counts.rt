@@ -163,7 +163,13 @@ fn written(effect: &Effect) -> Numbers
     ensures { result ≡ map (written_by effect.now) (range_with_len 0 8) }
 {
     match effect {
-        Effect::ByAudio(AudioStep::Settles(output, written, _, _)) => alone(*output, *written),
+        Effect::ByAudio(
+            AudioStep::Settles {
+                output,
+                written,
+                ..
+            },
+        ) => alone(*output, *written),
         _ => [0; 8],
     }
 }
@@ -173,7 +179,13 @@ fn discarded(effect: &Effect) -> Numbers
     ensures { result ≡ map (discarded_by effect.now) (range_with_len 0 8) }
 {
     match effect {
-        Effect::ByAudio(AudioStep::Settles(output, _, discarded, _)) => alone(*output, *discarded),
+        Effect::ByAudio(
+            AudioStep::Settles {
+                output,
+                discarded,
+                ..
+            },
+        ) => alone(*output, *discarded),
         _ => [0; 8],
     }
 }

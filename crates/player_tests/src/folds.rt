@@ -22,7 +22,7 @@ fn with_fold(alloc: Global, uris: &str, steps: &str, index: usize) -> Result<Str
     session_over(alloc, uris, folded.into_text()?.as_str())
 }
 
-/// Adds where a session was, where it told something else than is wanted.
+/// Adds where a session was, where it told something else than is expected.
 fn add_odd(
     recorder: &mut Recorder,
     session: Result<String, AllocError>,
@@ -40,7 +40,7 @@ fn add_odd(
     }
 }
 
-/// The numbers of the windows in which a session tells something else than is wanted, and the indices of the
+/// The numbers of the windows in which a session tells something else than is expected, and the indices of the
 /// steps before which a fold makes it do so, each in a line.
 fn oddities(alloc: Global, uris: &str, steps: &str, expected: &str) -> Result<String, AllocError> {
     let mut recorder = Recorder::new(alloc);
@@ -220,7 +220,7 @@ show window
 turn 0 0 0
 show window";
 
-/// What is told of four events, with what is shown after each, in a window of one event: the events of the
+/// What is observed of four events, with what is shown after each, in a window of one event: the events of the
 /// window, their bytes, and all events.
 const IN_ONE: &str = "OK MPD 0.23.0
 events: 1, bytes: 14, all: 1
@@ -310,7 +310,7 @@ fn windows_are_counted_and_folded(rt: HostRuntime) -> Result<(), Fail> {
     wants(session(alloc, BYTES), BYTES_TELL)
 }
 
-/// What is told where the greatest window is filled, and two more events come.
+/// What is observed where the greatest window is filled, and two more events come.
 fn greatest_window(alloc: Global) -> Result<String, AllocError> {
     let mut steps = Recorder::new(alloc);
     steps.add("comes 1\n");
@@ -376,7 +376,7 @@ OK
 seat 15: 64, seat 3: 38, all: 102, entries: 16383, clients: 64, volume: 100
 ";
 
-/// What is told where the state is the greatest: 16,384 entries and 64 clients.
+/// What is observed where the state is the greatest: 16,384 entries and 64 clients.
 fn greatest(alloc: Global) -> Result<String, AllocError> {
     let mut steps = Recorder::new(alloc);
     add_doubling(&mut steps);

@@ -16,7 +16,7 @@ use std::alloc::{AllocError, Global};
 use test_players::{library, list_answer, player, requests};
 use test_songs::song;
 use test_texts::Recorder;
-use transitions::{Next, Stand};
+use transitions::{ListPlace, Next};
 
 /// A song of one second for each line, without tags.
 fn songs(alloc: Global, uris: &str) -> Result<Vec<Song>, AllocError> {
@@ -231,7 +231,7 @@ fn says(
     lent: &mut Lent,
     alloc: Global,
     client: u32,
-    stand: Stand,
+    list_place: ListPlace,
     request: Result<Request, AllocError>,
     recorder: &mut Recorder,
 ) {
@@ -240,7 +240,7 @@ fn says(
             lent,
             alloc,
             3,
-            Event::line(client, stand, request),
+            Event::line(client, list_place, request),
             recorder,
         ),
         Err(_) => recorder.fail(),
@@ -271,8 +271,8 @@ fn says_in_list(
     recorder: &mut Recorder,
 ) {
     let (place, line) = first_word(rest);
-    let stand = Stand::InList(form, number_of(place) as usize);
-    says(lent, alloc, 1, stand, request(alloc, line), recorder)
+    let list_place = ListPlace::InList(form, number_of(place) as usize);
+    says(lent, alloc, 1, list_place, request(alloc, line), recorder)
 }
 
 /// Adds what clients hear of a list: its whole answer, `closed` where the client is, and each notice after
@@ -341,7 +341,12 @@ fn turns(lent: &mut Lent, alloc: Global, rest: &str, recorder: &mut Recorder) {
     let failed = discarded == u32::MAX;
     let (written, discarded) = (u64::from(written), u64::from(discarded));
     let output = number_of(output) as usize;
-    let event = Event::OutputTurn(output, written, discarded, failed);
+    let event = Event::OutputTurn {
+        output,
+        written,
+        discarded,
+        failed,
+    };
     happens(lent, alloc, 7, event, recorder)
 }
 
@@ -361,7 +366,7 @@ fn says_otherwise(lent: &mut Lent, alloc: Global, word: &str, rest: &str, record
         "runs_ok" => runs_list(lent, alloc, ListForm::ListOk, rest, recorder),
         _ => {
             let request = request_with_leave(alloc, rest);
-            says(lent, alloc, 1, Stand::Alone, request, recorder);
+            says(lent, alloc, 1, ListPlace::Alone, request, recorder);
         }
     }
 }
@@ -403,7 +408,7 @@ fn step(lent: &mut Lent, alloc: Global, line: &str, recorder: &mut Recorder) {
                 lent,
                 alloc,
                 number_of(word),
-                Stand::Alone,
+                ListPlace::Alone,
                 request,
                 recorder,
             );

@@ -220,7 +220,7 @@ pub(crate) fn add_numbered(recorder: &mut Recorder, before: &str, first: u32, af
     }
 }
 
-/// What is told where 64 clients come, then another, then one goes and that other one comes.
+/// What is observed where 64 clients come, then another, then one goes and that other one comes.
 fn crowd(alloc: Global) -> Result<String, AllocError> {
     let mut steps = Recorder::new(alloc);
     add_numbered(&mut steps, "comes ", 1, "");
@@ -237,7 +237,7 @@ fn crowd_tells(alloc: Global) -> Result<String, AllocError> {
     recorder.into_text()
 }
 
-/// What is told where 63 clients wait for a change of the queue, and another makes one.
+/// What is observed where 63 clients wait for a change of the queue, and another makes one.
 fn waiting_crowd(alloc: Global) -> Result<String, AllocError> {
     let mut steps = Recorder::new(alloc);
     add_numbered(&mut steps, "comes ", 1, "");

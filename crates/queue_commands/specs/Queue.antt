@@ -167,7 +167,7 @@ move_one asked part (Some position) to = edits asked (Move position (position + 
 abbrev pub move_id : Asked → Part → ℕ → ℕ → CommandResult
 move_id asked part id to = if nat_le (count part) to then bad_index asked else move_one asked part (position_of part.queue id) to
 
--- the songs at two positions change round
+-- the songs at two positions are swapped
 abbrev pub swap : Asked → Part → ℕ → ℕ → CommandResult
 swap asked part first second =
     if nat_le (count part) first || nat_le (count part) second then bad_index asked else edits asked (Swap first second) (codes "")

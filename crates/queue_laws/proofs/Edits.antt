@@ -188,7 +188,7 @@ module _ (asked : Asked) (part : Part) (library : Library) (is : IsQueue part.qu
   move-id-good id to true h = bad false (L (queue.MoveId id to))
   move-id-good id to false h = let low : to < count part = leb-false (count part) to h in move-one-good id to (position_of part.queue id) low refl
 
-  -- entries change positions
+  -- entries are swapped
   swapped : (a b : ℕ) (lines : List ℕ) (P : List Entry → Type 0) → (Swaps a b es (swap es a b) → P (swap es a b)) → a < count part → b < count part → G P (edits asked (Swap a b) lines)
   swapped a b lines P make la lb = edited library.rate part asked false P (Swap a b) lines (subst P (sym (queue_of-edited part.queue (swap es a b))) (make (swaps es a b la lb))) (λ e. refl)
 
@@ -294,7 +294,7 @@ module _ (asked : Asked) (part : Part) (library : Library) (position : Option Po
   Tells result =
       result.answer.refused ≡ false
       → (at : ℕ) × (id : ℕ) × IsAskedFor part position at × HasAt (queue_of (part_after library.rate part (ByCommand result.effect)).queue) at id
-      × (result.answer ≡ succeeds asked.stand (pair_line (codes "Id") (decimal id)))
+      × (result.answer ≡ succeeds asked.list_place (pair_line (codes "Id") (decimal id)))
 
   abbrev line : List ℕ
   line = pair_line (codes "Id") (decimal (part.queue.greatest_id + 1))

@@ -1,4 +1,4 @@
--- Elements that change positions.
+-- Elements that are swapped.
 use Rattle.std.proofs.Common.{◌≡◌, ◌≢◌, inl, inr, ℕ, ◌+◌, ◌-◌, ◌<◌, ◌≤◌, List, length, get_or, Some, refl, ap, sym, ◌∙◌, arith}
 use Rattle.std.specs.Prelude.{swap, slice_get}
 use Rattle.std.specs.List.{slice_range}

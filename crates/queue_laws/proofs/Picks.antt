@@ -20,7 +20,7 @@ take-two zero (x ∷ xs) k v w = refl
 take-two (suc n) (x ∷ xs) zero v w = ap (λ l. w ∷ l) (take-set-le n xs n v (omega arith))
 take-two (suc n) (x ∷ xs) (suc k) v w = ap (λ l. x ∷ l) (take-two n xs k v w)
 
--- all but the last of a list in which the last one changed positions
+-- all but the last of a list in which the last one changed places with another
 swapped-front : {X : Type 0} (xs : List X) (k : ℕ) (d : X) → k < length xs → take (length xs - 1) (swap xs (length xs - 1) k) ≡ swap_remove xs k d
 swapped-front [] k d l = absurd (omega arith)
 swapped-front (x ∷ xs) k d l =

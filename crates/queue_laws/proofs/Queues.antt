@@ -155,7 +155,7 @@ moves-id es at id to has low =
           ∙ sym (ap (filter (is_other id)) (split-at es at x has.1) ∙ without-one (λ (e : Entry). e.id) (take at es) (drop (suc at) es) x id has.2);
     }
 
--- two entries change positions
+-- two entries are swapped
 pub swaps : (es : List Entry) (a b : ℕ) → a < length es → b < length es → Swaps a b es (swap es a b)
 swaps [] a b la lb = absurd (omega arith)
 swaps (e ∷ es) a b la lb = record {

@@ -126,7 +126,7 @@ AddIdTellsTheId =
     → (at : ℕ) × (id : ℕ) × IsAskedFor part position at
     × HasAt (queue_of (part_left asked part library (queue.AddId uri position)).queue) at id
     × ((result_of asked part library (queue.AddId uri position)).answer
-    ≡ succeeds asked.stand (pair_line (codes "Id") (decimal id)))
+    ≡ succeeds asked.list_place (pair_line (codes "Id") (decimal id)))
 
 -- a shuffle takes so many numbers, and the generator goes on behind them; nothing else of the round changes
 abbrev pub ShufflesTakeNumbers : Type 0

@@ -21,7 +21,7 @@ names (Between start end) position = is_between start end position
 names (From start) position = nat_le start position
 
 -- A list that is shuffled by numbers. The first number picks which element comes last, the next one which of
--- those that are left comes before it, and so on; where one was picked, the last of those left takes its position.
+-- those that are left comes before it, and so on; where one was picked, the last of those left takes its place.
 abbrev pub picked_in_turn : {X : Type 0} → List ℕ → List X → List X
 picked_in_turn [] xs = xs
 picked_in_turn (number ∷ numbers) [] = []

@@ -38,7 +38,7 @@ pub record MovesId (id to : ℕ) (before after : List Entry) : Type 0 where
   pub moved : (entry : Entry) × Contains before entry × (entry.id ≡ id) × (slice_get after to ≡ Some entry)
   pub others : filter (is_other id) after ≡ filter (is_other id) before
 
--- the entries at two positions of the queue change positions, and every other position has what it had
+-- the entries at two positions of the queue are swapped, and every other position has what it had
 pub record Swaps (a b : ℕ) (before after : List Entry) : Type 0 where
   pub there : (a < length before) × (b < length before)
   pub first : slice_get after a ≡ slice_get before b

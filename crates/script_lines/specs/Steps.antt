@@ -86,13 +86,13 @@ flag_of flag _ = None
 
 abbrev pub failed_to : ℕ → Option Bool → Option JobStep
 failed_to job None = None
-failed_to job (Some partner) = Some (Failed job partner)
+failed_to job (Some of_partner) = Some (Failed job of_partner)
 
 abbrev pub failed_with : Option ℕ → List (List ℕ) → Option JobStep
 failed_with None words = None
 failed_with (Some job) words = failed_to job (flag_of (codes "partner") words)
 
--- the number of a job, and `partner` where the song that is mixed in is meant
+-- the number of a job, and `of_partner` where the song that is mixed in is meant
 abbrev pub failed_of : List (List ℕ) → Option JobStep
 failed_of (job ∷ words) = failed_with (number_of job) words
 failed_of [] = None

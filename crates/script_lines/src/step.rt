@@ -232,8 +232,8 @@ fn failed(arguments: &[String]) -> Option<JobStep>
         return None;
     };
     let job = number(job.as_str())?;
-    let partner = flag(words, "partner")?;
-    Some(JobStep::Failed(job, partner))
+    let of_partner = flag(words, "partner")?;
+    Some(JobStep::Failed(job, of_partner))
 }
 
 fn turn(arguments: &[String]) -> Option<Step>

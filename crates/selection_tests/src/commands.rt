@@ -11,8 +11,8 @@ use std::test::Fail;
 use test_songs::song;
 use test_texts::{Recorder, wants};
 
-/// The lines again, which have words of a command with `|` between them, ` => `, and what is wanted of it, with
-/// what is told of it.
+/// The lines again, which have words of a command with `|` between them, ` => `, and what is expected of it, with
+/// what is observed of it.
 fn observed_of(alloc: Global, lines: &str) -> Result<String, AllocError> {
     let mut recorder = Recorder::new(alloc);
     for line in lines.lines() {

@@ -19,7 +19,7 @@ type List = (&'static [&'static str], &'static [Option<TagName>]);
 /// The label and the tag of a count.
 type Count = (&'static str, Option<TagName>);
 
-/// The orders, the lists and the counts that are told of a library.
+/// The orders, the lists and the counts that are observed of a library.
 type Asked = (&'static [Order], &'static [List], &'static [Count]);
 
 fn library(alloc: Global, given: &[Given]) -> Result<Db, AllocError> {
@@ -80,7 +80,7 @@ fn tell_texts(observed: &mut Answer, alloc: Global, db: &Db) -> Result<(), Alloc
     observed.pair("albums", distinct(alloc, db.songs(), TagName::Album)?)
 }
 
-/// What is told of a library: some orders, lists and counts, and how many texts there are.
+/// What is observed of a library: some orders, lists and counts, and how many texts there are.
 fn observed_of(
     alloc: Global,
     db: Result<Db, AllocError>,

@@ -9,7 +9,7 @@ use player_state::{Client, Outputs};
 use std::alloc::{AllocError, Global};
 use std::test::Fail;
 use test_texts::{Recorder, wants};
-use transitions::{Asked, Move, Stand, Transition};
+use transitions::{Asked, ListPlace, Move, Transition};
 
 /// The partitions of a daemon, and its two clients.
 #[derive(Drop)]
@@ -87,7 +87,7 @@ fn tell_run(
         client: daemon.clients[at.min(1)].number,
         tags: TagSet::all(),
         name,
-        stand: Stand::Alone,
+        list_place: ListPlace::Alone,
     };
     let done = run(
         alloc,
@@ -205,7 +205,7 @@ const SIXTEEN_TELL: &str = "OK\nOK\nOK\nOK\nOK\nOK\nOK\nOK\nOK\nOK\nOK\nOK\nOK\n
     ACK [52@0] {newpartition} too many partitions\n\
     ACK [56@0] {newpartition} partition exists\nOK\nOK\nSome(2)\n";
 
-/// Lines of a daemon that is just opened, and what is told of them.
+/// Lines of a daemon that is just opened, and what is observed of them.
 const SESSIONS: &[(&str, &str)] = &[
     (REFUSED_NAMES, REFUSED_NAMES_TELL),
     (IN_USE, IN_USE_TELLS),

@@ -264,7 +264,7 @@ Time: 2
 duration: 2.000
 ";
 
-/// Whether an empty set is joined or the set of all is left, by which words, and what is told then.
+/// Whether an empty set is joined or the set of all is left, by which words, and what is observed then.
 const CHANGES: &[(bool, &str, &str)] = &[
     (true, ALL_WORDS, ALL),
     (false, ALL_WORDS, NONE),

@@ -88,7 +88,7 @@ fn fault_name(fault: SessionFault) -> &'static str {
     }
 }
 
-/// The clients that came, and what was told of faults.
+/// The clients that came, and what was observed of faults.
 #[derive(Drop)]
 struct Log {
     test_clients: Vec<TestClient>,
@@ -182,7 +182,7 @@ fn step_of<L: Ledgers>(
     }
 }
 
-/// What was told of faults, and of each client how its session is and what was written to it.
+/// What was observed of faults, and of each client how its session is and what was written to it.
 fn observed_of(log: Log) -> Result<String, AllocError> {
     let Log {
         test_clients,

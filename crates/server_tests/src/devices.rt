@@ -9,7 +9,7 @@ use test_texts::{Recorder, wants, wants_made};
 const LINES: &[u8] =
     b"ping\nadd a.wav\nplchangesposid 0\ncommand_list_ok_begin\nping\nping\ncommand_list_end\nfoo\n";
 
-/// What is told of a client whose writer takes all answers in the end.
+/// What is observed of a client whose writer takes all answers in the end.
 const TOLD: &str = "1 open
 OK MPD 0.23.0
 OK

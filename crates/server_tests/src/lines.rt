@@ -47,7 +47,7 @@ fn observed_of_length<R: Wait>(rt: &R, alloc: Global, length: usize) -> Result<S
     without_x(alloc, observed_of_pieces(rt, alloc, Takes::All, &pieces, 0))
 }
 
-/// What is told of two lines before a line that is too long, and one after it, all in one piece.
+/// What is observed of two lines before a line that is too long, and one after it, all in one piece.
 fn observed_around_long_line<R: Wait>(rt: &R, alloc: Global) -> Result<String, AllocError> {
     let mut lines = Recorder::new(alloc);
     lines.add("ping\nping\n");

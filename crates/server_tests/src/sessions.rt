@@ -1,4 +1,4 @@
-//! Sessions of clients that say a few lines, and what is told of each.
+//! Sessions of clients that say a few lines, and what is observed of each.
 use crate::days::{Step, observed_where};
 use crate::wires::Takes;
 use std::test::Fail;

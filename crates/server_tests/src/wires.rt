@@ -126,7 +126,7 @@ impl Write for Pipe {
     }
 }
 
-/// What is told without its letters `x`.
+/// What is observed without its letters `x`.
 pub(crate) fn without_x(
     alloc: Global,
     observed: Result<String, AllocError>,

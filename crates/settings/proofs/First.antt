@@ -35,7 +35,7 @@ module _ (keys : List Key) where
   bad_not_below name [] above = tt
   bad_not_below name (e ∷ es) above = step (is_good keys (string_bytes e.0) (view e.1)) name (string_bytes e.0) _ above.0 (bad_not_below name es above.1)
 
-  -- a bad key before whose index there is none
+  -- a bad key before which there is none
   pub first_here : (e : Entry) (es : List Entry) → IsStrictlySortedBy string_cmp (keys_of (e ∷ es)) → is_good keys (string_bytes e.0) (view e.1) ≡ false → IsFirst (bad keys (members_view (e ∷ es))) (string_bytes e.0)
   unfolding IsStrictlySortedBy
   first_here e es sorted not_good =

@@ -9,7 +9,7 @@ use std::alloc::{AllocError, Global};
 use test_players::{library, list_answer, player, requests};
 use test_songs::song;
 use test_texts::Recorder;
-use transitions::Stand;
+use transitions::ListPlace;
 
 /// A player over a song of one second and one of four frames, without outputs, whose window has at most two events.
 fn opened(alloc: Global) -> Result<Partition, AllocError> {
@@ -40,7 +40,7 @@ fn says<S: Shelf>(
             recorder,
             player,
             shelf,
-            Event::line(1, Stand::Alone, request),
+            Event::line(1, ListPlace::Alone, request),
         ),
         Err(_) => recorder.fail(),
     }

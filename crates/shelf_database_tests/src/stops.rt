@@ -76,9 +76,9 @@ pub(crate) enum Visit<'a> {
     Make(Call),
     /// One list is put on the shelf, with a sticker of it and one of a song.
     Fill,
-    /// All that the shelf shows is recorded.
+    /// Records all that the shelf shows.
     Show,
-    /// What a client hears is recorded that comes to a new player and says these lines.
+    /// Records what a client hears that comes to a new player and says these lines.
     Say(&'a str),
 }
 

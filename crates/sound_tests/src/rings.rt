@@ -244,7 +244,7 @@ const THREE_FRAMES: &[Step] = &[
     Step::Play(FIRST),
 ];
 
-// What is wanted where a writer of three frames fails after so many bytes.
+// What is expected where a writer of three frames fails after so many bytes.
 fn failed_after_expected(alloc: Global, offset: u64) -> Result<String, AllocError> {
     let all = [1u8, 0, 2, 0, 3, 0, 4, 0, 5, 0, 6, 0];
     let bytes = all.get(..offset as usize).unwrap_or(&[]);

@@ -31,7 +31,7 @@ use Rattle.status_commands.specs.Outputs.{result_of as outputs_result}
 use Rattle.status_commands.specs.Status.{wish_of}
 use Rattle.transitions.specs.Transitions.{CommandResult, transition_by}
 use Rattle.transitions.specs.declared.asked.Asked.{Asked}
-use Rattle.transitions.specs.declared.asked.Stand.TheVariants.{Alone}
+use Rattle.transitions.specs.declared.asked.ListPlace.TheVariants.{Alone}
 use Rattle.transitions.specs.declared.shelf_calls.Read.TheVariants.{Nothing as NothingRead}
 use Rattle.kept_state.specs.Lines.{Line}
 use Rattle.kept_state.specs.Lines.{Line as lines}

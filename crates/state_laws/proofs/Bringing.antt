@@ -27,7 +27,7 @@ use Rattle.player_state.specs.declared.state.Library.{Library}
 use Rattle.player_state.specs.declared.state.Part.{Part}
 use Rattle.transitions.specs.Transitions.{TransitionData, crosses}
 use Rattle.transitions.specs.declared.asked.Asked.{Asked}
-use Rattle.transitions.specs.declared.asked.Stand.TheVariants.{Alone}
+use Rattle.transitions.specs.declared.asked.ListPlace.TheVariants.{Alone}
 use Rattle.state_laws.specs.Partitions.{AreSetUp, Each, after_all, after_lines, bytes_of_step, name_of}
 use Rattle.state_laws.specs.Saying.{asking, first_options}
 use Rattle.state_laws.proofs.Alike.{elsewhere, have_moved, names_moved, none_moved, numbered_moved}

@@ -24,7 +24,7 @@ use Rattle.player_state.specs.declared.state.Client.{Client}
 use Rattle.player_state.specs.declared.state.Part.{Part}
 use Rattle.transitions.specs.Answers.{ResponseData, stays}
 use Rattle.transitions.specs.Transitions.{TransitionData, enters}
-use Rattle.transitions.specs.declared.asked.Stand.TheVariants.{Alone}
+use Rattle.transitions.specs.declared.asked.ListPlace.TheVariants.{Alone}
 use Rattle.transitions.specs.declared.reply.Next.TheVariants.{Goes}
 use Rattle.transitions.specs.declared.shelf_calls.ShelfWrite.TheVariants.{Nothing}
 use Rattle.state_laws.specs.Saying.{asking}

@@ -31,7 +31,7 @@ use Rattle.status_commands.specs.Status.{wish_of}
 use Rattle.transitions.specs.Answers.{Answer, stays}
 use Rattle.transitions.specs.Shelves.{is_written}
 use Rattle.transitions.specs.Transitions.{CommandResult, TransitionData, departs, keeps_all_numbers, max_cut_in, parts_after, report_of, transition_by}
-use Rattle.transitions.specs.declared.asked.Stand.TheVariants.{Alone}
+use Rattle.transitions.specs.declared.asked.ListPlace.TheVariants.{Alone}
 use Rattle.transitions.specs.declared.reply.Next.{Next}
 use Rattle.transitions.specs.declared.reply.Next.TheVariants.{Goes}
 use Rattle.transitions.specs.declared.shelf_calls.Read.TheVariants.{Nothing as NothingRead}

@@ -30,7 +30,7 @@ use Rattle.player_state.specs.declared.state.Part.{Part}
 use Rattle.transitions.specs.CommandResults.{bad_name}
 use Rattle.transitions.specs.Transitions.{TransitionData, crosses, enters, transition_by}
 use Rattle.transitions.specs.declared.asked.Asked.{Asked}
-use Rattle.transitions.specs.declared.asked.Stand.TheVariants.{Alone}
+use Rattle.transitions.specs.declared.asked.ListPlace.TheVariants.{Alone}
 use Rattle.state_laws.specs.Partitions.{Each, after_all, after_lines, bytes_of_step}
 use Rattle.state_laws.specs.Saying.{HasRoom, asking}
 use Rattle.state_laws.proofs.Alike.{Alike, elsewhere, fit_alike, have_alike, left_all, length_alike, names_alike, numbered_alike}

@@ -36,7 +36,7 @@ use Rattle.player_state.specs.declared.state.Part.{Part}
 use Rattle.queue_commands.specs.Queue.{CanAdd}
 use Rattle.song_db.specs.Library.{song_of}
 use Rattle.transitions.specs.Shelves.{no_store_reply}
-use Rattle.transitions.specs.declared.asked.Stand.TheVariants.{Alone}
+use Rattle.transitions.specs.declared.asked.ListPlace.TheVariants.{Alone}
 use Rattle.state_laws.specs.Having.{Has}
 
 abbrev pub switch_to : ℕ → Bool → OutputCommand

@@ -10,7 +10,7 @@ use Rattle.mpd_command.specs.Names.{all_names, is_forbidden, is_there}
 use Rattle.mpd_text.specs.Answers.Answer.{pair_line}
 use Rattle.mpd_text.specs.Songs.Tags.{base_tag_names, tag_names}
 use Rattle.mpd_text.specs.declared.songs.song.TagName.{TagName}
-use Rattle.transitions.specs.Answers.{Answer, shut, succeeds}
+use Rattle.transitions.specs.Answers.{Answer, disconnects, succeeds}
 use Rattle.transitions.specs.CommandResults.{closes_client, ends_daemon, only}
 use Rattle.transitions.specs.Transitions.{CommandResult}
 use Rattle.transitions.specs.declared.asked.Asked.{Asked}
@@ -19,7 +19,7 @@ use Rattle.mpd_command.specs.declared.connection.ConnectionCommand.{ConnectionCo
 use Rattle.mpd_command.specs.declared.connection.ConnectionCommand.TheVariants as connection
 
 abbrev pub ping : Asked → Answer
-ping asked = succeeds asked.stand (codes "")
+ping asked = succeeds asked.list_place (codes "")
 
 -- the tags that a client is shown: in the everyday profile those that it chose, and in the base profile the six
 abbrev pub types_shown : Bool → List TagName → List TagName
@@ -28,7 +28,7 @@ types_shown false tags = base_tag_names
 
 -- their names, a line each, in their order
 abbrev pub tag_types : Asked → Bool → Answer
-tag_types asked everyday = succeeds asked.stand (tagtype_lines (types_shown everyday asked.tags))
+tag_types asked everyday = succeeds asked.list_place (tagtype_lines (types_shown everyday asked.tags))
 
 -- what a command that chooses tags makes of those that its client is shown
 abbrev pub choice_of : ConnectionCommand → Option (List TagName → List TagName)
@@ -51,18 +51,18 @@ abbrev pub decoder_lines : List ℕ
 decoder_lines = wave_lines ++ type_lines
 
 abbrev pub decoders : Asked → Answer
-decoders asked = succeeds asked.stand decoder_lines
+decoders asked = succeeds asked.list_place decoder_lines
 
 -- the library alone is mounted, and has no name
 unfoldable pub mount_lines : List ℕ
 mount_lines = pair_line (codes "mount") (codes "")
 
 abbrev pub mounts : Asked → Answer
-mounts asked = succeeds asked.stand mount_lines
+mounts asked = succeeds asked.list_place mount_lines
 
 -- no kind of URL can be played
 abbrev pub url_handlers : Asked → Answer
-url_handlers asked = succeeds asked.stand (codes "")
+url_handlers asked = succeeds asked.list_place (codes "")
 
 -- a command's name, where there is such a command and it is forbidden or not as asked
 abbrev pub command_line : CommandSet → Bool → List ℕ → List ℕ
@@ -79,23 +79,23 @@ unfoldable pub command_lines : CommandSet → Bool → List ℕ
 command_lines set forbidden = flat_map (command_line set forbidden) all_names
 
 abbrev pub commands : Asked → CommandSet → Answer
-commands asked set = succeeds asked.stand (command_lines set false)
+commands asked set = succeeds asked.list_place (command_lines set false)
 
 abbrev pub not_commands : Asked → CommandSet → Answer
-not_commands asked set = succeeds asked.stand (command_lines set true)
+not_commands asked set = succeeds asked.list_place (command_lines set true)
 
 -- what each command makes of the player; those that choose tags are wishes and make nothing of it
 unfoldable pub result_of : Asked → ConnectionCommand → CommandResult
-result_of asked connection.AllTags = only shut
+result_of asked connection.AllTags = only disconnects
 result_of asked connection.Close = closes_client asked
 result_of asked (connection.Commands set) = only (commands asked set)
 result_of asked connection.Decoders = only (decoders asked)
 result_of asked connection.Kill = ends_daemon asked
 result_of asked connection.ListMounts = only (mounts asked)
-result_of asked connection.NoTags = only shut
+result_of asked connection.NoTags = only disconnects
 result_of asked (connection.NotCommands set) = only (not_commands asked set)
 result_of asked connection.Ping = only (ping asked)
 result_of asked (connection.TagTypes everyday) = only (tag_types asked everyday)
 result_of asked connection.UrlHandlers = only (url_handlers asked)
-result_of asked (connection.WithTags named) = only shut
-result_of asked (connection.WithoutTags named) = only shut
+result_of asked (connection.WithTags named) = only disconnects
+result_of asked (connection.WithoutTags named) = only disconnects

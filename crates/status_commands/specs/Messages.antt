@@ -59,7 +59,7 @@ lines_of_messages messages = flat_map message_lines messages
 -- the messages that wait for the client, the oldest first; they are then gone
 abbrev pub read_messages : Asked → Part → CommandResult
 read_messages asked part =
-    record (only (succeeds asked.stand (lines_of_messages (messages_of asked.client part.channels)))) { effect = ReadsMessages asked.client }
+    record (only (succeeds asked.list_place (lines_of_messages (messages_of asked.client part.channels)))) { effect = ReadsMessages asked.client }
 
 -- what each command makes of the player
 unfoldable pub result_of : Asked → Part → MessageCommand → CommandResult

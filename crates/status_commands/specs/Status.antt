@@ -19,14 +19,14 @@ use Rattle.player_core.specs.declared.state.Playback.{Playback}
 use Rattle.player_core.specs.declared.state.Playback.TheVariants.{Stop, Play, Pause}
 use Rattle.player_core.specs.Player.{is_stopped}
 use Rattle.player_core.specs.Steps.{current_entry, peek}
-use Rattle.transitions.specs.Answers.{ResponseData, refuses_command, shut, stays, succeeds, tells}
+use Rattle.transitions.specs.Answers.{ResponseData, refuses_command, disconnects, stays, succeeds, tells}
 use Rattle.transitions.specs.CommandResults.{only, shows}
 use Rattle.queue_commands.specs.Playback.{clear_error, current_song}
 use Rattle.transitions.specs.declared.asked.Asked.{Asked}
 use Rattle.transitions.specs.declared.reply.Move.TheVariants.{Wait, Learn, Resume, Show}
 use Rattle.transitions.specs.declared.reply.Next.TheVariants.{Waits}
-use Rattle.transitions.specs.declared.asked.Stand.{Stand}
-use Rattle.transitions.specs.declared.asked.Stand.TheVariants.{Alone, InList}
+use Rattle.transitions.specs.declared.asked.ListPlace.{ListPlace}
+use Rattle.transitions.specs.declared.asked.ListPlace.TheVariants.{Alone, InList}
 use Rattle.player_state.specs.declared.state.Client.{Client}
 use Rattle.player_state.specs.declared.state.Part.{Part}
 use Rattle.player_state.specs.declared.state.Library.{Library}
@@ -65,18 +65,18 @@ abbrev pub resumes : Client → ResponseData
 resumes client = if is_some client.pending.waiting then record { answer = tells (codes "OK\n"); move = Resume } else stays (tells (codes ""))
 
 -- how a client waits is no matter of a list
-abbrev pub alone : Asked → Stand → ResponseData → ResponseData
+abbrev pub alone : Asked → ListPlace → ResponseData → ResponseData
 alone asked Alone response = response
 alone asked (InList form place) response = stays (refuses_command asked Argument (codes "not allowed in a list"))
 
 -- the client is shown these tags from now on
 abbrev pub shown_next : Asked → List TagName → ResponseData
-shown_next asked tags = record { answer = succeeds asked.stand (codes ""); move = Show tags }
+shown_next asked tags = record { answer = succeeds asked.list_place (codes ""); move = Show tags }
 
 -- what a client is answered that asks for this, and what it does; its tags it may choose in a list too
 abbrev pub wished : Asked → Client → Wish → ResponseData
-wished asked client (ToWait named) = alone asked asked.stand (idles named (notice_of (waits named client.pending)))
-wished asked client ToGoOn = alone asked asked.stand (resumes client)
+wished asked client (ToWait named) = alone asked asked.list_place (idles named (notice_of (waits named client.pending)))
+wished asked client ToGoOn = alone asked asked.list_place (resumes client)
 wished asked client (ToShow choice) = shown_next asked (choice asked.tags)
 
 abbrev pub digit : Bool → ℕ
@@ -217,7 +217,7 @@ status asked part library everyday =
 unfoldable pub result_of : Asked → Part → Library → StatusCommand → CommandResult
 result_of asked part library status_command.ClearError = clear_error asked
 result_of asked part library status_command.CurrentSong = current_song asked part library
-result_of asked part library (status_command.Idle named) = only shut
-result_of asked part library status_command.NoIdle = only shut
+result_of asked part library (status_command.Idle named) = only disconnects
+result_of asked part library status_command.NoIdle = only disconnects
 result_of asked part library (status_command.Stats uptime) = stats asked part library uptime
 result_of asked part library (status_command.Status everyday) = status asked part library everyday

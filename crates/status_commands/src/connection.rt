@@ -11,7 +11,7 @@ use known_tags::{TagSet, push_tagtypes};
 use mpd_command::{CommandSet, ConnectionCommand, is_forbidden, is_there, names};
 use mpd_text::Answer;
 use std::alloc::{AllocError, Global};
-use transitions::{Asked, Response, Transition, shows, shut, succeeds};
+use transitions::{Asked, Response, Transition, disconnects, shows, succeeds};
 
 /// The rows: what each command asks of the player. By those that choose tags a client changes itself, so here
 /// they make nothing of the player.
@@ -22,19 +22,19 @@ pub fn run(alloc: Global, asked: Asked, command: &ConnectionCommand) -> Result<T
     ensures fits { IfOk result (λ transition. (part : Part) → Fits part transition.effect) }
 {
     match command {
-        ConnectionCommand::AllTags => Ok(Transition::only(shut(alloc))),
+        ConnectionCommand::AllTags => Ok(Transition::only(disconnects(alloc))),
         ConnectionCommand::Close => Ok(Transition::closes_client(alloc, asked)),
         ConnectionCommand::Commands(set) => Ok(Transition::only(commands(alloc, asked, *set)?)),
         ConnectionCommand::Decoders => Ok(Transition::only(decoders(alloc, asked)?)),
         ConnectionCommand::Kill => Ok(Transition::ends_daemon(alloc, asked)),
         ConnectionCommand::ListMounts => Ok(Transition::only(mounts(alloc, asked)?)),
-        ConnectionCommand::NoTags => Ok(Transition::only(shut(alloc))),
+        ConnectionCommand::NoTags => Ok(Transition::only(disconnects(alloc))),
         ConnectionCommand::NotCommands(set) => Ok(Transition::only(not_commands(alloc, asked, *set)?)),
         ConnectionCommand::Ping => Ok(Transition::only(ping(alloc, asked)?)),
         ConnectionCommand::TagTypes(everyday) => Ok(Transition::only(tag_types(alloc, asked, *everyday)?)),
         ConnectionCommand::UrlHandlers => Ok(Transition::only(url_handlers(alloc, asked)?)),
-        ConnectionCommand::WithTags(_) => Ok(Transition::only(shut(alloc))),
-        ConnectionCommand::WithoutTags(_) => Ok(Transition::only(shut(alloc))),
+        ConnectionCommand::WithTags(_) => Ok(Transition::only(disconnects(alloc))),
+        ConnectionCommand::WithoutTags(_) => Ok(Transition::only(disconnects(alloc))),
     }
 }
 

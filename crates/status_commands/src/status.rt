@@ -22,7 +22,7 @@ use queue_commands::playback::{clear_error, current_song, is_stopped};
 use song_db::{Rate, duration, length_of, rounded};
 use std::alloc::{AllocError, Global};
 use transitions::{
-    Asked, Move, Next, Response, Stand, Transition, refuses, shut, succeeds_and, tells,
+    Asked, ListPlace, Move, Next, Response, Transition, disconnects, refuses, succeeds_and, tells,
 };
 
 /// The rows: what each command shows. By `idle` and `noidle` a client waits, so here they make nothing of the
@@ -36,8 +36,8 @@ pub fn run(alloc: Global, asked: Asked, part: &Part, library: &Library, command:
     match command {
         StatusCommand::ClearError => clear_error(alloc, asked),
         StatusCommand::CurrentSong => current_song(alloc, asked, part, library),
-        StatusCommand::Idle(_) => Ok(Transition::only(shut(alloc))),
-        StatusCommand::NoIdle => Ok(Transition::only(shut(alloc))),
+        StatusCommand::Idle(_) => Ok(Transition::only(disconnects(alloc))),
+        StatusCommand::NoIdle => Ok(Transition::only(disconnects(alloc))),
         StatusCommand::Stats(uptime) => stats(alloc, asked, part, library, *uptime),
         StatusCommand::Status(everyday) => status(alloc, asked, part, library, *everyday),
     }
@@ -393,9 +393,9 @@ fn idle(
 ) -> Result<Response, AllocError>
     ensures { Responds result (wished asked client (ToWait named)) }
 {
-    match asked.stand {
-        Stand::Alone => wait_for(alloc, client, named),
-        Stand::InList(_, _) => not_in_list(alloc, asked),
+    match asked.list_place {
+        ListPlace::Alone => wait_for(alloc, client, named),
+        ListPlace::InList(_, _) => not_in_list(alloc, asked),
     }
 }
 
@@ -416,9 +416,9 @@ fn wait_for(alloc: Global, client: Client, named: Subsystems) -> Result<Response
 fn no_idle(alloc: Global, asked: Asked, client: Client) -> Result<Response, AllocError>
     ensures { Responds result (wished asked client ToGoOn) }
 {
-    match asked.stand {
-        Stand::Alone => go_on(alloc, client),
-        Stand::InList(_, _) => not_in_list(alloc, asked),
+    match asked.list_place {
+        ListPlace::Alone => go_on(alloc, client),
+        ListPlace::InList(_, _) => not_in_list(alloc, asked),
     }
 }
 

@@ -14,7 +14,7 @@ pub(crate) struct Parting<'a> {
 }
 
 impl<'a> Parting<'a> {
-    /// Where what was observed parts from what was expected. Of texts with the same lines, as where one lacks its last
+    /// Where what was observed differs from what was expected. Of texts with the same lines, as where one lacks its last
     /// newline, it is behind the last one.
     pub(crate) fn of(observed: &'a str, expected: &'a str) -> Parting<'a> {
         let mut parting = Parting {

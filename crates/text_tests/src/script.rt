@@ -67,7 +67,7 @@ fn add_job(recorder: &mut Recorder, step: &JobStep) {
     match step {
         JobStep::Want => recorder.add("want"),
         JobStep::Have(job, count) => recorder.add(format_args!("have {job} {count}")),
-        JobStep::Failed(job, partner) => recorder.add(format_args!("failed {job} {partner}")),
+        JobStep::Failed(job, of_partner) => recorder.add(format_args!("failed {job} {of_partner}")),
     }
 }
 

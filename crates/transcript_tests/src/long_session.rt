@@ -98,7 +98,7 @@ pub(crate) fn long_session(alloc: Global) -> Result<String, AllocError> {
 /// How many lines `add a.wav` a list of 2,097,152 bytes holds.
 const LIST_LINES: usize = 209_715;
 
-/// What is told of a list as large as a list may be, of which the queue takes 16,384 songs.
+/// What is observed of a list as large as a list may be, of which the queue takes 16,384 songs.
 pub(crate) fn largest_list(alloc: Global) -> Result<String, AllocError> {
     let adds = "1 add a.wav\n".repeat(alloc, LIST_LINES)?;
     let script = format!(in alloc;

@@ -1,10 +1,10 @@
-//! Row files: what a session says, and what it wants to be printed.
+//! Row files: what a session says, and what is expected to be printed.
 
 ghost use Rattle.std.specs.Prelude.{◌<◌, IfSome};
 
 use std::alloc::Global;
 
-/// How an output line is expected.
+/// What is expected of an output line.
 #[derive(Clone, Copy, PartialEq, Eq)]
 pub(crate) enum Kind {
     /// The next line is this one.

@@ -13,8 +13,8 @@ use Rattle.transitions.specs.declared.reply.Move.TheVariants.{Stay}
 use Rattle.transitions.specs.declared.reply.Next.{Next}
 use Rattle.transitions.specs.declared.reply.Next.TheVariants.{Goes, Waits, Closes, Kills}
 use Rattle.transitions.specs.declared.asked.Asked.{Asked}
-use Rattle.transitions.specs.declared.asked.Stand.{Stand}
-use Rattle.transitions.specs.declared.asked.Stand.TheVariants.{Alone, InList}
+use Rattle.transitions.specs.declared.asked.ListPlace.{ListPlace}
+use Rattle.transitions.specs.declared.asked.ListPlace.TheVariants.{Alone, InList}
 use Rattle.shelf.specs.declared.faults.ShelfFault.{ShelfFault}
 use Rattle.shelf.specs.declared.faults.ShelfFault.TheVariants.{NoSuchList, Exists, BadName, NoSticker, StoreFault, NoMemory}
 
@@ -38,13 +38,13 @@ abbrev pub Responds : Result ResponseData AllocError → ResponseData → Type 0
 Responds result response = IfOk result (λ given. given ≡ response)
 
 -- what follows the lines of a success: `OK`; in a list nothing, or `list_OK` where its form wants it
-abbrev pub ending : Stand → List ℕ
+abbrev pub ending : ListPlace → List ℕ
 ending Alone = codes "OK\n"
 ending (InList Plain place) = codes ""
 ending (InList ListOk place) = codes "list_OK\n"
 
 -- the place in its list that a refusal names
-abbrev pub place_of : Stand → ℕ
+abbrev pub place_of : ListPlace → ℕ
 place_of Alone = 0
 place_of (InList form place) = place
 
@@ -53,26 +53,26 @@ abbrev pub tells : List ℕ → Answer
 tells text = record { text = text; next = Goes; refused = false }
 
 -- a success with these lines
-abbrev pub succeeds : Stand → List ℕ → Answer
-succeeds stand lines = tells (lines ++ ending stand)
+abbrev pub succeeds : ListPlace → List ℕ → Answer
+succeeds list_place lines = tells (lines ++ ending list_place)
 
 -- a refusal of a command, or of a line that names none
-abbrev pub refuses : Stand → Option Name → ErrorNumber → List ℕ → Answer
-refuses stand name number text = record { text = ack_line (number_of number) (place_of stand) (text_of_name name) text; next = Goes; refused = true }
+abbrev pub refuses : ListPlace → Option Name → ErrorNumber → List ℕ → Answer
+refuses list_place name number text = record { text = ack_line (number_of number) (place_of list_place) (text_of_name name) text; next = Goes; refused = true }
 
 -- a refusal of the command that a client asks for
 abbrev pub refuses_command : Asked → ErrorNumber → List ℕ → Answer
-refuses_command asked number text = refuses asked.stand (Some asked.name) number text
+refuses_command asked number text = refuses asked.list_place (Some asked.name) number text
 
 -- what a client is told where the shelf refuses what its command asks for. A command looks at names before it
 -- asks, so that a shelf which refuses a name is not a shelf as it should be
-abbrev pub refused_by_shelf : Stand → Option Name → ShelfFault → Answer
-refused_by_shelf stand name NoSuchList = refuses stand name NoExist (codes "no such playlist")
-refused_by_shelf stand name Exists = refuses stand name Exist (codes "playlist exists")
-refused_by_shelf stand name BadName = refuses stand name System (codes "store fault")
-refused_by_shelf stand name NoSticker = refuses stand name NoExist (codes "no such sticker")
-refused_by_shelf stand name StoreFault = refuses stand name System (codes "store fault")
-refused_by_shelf stand name NoMemory = refuses stand name System (codes "store fault")
+abbrev pub refused_by_shelf : ListPlace → Option Name → ShelfFault → Answer
+refused_by_shelf list_place name NoSuchList = refuses list_place name NoExist (codes "no such playlist")
+refused_by_shelf list_place name Exists = refuses list_place name Exist (codes "playlist exists")
+refused_by_shelf list_place name BadName = refuses list_place name System (codes "store fault")
+refused_by_shelf list_place name NoSticker = refuses list_place name NoExist (codes "no such sticker")
+refused_by_shelf list_place name StoreFault = refuses list_place name System (codes "store fault")
+refused_by_shelf list_place name NoMemory = refuses list_place name System (codes "store fault")
 
 -- whether an answer closes its client
 abbrev pub closes : Next → Bool
@@ -86,8 +86,8 @@ abbrev pub silence : Next → Answer
 silence next = record { text = codes ""; next = next; refused = false }
 
 -- closed, without bytes
-abbrev pub shut : Answer
-shut = silence Closes
+abbrev pub disconnects : Answer
+disconnects = silence Closes
 
 -- the same where the daemon ends as well
 abbrev pub shut_down : Answer

@@ -14,7 +14,7 @@ use Rattle.transitions.specs.declared.shelf_calls.ShelfWrite.{ShelfWrite}
 use Rattle.transitions.specs.declared.shelf_calls.ShelfWrite.TheVariants.{Nothing as Unwritten}
 use Rattle.player_state.specs.declared.state.Library.{Library}
 use Rattle.player_state.specs.declared.state.Part.{Part}
-use Rattle.transitions.specs.Answers.{Answer, ResponseData, shut, stays, succeeds, tells}
+use Rattle.transitions.specs.Answers.{Answer, ResponseData, disconnects, stays, succeeds, tells}
 use Rattle.player_state.specs.Effects.{begins_beyond}
 use Rattle.partition_table.specs.declared.crossing.Crossing.{Crossing}
 use Rattle.partition_table.specs.declared.crossing.Crossing.TheVariants.{Stays}
@@ -71,7 +71,7 @@ leaves number response = record (quiet response) { effect = ByCommand (Leaves nu
 
 -- a client goes without an answer
 abbrev pub departs : ℕ → TransitionData
-departs number = leaves number (stays shut)
+departs number = leaves number (stays disconnects)
 
 -- an event that comes from no client is answered by its report alone
 abbrev pub no_response : ResponseData
@@ -91,11 +91,11 @@ acts_unless ended report step = record (acts step) { effect = if ended then ByCo
 
 -- something passes between the partitions, and no lines are shown
 abbrev pub crosses : Asked → Crossing → TransitionData
-crosses asked crossing = record (quiet (stays (succeeds asked.stand (codes "")))) { crossing = crossing }
+crosses asked crossing = record (quiet (stays (succeeds asked.list_place (codes "")))) { crossing = crossing }
 
 -- the client that asks goes to the partition of a number: its channels and its messages end in the other
 abbrev pub enters : Asked → ℕ → TransitionData
-enters asked index = leaves asked.client (record { answer = succeeds asked.stand (codes ""); move = Enter index })
+enters asked index = leaves asked.client (record { answer = succeeds asked.list_place (codes ""); move = Enter index })
 
 -- what a part of the daemon is told that is no client, by an event of the partition of a number
 abbrev pub report_of : ℕ → List Part → Library → TransitionData → Report

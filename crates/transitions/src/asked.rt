@@ -8,20 +8,20 @@ use mpd_command::Name;
 
 /// How a line comes.
 #[derive(Clone, Copy, PartialEq, Eq)]
-pub enum Stand {
+pub enum ListPlace {
     Alone,
     /// In a list of this form, at this place from 0.
     InList(ListForm, usize),
 }
 
-impl Stand {
+impl ListPlace {
     /// The place that a refusal names.
     pub fn place(self) -> usize
         ensures { result ≡ place_of self }
     {
         match self {
-            Stand::Alone => 0,
-            Stand::InList(_, place) => place,
+            ListPlace::Alone => 0,
+            ListPlace::InList(_, place) => place,
         }
     }
 }
@@ -33,5 +33,5 @@ pub struct Asked {
     pub client: u32,
     pub tags: TagSet,
     pub name: Name,
-    pub stand: Stand,
+    pub list_place: ListPlace,
 }

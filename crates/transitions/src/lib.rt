@@ -10,12 +10,12 @@ mod response;
 mod shelf_calls;
 mod transition;
 
-pub use asked::{Asked, Stand};
+pub use asked::{Asked, ListPlace};
 pub use early_report::EarlyReport;
 pub use refusals::{Refusals, shelf_refuses};
 pub use reply::{Move, Next, Reply};
 pub use response::{
-    Response, refuses, refuses_line, shows, shut, shut_down, succeeds, succeeds_and, tells,
+    Response, disconnects, refuses, refuses_line, shows, shut_down, succeeds, succeeds_and, tells,
 };
 pub use shelf_calls::{Entries, Names, Read, ShelfWrite, StoreReply};
 pub use transition::{Telling, Transition};

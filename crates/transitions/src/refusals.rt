@@ -3,7 +3,7 @@ ghost use Rattle.std.specs.Prelude.{◌≡◌, IfOk};
 ghost use Rattle.shelf.specs.declared.faults.ShelfFault.{ShelfFault};
 ghost use Rattle.transitions.specs.Answers.{Responds, refused_by_shelf, stays};
 
-use crate::asked::Stand;
+use crate::asked::ListPlace;
 use crate::response::{Response, refuses_line};
 use mpd_command::Name;
 use mpd_text::ErrorNumber;
@@ -14,7 +14,7 @@ use std::marker::Model;
 /// The answers to a line for each refusal of the shelf. They are made before the shelf is asked to write,
 /// since to make them can fail.
 pub struct Refusals {
-    stand: Stand,
+    list_place: ListPlace,
     name: Option<Name>,
     no_list: Response,
     exists: Response,
@@ -26,7 +26,7 @@ pub struct Refusals {
 impl Drop for Refusals {
     fn drop(self) {
         let Refusals {
-            stand: _,
+            list_place: _,
             name: _,
             no_list: _,
             exists: _,
@@ -40,32 +40,36 @@ impl Model for Refusals {
     ghost use Rattle.std.specs.Prelude.{◌≡◌, Option};
     ghost use Rattle.shelf.specs.declared.faults.ShelfFault.{ShelfFault};
     ghost use Rattle.mpd_command.specs.declared.name.Name.{Name};
-    ghost use Rattle.transitions.specs.declared.asked.Stand.{Stand};
+    ghost use Rattle.transitions.specs.declared.asked.ListPlace.{ListPlace};
     ghost use Rattle.transitions.specs.Answers.{refused_by_shelf, stays};
 
-    ghost Value = { Stand × Option Name };
+    ghost Value = { ListPlace × Option Name };
 
-    ghost view = { λ r. (r.stand, r.name) };
+    ghost view = { λ r. (r.list_place, r.name) };
 
     ghost invariant = { λ r.
-        (r.no_list ≡ stays (refused_by_shelf r.stand r.name ShelfFault.NoSuchList))
-        × (r.exists ≡ stays (refused_by_shelf r.stand r.name ShelfFault.Exists))
-        × (r.no_sticker ≡ stays (refused_by_shelf r.stand r.name ShelfFault.NoSticker))
-        × (r.fault ≡ stays (refused_by_shelf r.stand r.name ShelfFault.StoreFault)) };
+        (r.no_list ≡ stays (refused_by_shelf r.list_place r.name ShelfFault.NoSuchList))
+        × (r.exists ≡ stays (refused_by_shelf r.list_place r.name ShelfFault.Exists))
+        × (r.no_sticker ≡ stays (refused_by_shelf r.list_place r.name ShelfFault.NoSticker))
+        × (r.fault ≡ stays (refused_by_shelf r.list_place r.name ShelfFault.StoreFault)) };
 }
 
 impl Refusals {
     /// The answers to a line that comes so, and names this command.
-    pub fn for_line(alloc: Global, stand: Stand, name: Option<Name>) -> Result<Refusals, AllocError>
-        ensures { IfOk result (λ refusals. refusals ≡ (stand, name)) }
+    pub fn for_line(
+        alloc: Global,
+        list_place: ListPlace,
+        name: Option<Name>,
+    ) -> Result<Refusals, AllocError>
+        ensures { IfOk result (λ refusals. refusals ≡ (list_place, name)) }
     {
         Ok(Refusals {
-            stand,
+            list_place,
             name,
-            no_list: shelf_refuses(alloc, stand, name, ShelfFault::NoSuchList)?,
-            exists: shelf_refuses(alloc, stand, name, ShelfFault::Exists)?,
-            no_sticker: shelf_refuses(alloc, stand, name, ShelfFault::NoSticker)?,
-            fault: shelf_refuses(alloc, stand, name, ShelfFault::StoreFault)?,
+            no_list: shelf_refuses(alloc, list_place, name, ShelfFault::NoSuchList)?,
+            exists: shelf_refuses(alloc, list_place, name, ShelfFault::Exists)?,
+            no_sticker: shelf_refuses(alloc, list_place, name, ShelfFault::NoSticker)?,
+            fault: shelf_refuses(alloc, list_place, name, ShelfFault::StoreFault)?,
         })
     }
 
@@ -74,7 +78,7 @@ impl Refusals {
         ensures { result ≡ stays (refused_by_shelf self.0 self.1 fault) }
     {
         let Refusals {
-            stand: _,
+            list_place: _,
             name: _,
             no_list,
             exists,
@@ -93,29 +97,53 @@ impl Refusals {
 /// What a line is answered where the shelf refuses what it asks for.
 pub fn shelf_refuses(
     alloc: Global,
-    stand: Stand,
+    list_place: ListPlace,
     name: Option<Name>,
     fault: ShelfFault,
 ) -> Result<Response, AllocError>
-    ensures { Responds result (stays (refused_by_shelf stand name fault)) }
+    ensures { Responds result (stays (refused_by_shelf list_place name fault)) }
 {
     match fault {
         ShelfFault::NoSuchList => {
-            refuses_line(alloc, stand, name, ErrorNumber::NoExist, "no such playlist")
+            refuses_line(
+                alloc,
+                list_place,
+                name,
+                ErrorNumber::NoExist,
+                "no such playlist",
+            )
         }
         ShelfFault::Exists => {
-            refuses_line(alloc, stand, name, ErrorNumber::Exist, "playlist exists")
+            refuses_line(
+                alloc,
+                list_place,
+                name,
+                ErrorNumber::Exist,
+                "playlist exists",
+            )
         }
         ShelfFault::NoSticker => {
-            refuses_line(alloc, stand, name, ErrorNumber::NoExist, "no such sticker")
+            refuses_line(
+                alloc,
+                list_place,
+                name,
+                ErrorNumber::NoExist,
+                "no such sticker",
+            )
         }
-        ShelfFault::BadName => refuses_line(alloc, stand, name, ErrorNumber::System, "store fault"),
+        ShelfFault::BadName => refuses_line(
+            alloc,
+            list_place,
+            name,
+            ErrorNumber::System,
+            "store fault",
+        ),
         ShelfFault::StoreFault => {
-            refuses_line(alloc, stand, name, ErrorNumber::System, "store fault")
+            refuses_line(alloc, list_place, name, ErrorNumber::System, "store fault")
         }
         ShelfFault::NoMemory => refuses_line(
             alloc,
-            stand,
+            list_place,
             name,
             ErrorNumber::System,
             "store fault",

@@ -2,9 +2,9 @@
 ghost use Rattle.std.specs.Prelude.{◌≡◌, OnOk, ◌++◌, codes};
 ghost use Rattle.std.specs.String.{string_bytes};
 ghost use Rattle.mpd_command.specs.Requests.{text_of_name};
-ghost use Rattle.transitions.specs.Answers.{Responds, ending, refuses as refuses_lem, refuses_command, response_of, shut as shut_lem, shut_down as shut_down_lem, silence as silence_lem, stays, succeeds as succeeds_lem, tells as tells_lem};
+ghost use Rattle.transitions.specs.Answers.{Responds, ending, refuses as refuses_lem, refuses_command, response_of, disconnects as disconnects_lem, shut_down as shut_down_lem, silence as silence_lem, stays, succeeds as succeeds_lem, tells as tells_lem};
 
-use crate::asked::{Asked, Stand};
+use crate::asked::{Asked, ListPlace};
 use crate::reply::{Move, Next, Reply};
 use command_lists::ListForm;
 use mpd_command::Name;
@@ -82,37 +82,37 @@ pub fn tells(text: String, client_move: Move) -> Response
 
 /// A success that shows no lines.
 pub fn succeeds(alloc: Global, asked: Asked) -> Result<Response, AllocError>
-    ensures { Responds result (stays (succeeds_lem asked.stand (codes ""))) }
+    ensures { Responds result (stays (succeeds_lem asked.list_place (codes ""))) }
 {
     shows(asked, Answer::new(alloc))
 }
 
 /// A success that shows no lines, by which the client that asks does this.
 pub fn succeeds_and(alloc: Global, asked: Asked, client_move: Move) -> Result<Response, AllocError>
-    ensures { Responds result (record { answer = succeeds_lem asked.stand (codes ""); move = client_move }) }
+    ensures { Responds result (record { answer = succeeds_lem asked.list_place (codes ""); move = client_move }) }
 {
     let mut nothing = Answer::new(alloc);
-    end(&mut nothing, asked.stand)?;
+    end(&mut nothing, asked.list_place)?;
     Ok(tells(nothing.into_string(), client_move))
 }
 
 /// A success that shows these lines.
 pub fn shows(asked: Asked, lines: Answer) -> Result<Response, AllocError>
-    ensures { Responds result (stays (succeeds_lem asked.stand lines)) }
+    ensures { Responds result (stays (succeeds_lem asked.list_place lines)) }
 {
     let mut lines = lines;
-    end(&mut lines, asked.stand)?;
+    end(&mut lines, asked.list_place)?;
     Ok(tells(lines.into_string(), Move::Stay))
 }
 
 /// Ends the lines of a success.
-fn end(lines: &mut Answer, stand: Stand) -> Result<(), AllocError>
-    ensures { OnOk result (lines.new ≡ lines.old ++ ending stand) }
+fn end(lines: &mut Answer, list_place: ListPlace) -> Result<(), AllocError>
+    ensures { OnOk result (lines.new ≡ lines.old ++ ending list_place) }
 {
-    match stand {
-        Stand::Alone => lines.ok(),
-        Stand::InList(ListForm::Plain, _) => Ok(()),
-        Stand::InList(ListForm::ListOk, _) => lines.list_ok(),
+    match list_place {
+        ListPlace::Alone => lines.ok(),
+        ListPlace::InList(ListForm::Plain, _) => Ok(()),
+        ListPlace::InList(ListForm::ListOk, _) => lines.list_ok(),
     }
 }
 
@@ -125,21 +125,21 @@ pub fn refuses(
 ) -> Result<Response, AllocError>
     ensures { Responds result (stays (refuses_command asked number text.now)) }
 {
-    refuses_line(alloc, asked.stand, Some(asked.name), number, text)
+    refuses_line(alloc, asked.list_place, Some(asked.name), number, text)
 }
 
 /// A refusal of a line, which may name no command.
 pub fn refuses_line(
     alloc: Global,
-    stand: Stand,
+    list_place: ListPlace,
     name: Option<Name>,
     number: ErrorNumber,
     text: &str,
 ) -> Result<Response, AllocError>
-    ensures { Responds result (stays (refuses_lem stand name number text.now)) }
+    ensures { Responds result (stays (refuses_lem list_place name number text.now)) }
 {
     let mut answer = Answer::new(alloc);
-    let place = stand.place();
+    let place = list_place.place();
     answer.ack(number, place, name_text(name), text)?;
     Ok(Response::of(answer.into_string(), Next::Goes, true, Move::Stay))
 }
@@ -154,8 +154,8 @@ fn name_text(name: Option<Name>) -> &'static str
 }
 
 /// Closed, without bytes.
-pub fn shut(alloc: Global) -> Response
-    ensures { result ≡ stays shut_lem }
+pub fn disconnects(alloc: Global) -> Response
+    ensures { result ≡ stays disconnects_lem }
 {
     silence(alloc, Next::Closes)
 }

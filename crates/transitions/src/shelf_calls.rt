@@ -133,9 +133,14 @@ pub enum ShelfWrite {
     Rename(Text, Text, bool),
     /// A stored playlist goes, and whether it has stickers, which go too.
     Remove(Text, bool),
-    /// The sticker of a target, with the name that comes second, has the value that comes third, and whether
-    /// it had another or none.
-    SetSticker(StickerKind, Text, Text, Text, bool),
+    /// The sticker of a target with a name has a value, and whether it had another or none.
+    SetSticker {
+        kind: StickerKind,
+        target: Text,
+        name: Text,
+        value: Text,
+        changes: bool,
+    },
     /// The sticker of a target with a name goes.
     DeleteSticker(StickerKind, Text, Text),
     /// All stickers of a target go.
@@ -151,7 +156,13 @@ impl Drop for ShelfWrite {
             | ShelfWrite::Create(_, _)
             | ShelfWrite::Rename(_, _, _)
             | ShelfWrite::Remove(_, _)
-            | ShelfWrite::SetSticker(_, _, _, _, _)
+            | ShelfWrite::SetSticker {
+                kind: _,
+                target: _,
+                name: _,
+                value: _,
+                changes: _,
+            }
             | ShelfWrite::DeleteSticker(_, _, _)
             | ShelfWrite::DeleteStickers(_, _) => {}
         }
@@ -182,7 +193,7 @@ impl ShelfWrite {
         ensures { result ≡ changes_stickers_lem self.now }
     {
         match self {
-            ShelfWrite::SetSticker(_, _, _, _, changes) => *changes,
+            ShelfWrite::SetSticker { changes, .. } => *changes,
             ShelfWrite::Rename(_, _, has_stickers) | ShelfWrite::Remove(_, has_stickers) => {
                 *has_stickers
             }

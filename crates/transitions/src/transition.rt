@@ -12,7 +12,9 @@ ghost use Rattle.transitions.specs.Transitions.{IsDecidedBy, acts as acts_lem, a
 use crate::asked::Asked;
 use crate::early_report::EarlyReport;
 use crate::reply::Move;
-use crate::response::{Response, refuses, shows, shut, shut_down, succeeds, succeeds_and, tells};
+use crate::response::{
+    Response, disconnects, refuses, shows, shut_down, succeeds, succeeds_and, tells,
+};
 use crate::shelf_calls::ShelfWrite;
 use mpd_text::{Answer, ErrorNumber};
 use partition_table::{Crossing, Parts};
@@ -173,7 +175,7 @@ impl Transition {
     pub fn departs(alloc: Global, client: u32) -> Transition
         ensures { result ≡ departs_lem client }
     {
-        Transition::leaves(client, shut(alloc))
+        Transition::leaves(client, disconnects(alloc))
     }
 
     /// The client that asks is gone, without an answer.

@@ -172,9 +172,14 @@ impl Player {
     }
 
     /// The decoder could not read the song of a job, or that of the partner that is mixed in.
-    pub fn failed(&mut self, queue: &Queue, number: u64, partner: bool) -> Result<(), PlayerFault>
-        ensures ok { OnOk result (self.new ≡ decoding.failed self.old (queue_of queue.now) number partner) }
-        ensures limit { IsRefusedAtLimit result (decoding.failed self.old (queue_of queue.now) number partner) }
+    pub fn failed(
+        &mut self,
+        queue: &Queue,
+        number: u64,
+        of_partner: bool,
+    ) -> Result<(), PlayerFault>
+        ensures ok { OnOk result (self.new ≡ decoding.failed self.old (queue_of queue.now) number of_partner) }
+        ensures limit { IsRefusedAtLimit result (decoding.failed self.old (queue_of queue.now) number of_partner) }
         ensures err { OnErr result (self.new ≡ self.old) }
     {
         let Some(job) = self.job else {
@@ -183,7 +188,7 @@ impl Player {
         if job.number != number {
             return Ok(());
         }
-        if !partner {
+        if !of_partner {
             return self.stop_unread(queue, job.id);
         }
         if job.fade.is_some() {

@@ -18,8 +18,8 @@ use std::alloc::AllocError;
 use std::ops::Range;
 
 impl Player {
-    /// Puts songs into a queue that can take them, and each of the new entries draws a rank. Where memory is
-    /// wanted, nothing changes.
+    /// Puts songs into a queue that can take them, and each of the new entries draws a rank. Where memory runs
+    /// out, nothing changes.
     pub fn insert(
         &mut self,
         queue: &mut Queue,
@@ -35,7 +35,7 @@ impl Player {
         self.round.insert(queue, at, songs)
     }
 
-    /// Shuffles the entries of a range of the queue. Where memory is wanted, nothing changes.
+    /// Shuffles the entries of a range of the queue. Where memory runs out, nothing changes.
     pub fn shuffle(&mut self, queue: &mut Queue, range: Range<usize>) -> Result<(), AllocError>
         requires order { range.start ≤ range.end }
         requires within { range.end ≤ length (queue_of queue.old) }

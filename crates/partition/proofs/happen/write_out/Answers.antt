@@ -3,7 +3,7 @@ use Rattle.shelf.specs.Maps.{Changes}
 use Rattle.transitions.specs.declared.shelf_calls.ShelfWrite.{ShelfWrite}
 use Rattle.mpd_command.specs.declared.name.Name.{Name}
 use Rattle.shelf.specs.declared.faults.ShelfFault.{ShelfFault}
-use Rattle.transitions.specs.declared.asked.Stand.{Stand}
+use Rattle.transitions.specs.declared.asked.ListPlace.{ListPlace}
 use Rattle.transitions.specs.declared.shelf_calls.StoreReply.{StoreReply}
 use Rattle.transitions.specs.Answers.{refused_by_shelf, stays}
 use Rattle.transitions.specs.Transitions.{TransitionData}
@@ -26,7 +26,7 @@ returns g c =
     let written_is : c.transition.inside.written ≡ c.args.transition.written = ap (λ (t : TransitionData). t.written) c.transition.view_is in
     record {
       event = c.refuse.ensures ∙ ap (λ (r : Option ShelfFault). with_store_reply c.args.event.now (record (store_reply_at c.args.event.now) { refused = r })) (sym refused_is);
-      transition = c.only.ensures ∙ ap quiet (c.into_response.ensures ∙ ap (λ (r : Stand × Option Name). stays (refused_by_shelf r.0 r.1 c.in-Err.fault)) c.requires.refusals)
+      transition = c.only.ensures ∙ ap quiet (c.into_response.ensures ∙ ap (λ (r : ListPlace × Option Name). stays (refused_by_shelf r.0 r.1 c.in-Err.fault)) c.requires.refusals)
           ∙ sym (refused_transition i c.args.event.now c.in-Err.fault writes c.requires.unrefused)
           ∙ ap (transition i) (sym c.refuse.ensures);
       alone = rw c.only.ensures refl;

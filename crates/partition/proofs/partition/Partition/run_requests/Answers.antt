@@ -2,7 +2,7 @@ use Rattle.std.proofs.Common.{◌≡◌, ◌∷◌, [], length, ap, sym, subst, 
 use Rattle.std.proofs.lemmas.List.{length-append}
 use Rattle.std.specs.Vec.Iter.{into_iter_items}
 use Rattle.player_events.specs.declared.event.Event.TheVariants.{Line}
-use Rattle.transitions.specs.declared.asked.Stand.TheVariants.{InList}
+use Rattle.transitions.specs.declared.asked.ListPlace.TheVariants.{InList}
 use Rattle.partition.specs.History.{with_room}
 use Rattle.partition.specs.Lent.{Records, Refuses}
 use Rattle.transitions.specs.Shelves.{no_store_reply}
