@@ -3,4 +3,4 @@ pub mod Queue
 pub mod Library
 pub mod Clients
 pub mod Lines
-pub mod Passages
+pub mod ClientSteps

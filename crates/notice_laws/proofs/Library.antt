@@ -28,7 +28,7 @@ use Rattle.library_commands.specs.Playlists.{result_of as playlists_result}
 use Rattle.library_commands.specs.Stickers.{is_song_or_folder, named_sticker, show_found, result_of as stickers_result}
 use Rattle.transitions.specs.CommandResults.{no_such_song}
 use Rattle.transitions.specs.Transitions.{CommandResult}
-use Rattle.notice_laws.specs.Passages.{HearsOfNone, IsUntold, Passage, Stays, library_of}
+use Rattle.notice_laws.specs.ClientSteps.{HearsOfNone, IsUntold, ClientStep, Stays, library_of}
 use Rattle.notice_laws.specs.Tellers.{database_tellers, sticker_tellers}
 use Rattle.notice_laws.specs.Told.{DatabaseIsTold, PlaylistsAreTold, StickersAreTold}
 use Rattle.notice_laws.proofs.Unheard.{songs_kept}
@@ -79,7 +79,7 @@ module _ (asked : Asked) (l : Library) (scan : ScanMove) where
       elim (shows_playlists uri everyday) as (λ b. (if b then list_root asked l read else list_path asked l uri) ≡ (if b then list_root asked m read else list_path asked m uri))
       [ true ↦ same_root read | false ↦ same_song_or_folder (song_of l.songs uri) uri ]
 
-  same_database : (p : Passage) (a b : Part) (read : Read) (it : DatabaseCommand) → IsUntold p (database_tellers it)
+  same_database : (p : ClientStep) (a b : Part) (read : Read) (it : DatabaseCommand) → IsUntold p (database_tellers it)
       → database_result asked a l read it ≡ database_result asked b m read it
   unfolding database_result
   same_database p a b read (database.AlbumArt uri offset) h = refl
@@ -99,7 +99,7 @@ module _ (asked : Asked) (l : Library) (scan : ScanMove) where
   same_met (answer.Refused fault) uri name test = refl
   same_met _ uri name test = refl
 
-  same_stickers : (p : Passage) (read : Read) (it : StickerCommand) → IsUntold p (sticker_tellers it) → stickers_result asked l read it ≡ stickers_result asked m read it
+  same_stickers : (p : ClientStep) (read : Read) (it : StickerCommand) → IsUntold p (sticker_tellers it) → stickers_result asked l read it ≡ stickers_result asked m read it
   same_stickers p read (stickers.Get (target.Song uri) name) h = refl
   same_stickers p read (stickers.Get (target.Playlist list) name) h = refl
   same_stickers p read (stickers.List (target.Song uri)) h = refl
@@ -110,7 +110,7 @@ module _ (asked : Asked) (l : Library) (scan : ScanMove) where
   same_stickers p read _ h = absurd h
 
 -- a subsystem of the library is heard of by each of its commands
-tells_database : (p : Passage) (it : DatabaseCommand) → IsUntold p (database_tellers it) → HearsOfNone p (Database ∷ [])
+tells_database : (p : ClientStep) (it : DatabaseCommand) → IsUntold p (database_tellers it) → HearsOfNone p (Database ∷ [])
 tells_database p (database.AlbumArt other offset) h = h
 tells_database p (database.Count counting) h = h
 tells_database p (database.Find selection) h = h
@@ -138,7 +138,7 @@ playlists_are_told p asked read (playlists.ListPlaylistInfo name) stays h =
 playlists_are_told p asked read playlists.ListPlaylists stays h = refl
 playlists_are_told p asked read _ stays h = absurd h
 
-by_songs : (p : Passage) (asked : Asked) (read : Read) (it : StickerCommand) → Stays p → IsUntold p (sticker_tellers it) → HearsOfNone p (Database ∷ [])
+by_songs : (p : ClientStep) (asked : Asked) (read : Read) (it : StickerCommand) → Stays p → IsUntold p (sticker_tellers it) → HearsOfNone p (Database ∷ [])
     → stickers_result asked p.library read it ≡ stickers_result asked (library_of p) read it
 by_songs p asked read it stays h none =
     let songs : p.library.songs ≡ (library_of p).songs = songs_kept p stays none.0 in

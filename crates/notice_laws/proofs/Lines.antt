@@ -17,7 +17,7 @@ use Rattle.status_commands.specs.Status as status
 use Rattle.status_commands.specs.Status.{result_of as status_result}
 use Rattle.status_commands.proofs.Lines.{four, five}
 use Rattle.notice_laws.specs.Lines.{field, status_lines, text_of, while_going}
-use Rattle.notice_laws.specs.Passages.{HearsOfNone, Passage, Stays, library_of}
+use Rattle.notice_laws.specs.ClientSteps.{HearsOfNone, ClientStep, Stays, library_of}
 use Rattle.notice_laws.specs.Told.{HasLines, LinesAreTold}
 use Rattle.notice_laws.proofs.Queue.{same_current_lines, with_slots}
 use Rattle.notice_laws.proofs.Unheard.{options_kept, playing_kept, queue_kept, scan_kept, songs_kept, updated_kept, volume_kept}
@@ -76,7 +76,7 @@ has_lines asked everyday uptime part library = (
   ap (λ l. shows asked (uptime_line uptime ++ (playtime_line part library ++ l))) (sym (append-nil (library_lines library))),
 )
 
-module _ (p : Passage) (stays : Stays p) where
+module _ (p : ClientStep) (stays : Stays p) where
   abbrev rate : ℕ
   rate = p.library.rate
 

@@ -23,7 +23,7 @@ use Rattle.queue_commands.specs.Playback.{lines_at}
 use Rattle.queue_commands.specs.Queue.{count, entry_lines, position_lines, position_of_id, playlist_find, range_or_all, show_changed, show_one, show_positions, result_of as queue_result}
 use Rattle.status_commands.specs.Status.{current_lines, result_of as status_result}
 use Rattle.connected_clients.specs.Clients.{playing}
-use Rattle.notice_laws.specs.Passages.{HearsOfNone, IsUntold, Passage}
+use Rattle.notice_laws.specs.ClientSteps.{HearsOfNone, IsUntold, ClientStep}
 use Rattle.notice_laws.specs.Tellers.{queue_tellers}
 use Rattle.notice_laws.specs.Told.{QueueIsTold, StatusIsTold}
 use Rattle.notice_laws.proofs.Unheard.{playing_kept, queue_kept}
@@ -59,7 +59,7 @@ module _ (asked : Asked) (a b : Part) (l : Library) (scan : ScanMove) where
   same_changed lines version None = refl
   same_changed lines version (Some r) = refl
 
-  same_queue_answer : (p : Passage) (it : QueueCommand) → IsUntold p (queue_tellers it) → queue_result asked c l it ≡ queue_result asked b m it
+  same_queue_answer : (p : ClientStep) (it : QueueCommand) → IsUntold p (queue_tellers it) → queue_result asked c l it ≡ queue_result asked b m it
   unfolding queue_result
   same_queue_answer p queue.Playlist h = refl
   same_queue_answer p (queue.PlaylistFind criteria) h = same_found Heeded criteria
@@ -72,7 +72,7 @@ module _ (asked : Asked) (a b : Part) (l : Library) (scan : ScanMove) where
   same_queue_answer p _ h = absurd h
 
 -- a subsystem of the queue is heard of by each of its commands
-tells_playlist : (p : Passage) (it : QueueCommand) → IsUntold p (queue_tellers it) → HearsOfNone p (Playlist ∷ [])
+tells_playlist : (p : ClientStep) (it : QueueCommand) → IsUntold p (queue_tellers it) → HearsOfNone p (Playlist ∷ [])
 tells_playlist p queue.Playlist h = h
 tells_playlist p (queue.PlaylistFind criteria) h = h
 tells_playlist p (queue.PlaylistId id) h = h

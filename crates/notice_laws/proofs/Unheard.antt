@@ -24,7 +24,7 @@ use Rattle.player_state.proofs.Songs.{same_songs-true}
 use Rattle.partition_table.specs.Parts.{part_at}
 use Rattle.connected_clients.specs.Clients.{has_messages, names_of, options, output_flags, playing, raised_between, raised_for_all, raised_within, watched_all, watched_at, watched_of}
 use Rattle.connected_clients.proofs.Alike.{same_names-true, same_options-true, same_outputs-true, same_pairs-true, same_playing-true}
-use Rattle.notice_laws.specs.Passages.{Passage, Stays, heard, library_of}
+use Rattle.notice_laws.specs.ClientSteps.{ClientStep, Stays, heard, library_of}
 
 is : (b : Bool) → not b ≡ false → b ≡ true
 is true e = refl
@@ -90,7 +90,7 @@ runs_on last false Begin e =
 runs_on last true (End songs second) e = cc
 runs_on last false (End songs second) e = refl
 
-module _ (p : Passage) (stays : Stays p) where
+module _ (p : ClientStep) (stays : Stays p) where
   abbrev common : Subsystems
   common = raised_for_all p.written (watched_all p.library p.before) (watched_all (library_of p) p.after)
 

@@ -1,4 +1,4 @@
-pub mod Passages
+pub mod ClientSteps
 pub mod Tellers
 pub mod Lines
 pub mod Told

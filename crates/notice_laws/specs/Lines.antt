@@ -13,7 +13,7 @@ use Rattle.player_state.specs.declared.state.Library.{Library}
 use Rattle.player_state.specs.declared.state.Part.{Part}
 use Rattle.status_commands.specs.Stats.{library_lines, playtime_line, uptime_line}
 use Rattle.status_commands.specs.Status.{audio_line, consume_text, current_duration, current_lines, current_time, digit, elapsed_line, error_line, fade_line, next_lines_of, scan_line, single_text, state_text}
-use Rattle.notice_laws.specs.Passages.{IsUntold, Passage}
+use Rattle.notice_laws.specs.ClientSteps.{IsUntold, ClientStep}
 
 -- A line, or some that come and go together; no text where they are left out
 pub record Line : Type 0 where
@@ -71,7 +71,7 @@ abbrev pub text_of : List Line → List ℕ
 text_of lines = flat_map (λ (line : Line). line.text) lines
 
 -- line by line, what nothing is told of has not changed
-abbrev pub ChangeWhereTold : Passage → List Line → List Line → Type 0
+abbrev pub ChangeWhereTold : ClientStep → List Line → List Line → Type 0
 ChangeWhereTold p [] [] = Unit {0}
 ChangeWhereTold p [] (line ∷ lines) = ⊥
 ChangeWhereTold p (line ∷ lines) [] = ⊥

@@ -30,35 +30,35 @@ use Rattle.status_commands.specs.Options.{result_of as options_result}
 use Rattle.status_commands.specs.Outputs.{result_of as outputs_result}
 use Rattle.status_commands.specs.Status.{result_of as status_result}
 use Rattle.notice_laws.specs.Lines.{ChangeWhereTold, stats_lines, status_lines, text_of}
-use Rattle.notice_laws.specs.Passages.{HearsOfNone, IsUntold, Passage, Stays, library_of}
+use Rattle.notice_laws.specs.ClientSteps.{HearsOfNone, IsUntold, ClientStep, Stays, library_of}
 use Rattle.notice_laws.specs.Tellers.{database_tellers, message_tellers, option_tellers, output_tellers, partition_tellers, playlist_tellers, queue_tellers, status_tellers, sticker_tellers}
 
 -- Where none of the subsystems is raised that tell of a command, it is answered the same at both moments
 
 abbrev pub QueueIsTold : Type 0
-QueueIsTold = (p : Passage) (asked : Asked) (it : QueueCommand) → Stays p → IsUntold p (queue_tellers it)
+QueueIsTold = (p : ClientStep) (asked : Asked) (it : QueueCommand) → Stays p → IsUntold p (queue_tellers it)
     → queue_result asked p.own p.library it ≡ queue_result asked p.later (library_of p) it
 
 abbrev pub StatusIsTold : Type 0
-StatusIsTold = (p : Passage) (asked : Asked) (it : StatusCommand) → Stays p → IsUntold p (status_tellers it)
+StatusIsTold = (p : ClientStep) (asked : Asked) (it : StatusCommand) → Stays p → IsUntold p (status_tellers it)
     → status_result asked p.own p.library it ≡ status_result asked p.later (library_of p) it
 
 abbrev pub OptionsAreTold : Type 0
-OptionsAreTold = (p : Passage) (asked : Asked) (it : OptionCommand) → Stays p → IsUntold p (option_tellers it)
+OptionsAreTold = (p : ClientStep) (asked : Asked) (it : OptionCommand) → Stays p → IsUntold p (option_tellers it)
     → options_result asked p.own it ≡ options_result asked p.later it
 
 abbrev pub OutputsAreTold : Type 0
-OutputsAreTold = (p : Passage) (asked : Asked) (it : OutputCommand) → Stays p → IsUntold p (output_tellers it)
+OutputsAreTold = (p : ClientStep) (asked : Asked) (it : OutputCommand) → Stays p → IsUntold p (output_tellers it)
     → outputs_result asked p.own it ≡ outputs_result asked p.later it
 
 abbrev pub ChannelsAreTold : Type 0
-ChannelsAreTold = (p : Passage) (asked : Asked) (it : MessageCommand) → Stays p → IsUntold p (message_tellers it)
+ChannelsAreTold = (p : ClientStep) (asked : Asked) (it : MessageCommand) → Stays p → IsUntold p (message_tellers it)
     → messages_result asked p.own it ≡ messages_result asked p.later it
 
 -- the clients and what a partition opens with are no matter here
 abbrev pub PartitionsAreTold : Type 0
 PartitionsAreTold =
-    (p : Passage) (asked : Asked) (ks : List Seated) (openings : OpeningsData) (it : PartitionCommand) → Stays p
+    (p : ClientStep) (asked : Asked) (ks : List Seated) (openings : OpeningsData) (it : PartitionCommand) → Stays p
     → IsUntold p (partition_tellers it)
     → planned (map known p.before) ks openings asked p.client.index it
     ≡ planned (map known p.after) ks openings asked p.client.index it
@@ -66,23 +66,23 @@ PartitionsAreTold =
 -- What the shelf answers is given: of its own two maps the events themselves say whether they make them others
 abbrev pub DatabaseIsTold : Type 0
 DatabaseIsTold =
-    (p : Passage) (asked : Asked) (read : Read) (it : DatabaseCommand) → Stays p → IsUntold p (database_tellers it)
+    (p : ClientStep) (asked : Asked) (read : Read) (it : DatabaseCommand) → Stays p → IsUntold p (database_tellers it)
     → database_result asked p.own p.library read it ≡ database_result asked p.later (library_of p) read it
 
 abbrev pub PlaylistsAreTold : Type 0
 PlaylistsAreTold =
-    (p : Passage) (asked : Asked) (read : Read) (it : PlaylistCommand) → Stays p → IsUntold p (playlist_tellers it)
+    (p : ClientStep) (asked : Asked) (read : Read) (it : PlaylistCommand) → Stays p → IsUntold p (playlist_tellers it)
     → playlists_result asked p.own p.library read it ≡ playlists_result asked p.later (library_of p) read it
 
 abbrev pub StickersAreTold : Type 0
 StickersAreTold =
-    (p : Passage) (asked : Asked) (read : Read) (it : StickerCommand) → Stays p → IsUntold p (sticker_tellers it)
+    (p : ClientStep) (asked : Asked) (read : Read) (it : StickerCommand) → Stays p → IsUntold p (sticker_tellers it)
     → stickers_result asked p.library read it ≡ stickers_result asked (library_of p) read it
 
 -- A client for which messages wait has heard so, and hears of no further ones until it has read them
 abbrev pub MessagesAreTold : Type 0
 MessagesAreTold =
-    (p : Passage) (asked : Asked) → Stays p → asked.client ≡ p.client.number
+    (p : ClientStep) (asked : Asked) → Stays p → asked.client ≡ p.client.number
     → messages_of p.client.number p.own.channels ≡ [] → HearsOfNone p (Message ∷ [])
     → messages_result asked p.own ReadMessages ≡ messages_result asked p.later ReadMessages
 
@@ -94,6 +94,6 @@ HasLines = (asked : Asked) (everyday : Bool) (uptime : Option ℕ) (part : Part)
 
 -- each changes where a subsystem that tells of it is raised, if any tells of it
 abbrev pub LinesAreTold : Type 0
-LinesAreTold = (p : Passage) (everyday : Bool) (before after : Option ℕ) → Stays p
+LinesAreTold = (p : ClientStep) (everyday : Bool) (before after : Option ℕ) → Stays p
     → ChangeWhereTold p (status_lines everyday p.own p.library) (status_lines everyday p.later (library_of p))
     × ChangeWhereTold p (stats_lines before p.own p.library) (stats_lines after p.later (library_of p))

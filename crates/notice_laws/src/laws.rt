@@ -1,10 +1,10 @@
 //! The laws of what clients are told of. A caller that calls one may use it; it does nothing.
-ghost use Rattle.notice_laws.specs.Passages.{EventsArePassages};
+ghost use Rattle.notice_laws.specs.ClientSteps.{EventsAreClientSteps};
 ghost use Rattle.notice_laws.specs.Told.{ChannelsAreTold, DatabaseIsTold, HasLines, LinesAreTold, MessagesAreTold, OptionsAreTold, OutputsAreTold, PartitionsAreTold, PlaylistsAreTold, QueueIsTold, StatusIsTold, StickersAreTold};
 
-/// Each event of a daemon is a passage for each client that it leaves where it is: so all laws speak of it.
-pub fn events_are_passages()
-    ensures { EventsArePassages }
+/// Each event of a daemon is a step of each client that it leaves where it is: so all laws speak of it.
+pub fn events_are_client_steps()
+    ensures { EventsAreClientSteps }
 {}
 
 /// Two moments at which a command that asks is answered otherwise have a notice between them, of a subsystem

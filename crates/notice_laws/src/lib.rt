@@ -4,4 +4,6 @@
 
 mod laws;
 
-pub use laws::{answers_are_told_of, events_are_passages, lines_are_told_of, messages_are_told_of};
+pub use laws::{
+    answers_are_told_of, events_are_client_steps, lines_are_told_of, messages_are_told_of,
+};

@@ -3,7 +3,7 @@ use crate::session::{session, session_over};
 use command_arguments::Volume;
 use mpd_command::{CommandSet, Name, Request, names};
 use notice_laws::{
-    answers_are_told_of, events_are_passages, lines_are_told_of, messages_are_told_of,
+    answers_are_told_of, events_are_client_steps, lines_are_told_of, messages_are_told_of,
 };
 use partition::{PartitionFault, folds_are_unseen, reads_pending, replays_worlds};
 use partition_laws::{
@@ -365,7 +365,7 @@ fn laws_can_be_called(_rt: HostRuntime) {
     replays_worlds();
     folds_are_unseen();
     reads_pending();
-    events_are_passages();
+    events_are_client_steps();
     answers_are_told_of();
     lines_are_told_of();
     messages_are_told_of();

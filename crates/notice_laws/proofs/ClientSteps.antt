@@ -1,4 +1,4 @@
--- Each event is a passage for each client that stays where it is.
+-- Each event is a step of each client that stays where it is.
 use Rattle.std.proofs.Common.{◌≡◌, ◌≢◌, ℕ, ◌==◌, Bool, true, false, List, Option, Some, None, map, refl, ap, sym, ◌∙◌, subst, if◌then◌else◌}
 use Rattle.std.specs.Prelude.{option_map}
 use Rattle.std.proofs.lemmas.Bool.{eq-eqb, eqb-true}
@@ -16,7 +16,7 @@ use Rattle.partition_table.specs.Parts.{Known, carried_in, changed, known, moved
 use Rattle.partition_table.specs.declared.crossing.Crossing.{Crossing}
 use Rattle.partition_table.specs.declared.crossing.Crossing.TheVariants as crossing
 use Rattle.partition_table.proofs.Looks.{other_changed, own_changed, own_moved, part_moved}
-use Rattle.notice_laws.specs.Passages.{EventsArePassages}
+use Rattle.notice_laws.specs.ClientSteps.{EventsAreClientSteps}
 
 -- the name of a partition, the names of all outputs, and its queue
 pub record IsAlike (p : Part) (q : QueueState) (later : Part) : Type 0 where
@@ -98,7 +98,7 @@ module _ (rate index : ℕ) (effect : Effect) (c : Crossing) (parts : List Part)
       ] in
       cases (at == index) refl
 
-pub events_are_passages : EventsArePassages
-events_are_passages client index t parts library own later e f =
+pub events_are_client_steps : EventsAreClientSteps
+events_are_client_steps client index t parts library own later e f =
     let by = left library.rate index t.effect t.crossing parts own later client.index e f in
     record { own = e; later = f; name = by.name; outputs = by.outputs; queue = by.queue }

@@ -17,7 +17,7 @@ use Rattle.connected_clients.specs.Clients.{raised_there, watched_all}
 
 -- the client; the partitions at both moments, and of them its own; the library at the first; and what the event
 -- makes of the scans, of the queue of that partition, and of the shelf
-pub record Passage : Type 0 where
+pub record ClientStep : Type 0 where
   pub client : Client
   pub before : List Part
   pub after : List Part
@@ -29,12 +29,12 @@ pub record Passage : Type 0 where
   pub written : ShelfWrite
 
 -- the library at the second moment
-abbrev pub library_of : Passage → Library
+abbrev pub library_of : ClientStep → Library
 library_of p = library_after p.library p.scan
 
 -- The client's partition is there at both moments. Its name and the names of all outputs never change, and its
 -- queue by one edit or step, or not at all. All else of it may be anything at both
-pub record Stays (p : Passage) : Type 0 where
+pub record Stays (p : ClientStep) : Type 0 where
   pub own : part_at p.client.index p.before ≡ Some p.own
   pub later : part_at p.client.index p.after ≡ Some p.later
   pub name : p.later.name ≡ p.own.name
@@ -42,8 +42,8 @@ pub record Stays (p : Passage) : Type 0 where
   pub queue : p.later.queue ≡ queue_after p.own.queue p.change
 
 -- an event of the partition of a number, for a client that is in this partition before it and after it
-abbrev pub passage_of : Client → ℕ → TransitionData → List Part → Library → Part → Part → Passage
-passage_of client index t parts library own later = record {
+abbrev pub client_step_of : Client → ℕ → TransitionData → List Part → Library → Part → Part → ClientStep
+client_step_of client index t parts library own later = record {
   client = client;
   before = parts;
   after = parts_after library.rate index t parts;
@@ -56,23 +56,23 @@ passage_of client index t parts library own later = record {
 }
 
 -- so is each event for each client that it leaves where it is, also an event of another partition
-abbrev pub EventsArePassages : Type 0
-EventsArePassages =
+abbrev pub EventsAreClientSteps : Type 0
+EventsAreClientSteps =
     (client : Client) (index : ℕ) (t : TransitionData) (parts : List Part) (library : Library) (own later : Part)
     → part_at client.index parts ≡ Some own
     → part_at client.index (parts_after library.rate index t parts) ≡ Some later
-    → Stays (passage_of client index t parts library own later)
+    → Stays (client_step_of client index t parts library own later)
 
 -- what the event raises for the client
-abbrev pub heard : Passage → Subsystems
+abbrev pub heard : ClientStep → Subsystems
 heard p = raised_there p.written (watched_all p.library p.before) (watched_all (library_of p) p.after) p.client
 
 -- it raises none of these
-abbrev pub HearsOfNone : Passage → List Subsystem → Type 0
+abbrev pub HearsOfNone : ClientStep → List Subsystem → Type 0
 HearsOfNone p [] = Unit {0}
 HearsOfNone p (one ∷ ones) = (has (heard p) one ≡ false) × HearsOfNone p ones
 
 -- a subsystem tells of it, or several do, and none of them is raised; nobody tells of it where there is no list
-abbrev pub IsUntold : Passage → Option (List Subsystem) → Type 0
+abbrev pub IsUntold : ClientStep → Option (List Subsystem) → Type 0
 IsUntold p None = ⊥
 IsUntold p (Some ones) = HearsOfNone p ones
