@@ -21,14 +21,14 @@ pub enum Program<'a> {
 /// Why words name no program.
 #[derive(Drop)]
 pub enum LineFault {
-    /// They are refused, or ask for help or the version. The error prints itself where it belongs.
+    /// It is a usage error, or asks for help or the version. The error prints itself where it belongs.
     Refused(Error),
     /// There was no memory.
     NoMemory,
 }
 
 impl LineFault {
-    /// The exit status: 0 for help and the version, 1 without memory, and 2 for words that are refused.
+    /// The exit status: 0 for help and the version, 1 without memory, and 2 for a usage error.
     pub fn status(&self) -> u8
         ensures { result ≡ status_of self.now }
     {

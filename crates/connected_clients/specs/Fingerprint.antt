@@ -101,8 +101,8 @@ abbrev pub is_among : ℕ → List ℕ → Bool
 is_among number numbers = list_any (λ n. n == number) numbers
 
 -- What an event raised: for the client that goes to another partition everything; for the others in the event's
--- partition the same for all, but for messages, of which those hear for which none waited before it; in the other
--- partitions the same for all, but for outputs that went or came. It is told by the readings before the event and
+-- partition the same for all, except for messages, of which those hear for which none waited before it; in the other
+-- partitions the same for all, except for outputs that went or came. It is told by the readings before the event and
 -- by the partitions now.
 pub record RaisedData : Type 0 where
   pub moved_client : Option ℕ

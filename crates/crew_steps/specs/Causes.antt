@@ -24,7 +24,7 @@ IsShortFor songs job =
     (frames : List (List ℤ)) × AreHeard songs.rate songs.current job.from (min job.count 1024) frames
     × IsShort songs.rate job.fade songs.partner (length frames)
 
--- why a job has no frames: for want of memory, or since one of its songs has failed, for one of these causes
+-- why a job has no frames: for lack of memory, or since one of its songs has failed, for one of these causes
 abbrev pub EndsFor : (ℕ → Job → Bool → Type 0) → ℕ → Job → NoFrames → Type 0
 EndsFor cause index job NoMemory = Unit {0}
 EndsFor cause index job (Failed of_partner) = cause index job of_partner
@@ -59,7 +59,7 @@ module _ {M : Type 0} (bytes : M → Option (List ℕ)) (counts : M → CallCoun
   FailsAsRead songs job false = BreaksOff songs.current
   FailsAsRead songs job true = BreaksOff songs.partner ⊎ IsShortFor songs job
 
-  -- why a job has no frames whose songs are open: for want of memory, or since one of them failed as it was read
+  -- why a job has no frames whose songs are open: for lack of memory, or since one of them failed as it was read
   abbrev pub EndsReading : OpenSongs → Job → NoFrames → Type 0
   EndsReading songs job NoMemory = Unit {0}
   EndsReading songs job (Failed of_partner) = FailsAsRead songs job of_partner

@@ -11,7 +11,7 @@ use Rattle.crew_steps.specs.declared.song_source.SongFault.TheVariants as song
 use Rattle.crew_steps.specs.declared.songs.NoFrames.{NoFrames}
 use Rattle.crew_steps.specs.declared.songs.NoFrames.TheVariants.{NoMemory, Failed}
 
--- for want of memory, or since this song has failed: the job's own, or the one that it fades into
+-- for lack of memory, or since this song has failed: the job's own, or the one that it fades into
 abbrev pub IsFaultOf : Bool → NoFrames → Type 0
 IsFaultOf of_partner fault = (fault ≡ NoMemory) ⊎ (fault ≡ Failed of_partner)
 

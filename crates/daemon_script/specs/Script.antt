@@ -70,7 +70,7 @@ refused s = record { script = s; text = codes "! refused out of memory\n" }
 abbrev pub has_uri : List ℕ → List SongData → Bool
 has_uri uri songs = list_any (λ song. same_uri song.uri uri) songs
 
--- a song is collected, but for one whose URI was, and the one above the 100,000th
+-- a song is collected, except for one whose URI was, and the one above the 100,000th
 abbrev pub collects : {P : Type 0} → ScriptData P → SongData → Shown P
 collects s song =
     if nat_lt (length s.songs) 100000 && not (has_uri song.uri s.songs) then record { script = record s { songs = s.songs ++ song ∷ [] }; text = [] } else bad s
@@ -145,7 +145,7 @@ pub data Found : Type 0 where
   NoneFold : Found
   NoneRun : Found
 
--- why an event of the script's one seat is refused, if it is: for want of memory, to fold the window only
+-- why an event of the script's one seat is refused, if it is: for lack of memory, to fold the window only
 -- where that is full, or else for the limit that it would pass
 abbrev pub fault_of : Found → Bool → Option PartitionFault → Option PartitionFault
 fault_of Enough full limit = limit

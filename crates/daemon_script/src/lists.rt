@@ -23,7 +23,7 @@ use std::alloc::{AllocError, Global};
 const CLIENT_NUMBERS: [u32; 9] = [1, 2, 3, 4, 5, 6, 7, 8, 9];
 
 /// Runs a command list, and appends what it prints: the whole answer to its client, and then the notices to
-/// others. The commands before one that cannot be read or run for want of memory stand.
+/// others. The commands before one that cannot be read or run for lack of memory stand.
 pub(crate) fn run_commands(
     alloc: Global,
     set: CommandSet,

@@ -48,7 +48,7 @@ pub fn settle<E: Ledger, W: Ledger, X: Ledger>(
     ensures balances { IfOk result (λ s. Balances end drainer s) }
     ensures books { IfOk result (λ s. HaveNumbers books.new output s) }
 
-    // It fails only for want of the token, or where the books differ.
+    // It fails only for lack of the token, or where the books differ.
     ensures unsettled { (result ≡ Err Unsettled) ↔ IsNone end.finished }
     ensures agrees { IsSettledIfBooksAgree end drainer books.old output result }
 

@@ -39,7 +39,7 @@ module _ {S : Type 0} (standing : S → Standing) (failed : S → S → Call →
       (past : Chronicle) × MayFind seat past
       × ((after : Chronicle) × RunsList standing failed past after old new seat.number client form requests tolds)
 
-  -- What a list leaves that stopped: before it was begun, for want of memory, all is as it was; else what the
+  -- What a list leaves that stopped: before it was begun, for lack of memory, all is as it was; else what the
   -- player says.
   abbrev pub StopsHere : Chronicle → Chronicle → S → S → ℕ → ℕ → ListForm → List Request → Stop → Type 0
   StopsHere before after old new seat client form requests stop =

@@ -176,7 +176,7 @@ abbrev pub Feeds : {D : Type 0} → SeatCount → ℕ → ℕ → ℕ → Share 
 Feeds seat index number frames old new told = FeedsShare seat index number frames old.amount new.amount told
 
 module _ {S : Type 0} (standing : S → Standing) (failed : S → S → Call → Type 0) where
-  -- What an event leaves that was refused: before it was begun, for want of memory, all is as it was; else
+  -- What an event leaves that was refused: before it was begun, for lack of memory, all is as it was; else
   -- what the player says.
   abbrev pub Stops : Chronicle → Chronicle → S → S → ℕ → Event → PartitionFault → Type 0
   Stops before after old new seat event fault =

@@ -44,7 +44,7 @@ impl<L: Ledgers> Core<L> {
     }
 }
 
-/// A list that stops before its first command, for want of memory.
+/// A list that stops before its first command, for lack of memory.
 fn unbegun(alloc: Global, requests: &[Request]) -> ListFault
     ensures { result ≡ unbegun_lem requests.now }
 {

@@ -152,7 +152,7 @@ abbrev pub ClientsDiffer : List MemberData → Type 0
 ClientsDiffer [] = Unit {0}
 ClientsDiffer (m ∷ members) = (member_of m.client members ≡ None) × ClientsDiffer members
 
--- where it is refused, it is for this; where there is no such refusal, for want of memory
+-- where it is refused, it is for this; where there is no such refusal, for lack of memory
 abbrev pub AnyFaultIs : {X : Type 0} → Option ChannelFault → Result X ChannelFault → Type 0
 AnyFaultIs refusal r = IfErr r (λ fault. fault ≡ unwrap_or refusal NoMemory)
 

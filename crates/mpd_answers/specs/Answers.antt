@@ -79,7 +79,7 @@ module _ {S : Type 0} (standing : S → Standing) (failed : S → S → Call →
       × AnswersSomewhere standing failed before.shelf after.shelf before.seat (line_of asker.client (read_line asker.commands line)) outcome
 
   -- The line's event is refused after some past that the seat may find: for the limit that it would pass, for
-  -- a window that cannot be folded, or for want of memory.
+  -- a window that cannot be folded, or for lack of memory.
   abbrev pub StopsLine : Caller S → LineData → PartitionFault → Caller S → Type 0
   StopsLine before line fault after = StopsSomewhere standing failed before.shelf after.shelf before.seat (line_of asker.client (read_line asker.commands line)) fault
 

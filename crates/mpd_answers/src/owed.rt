@@ -1,4 +1,4 @@
-//! What a session owes its client and has not yet put after its unsent bytes, for want of memory.
+//! What a session owes its client and has not yet put after its unsent bytes, for lack of memory.
 ghost use Rattle.std.specs.Prelude.{◌≡◌, ◌++◌, false, IfOk, OnErr, OnOk};
 ghost use Rattle.mpd_answers.specs.Answers.{list_end};
 ghost use Rattle.mpd_answers.specs.Notices.{notice_bytes, notice_text};
@@ -19,7 +19,7 @@ pub enum Owed {
     Notice(Notice),
     /// The answer to a line.
     Line(Answered),
-    /// The answer to a list, and the place of the first of its lines that could not be read for want of
+    /// The answer to a list, and the place of the first of its lines that could not be read for lack of
     /// memory.
     List(AnsweredList, Option<usize>),
     /// An empty list is answered without an event.

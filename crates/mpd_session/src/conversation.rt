@@ -56,10 +56,10 @@ const PIECE: usize = 4_096;
 pub(crate) struct Conversation {
     pub(crate) alloc: Global,
     pub(crate) asker: Asker,
-    /// What was read and is not split, for want of memory.
+    /// What was read and is not split, for lack of memory.
     pub(crate) piece: Vec<u8>,
     pub(crate) splitter: Splitter,
-    /// Lines that are not run, for want of memory.
+    /// Lines that are not run, for lack of memory.
     pub(crate) lines: VecDeque<Line>,
     pub(crate) gatherer: Gatherer,
     pub(crate) owed: Owed,

@@ -74,7 +74,7 @@ impl Session {
         self.conversation.ended
     }
 
-    /// Whether bytes for the client wait to be written, or to be put after those for want of memory.
+    /// Whether bytes for the client wait to be written, or to be put after those for lack of memory.
     pub fn has_unsent(&self) -> bool
         ensures { result ≡ has_unsent_lem self.now }
     {

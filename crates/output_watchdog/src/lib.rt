@@ -18,4 +18,4 @@ pub use shared_tally::SharedTally;
 pub use tally::Tally;
 pub use timer::StallTimer;
 pub use watch::{Mode, Off, Step, Watch, decide};
-pub use writer::{PatientWriter, output_watchdog};
+pub use writer::{PatientWriter, path_channel};

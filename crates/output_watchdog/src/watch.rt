@@ -50,7 +50,7 @@ pub fn decide(
     ended: bool,
 ) -> Step
     ensures step { result ≡ step_of mode progress stalled_for patience ended }
-    // What goes on without a look is not held up, but for a path that failed and at the end, where nothing is kept
+    // What goes on without a look is not held up, except for a path that failed and at the end, where nothing is kept
     // for the path.
     ensures room { result ≡ steps.Opens → (ended ≡ true) ⊎ (progress.fails ≡ true) ⊎ (progress.waiting ≤ 8192) }
     // An output waits no longer than it has patience, and is not switched off before.

@@ -21,7 +21,7 @@ pub struct PatientWriter<R: Wait + Copy> {
 
 /// The two ends of a new ring: the writer for the output, and what the thread that writes to its path is started
 /// with.
-pub fn output_watchdog<R: Wait + Copy>(
+pub fn path_channel<R: Wait + Copy>(
     rt: R,
     alloc: Global,
     tally: &Arc<SharedTally, Global>,

@@ -187,7 +187,7 @@ quiet_planned fs ks openings asked own (NewPartition name) =
     quiet_named asked name (if is_some (named name fs) then exists else new) (quiet_if (is_some (named name fs)) exists new tt (quiet_begins fs openings asked name index))
 quiet_planned fs ks openings asked own (Partition name) = quiet_named asked name (goes asked own (named name fs)) (quiet_goes asked own (named name fs))
 
--- every command that is run, but for the wishes, makes a client go at most
+-- every command that is run, except for the wishes, makes a client go at most
 quiet_run : (o : Overview) (asked : Asked) (part : Part) (library : Library) (read : Read) (command : Command) → Quiet (move_of (transition_run o asked part library read command).response)
 quiet_run o asked part library read (command_group.Status command) = quiet_stays (status_result asked part library command).answer
 quiet_run o asked part library read (command_group.Options command) = quiet_stays (options_result asked part command).answer

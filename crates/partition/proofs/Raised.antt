@@ -129,7 +129,7 @@ outputs_part index (p ∷ ps) =
     elim (p.index == index) as (λ b. (if b then Some (output_flags p.outputs) else outputs_at index (map outputs_in ps)) ≡ option_map (λ (p : Part). output_flags p.outputs) (if b then Some p else part_at index ps))
     [ true ↦ refl | false ↦ outputs_part index ps ]
 
--- what is raised in a partition of which the same is there before and after, but for its outputs
+-- what is raised in a partition of which the same is there before and after, except for its outputs
 module _ (number : ℕ) (database update lists stickers partitions : Bool) where
   abbrev common : Subsystems
   common = record none { database = database; update = update; stored_playlist = lists; sticker = stickers; partition = partitions }

@@ -76,8 +76,8 @@ module _ {E : Type 0} where
       OkGives result (transition_request (overview (image_of_state state)) (option_copied part) state.library client list_place request read)
 
   -- a result, unless it is an error, is what it makes of a command of a client that is there
-  abbrev pub OkGivesCommand : Result TransitionData E → State → Option (Bor Part) → Client → Name → ListPlace → Command → Read → Type 0
-  OkGivesCommand result state part client name list_place command read =
+  abbrev pub OkGivesRun : Result TransitionData E → State → Option (Bor Part) → Client → Name → ListPlace → Command → Read → Type 0
+  OkGivesRun result state part client name list_place command read =
       OkGives result (transition_command (overview (image_of_state state)) (option_copied part) state.library client name list_place command read)
 
   -- a result, unless it is an error, is what it makes of a command that is no wish, whether or not its partition

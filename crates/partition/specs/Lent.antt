@@ -31,7 +31,7 @@ question i event = question_of i.shared.library i.clients event
 abbrev pub writing : Image → Event → StoreReply → ShelfWrite
 writing i event heard = (transition i (with_store_reply event (record heard { refused = None }))).written
 
--- a full window could not be folded for want of memory, or it has room and there was none for the event
+-- a full window could not be folded for lack of memory, or it has room and there was none for the event
 abbrev pub LacksMemory : Chronicle → Chronicle → PartitionFault → Type 0
 LacksMemory before after fault =
     ((fault ≡ HistoryFull) × ((is_full before ≡ true) × (after ≡ before)))
@@ -55,8 +55,8 @@ module _ {S : Type 0} (standing : S → Standing) where
   ChangesByWrite old new write result = Changes (standing old) (standing new) (is_ok_write write result) (maps_after write (standing old).maps)
 
   -- the same of what an event has heard of it
-  abbrev pub ChangesByWriteOf : S → S → ShelfWrite → Event → Type 0
-  ChangesByWriteOf old new write event = ChangesByWrite old new write (answered (store_reply_at event).refused)
+  abbrev pub WritesFor : S → S → ShelfWrite → Event → Type 0
+  WritesFor old new write event = ChangesByWrite old new write (answered (store_reply_at event).refused)
 
   -- nothing of it was written
   abbrev pub IsUnwrittenBy : S → S → ShelfWrite → Type 0
@@ -73,7 +73,7 @@ module _ {S : Type 0} (standing : S → Standing) (failed : S → S → Call →
     pub within : limit_of seat before (with_store_reply event heard) ≡ None
     pub shelf : Serves standing failed old new (question before event) (writing before event heard) heard
 
-  -- An event was refused: for the limit that it would pass, or for want of memory. Where it was for a limit,
+  -- An event was refused: for the limit that it would pass, or for lack of memory. Where it was for a limit,
   -- it passes it by what the lent shelf answered, unless its seat is full. The shelf was asked at most, and
   -- nothing was written.
   pub record IsRefused (i : Image) (old new : S) (seat : ℕ) (event : Event) (fault : PartitionFault) : Type 0 where
@@ -122,7 +122,7 @@ module _ {S : Type 0} (lent : Ghosts S) where
       Serves lent.standing lent.failed old new (question (image_of_state state) asked)
       (writing (image_of_state state) asked (store_reply_at told)) (store_reply_at told)
 
-  -- an event was refused for want of memory, or for what the shelf answered
+  -- an event was refused for lack of memory, or for what the shelf answered
   abbrev pub HasCause : S → S → State → Event → Event → PartitionFault → Type 0
   HasCause old new state asked told fault = (fault ≡ NoMemory) ⊎ ServesEvent old new state asked told
 

@@ -132,7 +132,7 @@ module _ {S : Type 0} (standing : S → Standing) (failed : S → S → Call →
     pub shelf : ServesAll standing failed old new before.present (entries_of seat before.present client form 0 answered)
 
   -- a list stopped: exactly the first `done` of its entries joined the history, and the command after them
-  -- was refused, for a limit that its event would pass, or for want of memory
+  -- was refused, for a limit that its event would pass, or for lack of memory
   pub record StopsList (before after : Chronicle) (old new : S) (seat client : ℕ) (form : ListForm) (requests : List Request) (stop : Stop) : Type 0 where
     pub answered : List Answered
     pub asked : map (λ a. a.0) answered ≡ requests

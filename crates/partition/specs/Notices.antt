@@ -29,7 +29,7 @@ use Rattle.partition.specs.World.{PartWorld, World, WorldTransition, Differs, Di
 abbrev pub with_order_of : PlayerState → PlayerState → PlayerState
 with_order_of p other = record p { round = other.round; offset = other.offset; jobs = other.jobs; job = other.job; fade = other.fade; gave_up = other.gave_up }
 
--- what a partition owns is the same but for the order of play and the decoder's work, which outputs that are off
+-- what a partition owns is the same except for the order of play and the decoder's work, which outputs that are off
 -- are in it, how often they were moved, which have failed and which the last job is for, the messages that wait,
 -- and how many frames were decoded
 abbrev pub AgreesButForUnwatched : PartWorld → PartWorld → Type 0
@@ -49,7 +49,7 @@ AllAgree [] (after ∷ afters) = ⊥
 AllAgree (before ∷ befores) [] = ⊥
 AllAgree (before ∷ befores) (after ∷ afters) = AgreesButForUnwatched before after × AllAgree befores afters
 
--- two worlds are one but for that, for who is there, who waits, which tags each is shown and in which partition
+-- two worlds are one except for that, for who is there, who waits, which tags each is shown and in which partition
 -- each is, and for whether the daemon has ended
 abbrev pub AgreeButForUnwatched : World → World → Type 0
 AgreeButForUnwatched before after =

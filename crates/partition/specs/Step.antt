@@ -160,6 +160,10 @@ failure (Some part) number of_partner = acts (Fails number of_partner)
 abbrev pub ended_scan : Library → Option (List SongData) → ℕ → TransitionData
 ended_scan library songs second = record (quiet no_response) { scan = EndsScan songs second; report = ScanEnded library.scan.runs }
 
+-- the scanner asks for a scan: it is told the one that runs, or the end
+abbrev pub question_of_scan : Bool → Library → TransitionData
+question_of_scan ended library = record (quiet no_response) { report = if ended then Ended else ToScan (running library.scan) }
+
 -- What an event makes, by what all know, by the partition that it happens in, and by the client that it comes from.
 -- The turn of an output that is not there changes nothing. After the end wants, scan questions and turns are told
 -- of it, and a have is stale; an output still tells of its frames.
@@ -168,7 +172,7 @@ transition_of o part library client (Connect number) = quiet (response_to_new o.
 transition_of o part library client (Disconnect number) = departs number
 transition_of o part library client (Line number list_place request heard) =
     written_transition list_place request heard.refused (transition_line o part library client list_place request heard.read)
-transition_of o part library client ScanQuestion = record (quiet no_response) { report = if o.ended then Ended else ToScan (running library.scan) }
+transition_of o part library client ScanQuestion = question_of_scan o.ended library
 transition_of o part library client (ScanResult songs second) = ended_scan library songs second
 transition_of o part library client (Want index owes) = want o.ended part owes
 transition_of o part library client (Have index number frames) = have o.ended part number frames

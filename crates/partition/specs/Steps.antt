@@ -18,7 +18,7 @@ abbrev pub JoinsTold : Chronicle → Chronicle → ℕ → Event → OutcomeData
 JoinsTold before after seat event outcome = after ≡ joined_by before (entry seat event outcome)
 
 -- What an event leaves that was refused. A full window is folded first: where there was no memory for that,
--- all is as it was. Else it was refused for the limit that it would pass, or for want of memory.
+-- all is as it was. Else it was refused for the limit that it would pass, or for lack of memory.
 abbrev pub RefusesStep : Chronicle → Chronicle → ℕ → Event → PartitionFault → Type 0
 RefusesStep before after seat event fault =
     ((fault ≡ HistoryFull) × ((is_full before ≡ true) × (after ≡ before)))

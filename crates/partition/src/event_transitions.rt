@@ -7,7 +7,7 @@ ghost use Rattle.partition_table.specs.Parts.{FitsIn, known};
 ghost use Rattle.player_state.specs.Fits.{Fits};
 ghost use Rattle.transitions.specs.Shelves.{is_ok_read};
 ghost use Rattle.transitions.specs.Transitions.{IsOfCommand};
-ghost use Rattle.partition.specs.Applying.{ActsForEvent, FitsEvent, OkGives, OkGivesAsked, OkGivesCommand};
+ghost use Rattle.partition.specs.Applying.{ActsForEvent, FitsEvent, OkGives, OkGivesAsked, OkGivesRun};
 ghost use Rattle.partition.specs.Applying.{OkGivesLine, OkGivesRequest, WritesAlone};
 ghost use Rattle.partition.specs.Applying.{index_in_state, run_in as run_in_lem};
 ghost use Rattle.partition.specs.Image.{image_of_state};
@@ -16,7 +16,7 @@ ghost use Rattle.partition.specs.Step.{asked_by as asked_by_lem, ends_waiting as
 ghost use Rattle.partition.specs.Step.{index_in as index_in_lem, index_of as index_of_lem};
 ghost use Rattle.partition.specs.Step.{sender_in as sender_in_lem, response_to_new, transition};
 ghost use Rattle.partition.specs.Step.{failure as failure_lem, have as have_lem, want as want_lem};
-ghost use Rattle.partition.specs.Step.{ended_scan, output_turn};
+ghost use Rattle.partition.specs.Step.{ended_scan, output_turn, question_of_scan};
 ghost use Rattle.player_events.specs.Events.{store_reply_at};
 ghost use Rattle.partition_commands.specs.Partitions.{seated};
 
@@ -73,14 +73,7 @@ pub(crate) fn transition_of_event(
             )?;
             Ok(transition.once_written())
         }
-        Event::ScanQuestion => {
-            let report = if state.ended {
-                EarlyReport::Ended
-            } else {
-                EarlyReport::ToScan(state.library.scan.running())
-            };
-            Ok(Transition::reports(alloc, ScanMove::Stay, report))
-        }
+        Event::ScanQuestion => Ok(scan_question(alloc, state)),
         Event::ScanResult(songs, second) => end_scan(
             alloc,
             &state.library,
@@ -152,6 +145,18 @@ fn index_in(client: Option<Client>) -> u8
         Some(client) => client.index,
         None => 0,
     }
+}
+
+/// The scanner asks for a scan to do.
+fn scan_question(alloc: Global, state: &State) -> Transition
+    ensures { result ≡ question_of_scan state.now.ended state.now.library }
+{
+    let report = if state.ended {
+        EarlyReport::Ended
+    } else {
+        EarlyReport::ToScan(state.library.scan.running())
+    };
+    Transition::reports(alloc, ScanMove::Stay, report)
 }
 
 /// The decoder wants a job of a partition.
@@ -346,7 +351,7 @@ fn answer_command(
     list_place: ListPlace,
     command: &Command,
 ) -> Result<Transition, AllocError>
-    ensures transition { OkGivesCommand result state.now part.entry client name list_place command.now read.now }
+    ensures transition { OkGivesRun result state.now part.entry client name list_place command.now read.now }
     ensures fits { IfOk result (λ transition. FitsIn (option_copied part.entry) transition.effect) }
     ensures command { IfOk result (λ transition. IsOfCommand transition.effect) }
 {

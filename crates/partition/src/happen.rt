@@ -7,7 +7,7 @@
 //!
 //! For any other a fingerprint is taken of what clients are told of, and all that may fail is done: frames
 //! are counted, and room is taken for each notice. The effect itself is the last of it, which is refused at
-//! a limit or for want of memory with nothing changed, or the write to the shelf, which no effect has beside
+//! a limit or for lack of memory with nothing changed, or the write to the shelf, which no effect has beside
 //! it. From there on nothing can fail: what was raised is read off the fingerprint and what is there now,
 //! and each client is told or keeps it as pending.
 //!
@@ -25,7 +25,7 @@ ghost use Rattle.partition.specs.declared.partition.PartitionFault.{PartitionFau
 ghost use Rattle.connected_clients.specs.Clients.{notified};
 ghost use Rattle.partition.specs.Image.{counted, image_of_state};
 ghost use Rattle.partition.specs.Lent.{HasCause, IsRefusedIn, RecordsIn, ServesEvent};
-ghost use Rattle.partition.specs.Lent.{IsUnwrittenBy, IsWriteReply, ChangesByWriteOf};
+ghost use Rattle.partition.specs.Lent.{IsUnwrittenBy, IsWriteReply, WritesFor};
 ghost use Rattle.partition.specs.Applying.{AddsEntry, HearsRefusal, OkGives, outcome_with};
 ghost use Rattle.partition.specs.Applying.{AnswersEvent, IsWithinLimits, NotifiesOfEvent, RefusesEvent};
 ghost use Rattle.partition.specs.Applying.{ReportsEvent, image_after, index_in_state};
@@ -333,7 +333,7 @@ fn write_transition<S: Shelf>(
     ensures report { IfOk result (ReportsEvent state.old event.new) }
     ensures notices { IfOk result (NotifiesOfEvent state.old event.new) }
     ensures within { OnOk result (IsWithinLimits state.old event.new) }
-    ensures changes { OnOk result (ChangesByWriteOf S.standing shelf.old shelf.new transition.written event.new) }
+    ensures changes { OnOk result (WritesFor S.standing shelf.old shelf.new transition.written event.new) }
     ensures answers { OnOk result (IsWriteReply S.Shelf shelf.old shelf.new transition.written event.new) }
     ensures ample { OnOk result (is_out_of_memory (store_reply_at event.new).refused ≡ false) }
     ensures memory { IfErr result (λ fault. fault ≡ PartitionFault.NoMemory) }
@@ -414,7 +414,7 @@ fn write_out<S: Shelf>(
     ensures event { HearsRefusal event.old event.new }
     ensures transition { OkGives result (transition_at (image_of_state state.now) event.new) }
     ensures alone { IfOk result IsAlone }
-    ensures changes { OnOk result (ChangesByWriteOf S.standing shelf.old shelf.new transition.written event.new) }
+    ensures changes { OnOk result (WritesFor S.standing shelf.old shelf.new transition.written event.new) }
     ensures answers { OnOk result (IsWriteReply S.Shelf shelf.old shelf.new transition.written event.new) }
     ensures ample { OnOk result (is_out_of_memory (store_reply_at event.new).refused ≡ false) }
     ensures unchanged { OnErr result (IsUnwrittenBy S.standing shelf.old shelf.new transition.written) }

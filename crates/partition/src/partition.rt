@@ -199,7 +199,7 @@ impl Partition {
         // The event and its reply join the window; the reply is the one of the player of one thread, and the
         // new state is that player's next one. The shelf answered and changed as that says.
         ensures ok { IfOk result (RecordsBy S.Shelf self.old self.new shelf.old shelf.new seat event) }
-        // It is refused where the full window cannot be folded, for the limit that it would pass, or for want
+        // It is refused where the full window cannot be folded, for the limit that it would pass, or for lack
         // of memory; nothing was written to the shelf.
         ensures refused { IfErr result (RefusesBy S.Shelf self.old self.new shelf.old shelf.new seat event) }
         ensures own { IsSpent self.old seat → IsAtLimitOrFull result }
@@ -250,7 +250,7 @@ impl Partition {
         ensures told { IfOk result (λ outcome. outcome ≡ told_of self.old.present event) }
         ensures player { IfOk result (JoinsTold self.old self.new seat event) }
         ensures within { OnOk result (limit_of seat self.old.present event ≡ None) }
-        // It is refused where the full window cannot be folded, for the limit that it would pass, or for want
+        // It is refused where the full window cannot be folded, for the limit that it would pass, or for lack
         // of memory; all is as it was, but that a full window may have been folded.
         ensures refused { IfErr result (λ fault. RefusesStep self.old self.new seat event fault) }
         ensures own { IsSpent self.old seat → IsAtLimitOrFull result }

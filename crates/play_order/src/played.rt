@@ -117,7 +117,7 @@ impl Played {
     }
 }
 
-/// The id has the last play, and no other. Where memory is wanted, nothing changes.
+/// The id has the last play, and no other. If memory runs out, nothing changes.
 fn put_last(
     order: &mut BTreeMap<u64, u32>,
     found: &mut HashMap<u32, u64>,

@@ -99,8 +99,8 @@ impl Ranks {
         Ok(())
     }
 
-    /// Songs are put into a queue that can take them, and each of the new entries draws a rank. Where memory
-    /// is wanted, nothing changes.
+    /// Songs are put into a queue that can take them, and each of the new entries draws a rank. If memory
+    /// runs out, nothing changes.
     pub(crate) fn insert(
         &mut self,
         generator: &mut Lcg64Xsh32,
@@ -186,7 +186,7 @@ fn draw_all(
     *greatest = greatest_of(*greatest, ids);
 }
 
-/// Of the ids that are about to draw the list has no rank, but for those that have one still. Only where one
+/// Of the ids that are about to draw the list has no rank, except for those that have one still. Only where one
 /// of them is not new is it gone through.
 fn keep_apart(drawn: &mut Vec<Rank>, by_id: &HashMap<u32, u32>, greatest: u32, ids: &[u32])
     requires { All (λ r. r.id ≤ greatest) drawn.old.items }

@@ -124,7 +124,7 @@ impl Round {
     }
 
     /// Shuffles the entries of a range of the queue by words of the generator, one for each position of it but
-    /// the first. Ranks and played songs stay. Where memory is wanted, nothing changes.
+    /// the first. Ranks and played songs stay. If memory runs out, nothing changes.
     pub fn shuffle(&mut self, queue: &mut Queue, range: Range<usize>) -> Result<(), AllocError>
         requires order { range.start ≤ range.end }
         requires within { range.end ≤ length (queue_of queue.old) }
@@ -172,7 +172,7 @@ impl Round {
         Ok(())
     }
 
-    /// Where it is wanted, the order of this queue is kept from now on. Where memory is wanted, none is.
+    /// If it is needed, the order of this queue is kept from now on. If memory runs out, none is.
     fn keep_order(&mut self, needed: bool, queue: &Queue)
         ensures { self.new ≡ self.old }
     {
@@ -308,7 +308,7 @@ impl Round {
     }
 
     /// The song with this id came to its natural end. It is taken out of the queue and of the round where it
-    /// is consumed, a round that is over is renewed, and what comes next starts. Where memory is wanted,
+    /// is consumed, a round that is over is renewed, and what comes next starts. If memory runs out,
     /// nothing changes.
     pub fn after_end(
         &mut self,
@@ -363,7 +363,7 @@ impl Round {
     }
 
     /// Takes the entries of a range, of which one is current, out of the queue and of the round; a round that
-    /// is over is renewed, and what comes next starts. Where memory is wanted, nothing changes.
+    /// is over is renewed, and what comes next starts. If memory runs out, nothing changes.
     pub fn after_removal(
         &mut self,
         modes: Modes,
@@ -385,8 +385,8 @@ impl Round {
         Ok(starts)
     }
 
-    /// Takes the entries of a range, of which none is current, out of the queue and of the round. Where
-    /// memory is wanted, nothing changes.
+    /// Takes the entries of a range, of which none is current, out of the queue and of the round. If
+    /// memory runs out, nothing changes.
     pub fn remove(&mut self, queue: &mut Queue, range: Range<usize>) -> Result<(), AllocError>
         requires order { range.start ≤ range.end }
         requires within { range.end ≤ length (queue_of queue.old) }
@@ -403,8 +403,8 @@ impl Round {
     }
 
     /// The entries from a position up to another are about to leave the queue. Some ids, which are not those of
-    /// what is left, leave the round; it is renewed where it is then over, and what comes next starts. Where
-    /// memory is wanted, nothing changes.
+    /// what is left, leave the round; it is renewed where it is then over, and what comes next starts. If
+    /// memory runs out, nothing changes.
     fn go_on(
         &mut self,
         modes: Modes,

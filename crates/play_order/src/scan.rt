@@ -260,7 +260,7 @@ fn push_run(ids: &mut Vec<u32>, run: &[Slot]) -> Result<(), AllocError>
     Ok(())
 }
 
-/// Puts songs into a queue that can take them, and gives the ids of their entries. Where memory is wanted,
+/// Puts songs into a queue that can take them, and gives the ids of their entries. If memory runs out,
 /// nothing changes.
 pub(crate) fn put_in(
     alloc: Global,

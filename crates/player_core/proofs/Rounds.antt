@@ -115,7 +115,7 @@ contains-later x xs y h = (suc h.0, omega (arith, h.1), h.2)
 contains-first : (x : Entry) (xs : List Entry) → Contains (x ∷ xs) x
 contains-first x xs = (0, omega arith, refl)
 
--- what was played agrees but for one entry
+-- what was played agrees except for one entry
 abbrev AgreeBut : List ℕ → List ℕ → List Entry → ℕ → Type 0
 AgreeBut before after entries id = (e : Entry) → Contains entries e → is_among e.id after ≡ (is_among e.id before || (e.id == id))
 

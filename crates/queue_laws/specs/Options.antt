@@ -82,7 +82,7 @@ pub record ShowsLines (asked : Asked) (part : Part) (library : Library) (everyda
   pub status : status_result asked part library (Status everyday) ≡ shows asked lines
   pub volume : result_of asked part options.GetVol ≡ shows asked (pair_line (codes "volume") settings.volume)
 
--- What is set is shown, and all else that was shown is shown still, but for the next song where it may be another.
+-- What is set is shown, and all else that was shown is shown still, except for the next song where it may be another.
 pub record ShowsWhatIsSet (asked : Asked) (library : Library) (everyday : Bool) (it : OptionCommand) (before after : Part) : Type 0 where
   pub old : Settings
   pub new : Settings

@@ -57,11 +57,11 @@ pub record Shuffles (numbers : List ℕ) (which : ℕ → Bool) (before after : 
   pub picked : at_positions which after ≡ picked_in_turn numbers (at_positions which before)
   pub others : (position : ℕ) → which position ≡ false → slice_get after position ≡ slice_get before position
 
--- an entry but for its priority
+-- an entry except for its priority
 abbrev pub but_for_priority : Entry → ℕ × SongData
 but_for_priority entry = (entry.id, entry.song)
 
--- The queue is the same but for priorities; each entry at some positions has the given one, and all others have
+-- The queue is the same except for priorities; each entry at some positions has the given one, and all others have
 -- theirs.
 pub record Prioritizes (which : ℕ → Bool) (priority : ℕ) (before after : List Entry) : Type 0 where
   pub same : map but_for_priority after ≡ map but_for_priority before

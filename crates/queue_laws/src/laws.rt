@@ -11,7 +11,7 @@ pub fn edits_keep_the_others()
     ensures drawn { ShufflesTakeNumbers }
 {}
 
-/// What is set is what `status` and `getvol` show, and all else is shown as before, but for the next song where
+/// What is set is what `status` and `getvol` show, and all else is shown as before, except for the next song where
 /// its order was set.
 pub fn what_is_set_is_shown()
     ensures { WhatIsSetIsShown }

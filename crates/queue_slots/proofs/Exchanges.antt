@@ -1,4 +1,4 @@
--- Two entries in blocks that change positions.
+-- Two entries in blocks that are swapped.
 use Rattle.std.proofs.Common.{◌≡◌, ℕ, zero, suc, ◌+◌, ◌-◌, ◌<◌, ◌≤◌, Bool, List, [], ◌∷◌, ◌++◌, length, take, drop, get_or, set, refl, ap, sym, ◌∙◌, inl, inr, arith, append_assoc, length-append}
 use Rattle.std.specs.Prelude.{swap}
 use Rattle.std.specs.List.{slice_range, insert, remove}

@@ -36,7 +36,7 @@ slice_back xs i j k le1 le2 =
 pub slice_split : {X : Type 0} (xs : List X) (i j k : ℕ) → i ≤ j → j ≤ k → slice_range xs i k ≡ slice_range xs i j ++ slice_range xs j k
 slice_split xs i j k le1 le2 = sym (take-append-drop (j - i) (slice_range xs i k)) ∙ (λ t. slice_front xs i j k le1 le2 t ++ slice_back xs i j k le1 le2 t)
 
--- two neighbouring parts that change positions
+-- two neighbouring parts that are exchanged
 pub rotated : {X : Type 0} (xs : List X) (i j k : ℕ) → i ≤ j → j ≤ k → drop (j - i) (slice_range xs i k) ++ take (j - i) (slice_range xs i k) ≡ slice_range xs j k ++ slice_range xs i j
 rotated xs i j k le1 le2 = λ t. slice_back xs i j k le1 le2 t ++ slice_front xs i j k le1 le2 t
 

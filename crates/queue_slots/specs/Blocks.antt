@@ -81,7 +81,7 @@ abbrev pub written_behind : ℕ → Bool → List (List Slot) → ℕ → List S
 written_behind version wraps blocks from =
     map (kept wraps) (joined (take from blocks)) ++ map (written version wraps) (entries_of (joined (drop from blocks)))
 
--- the slots of blocks, where those from block i up to j and from there up to k change positions: they are
+-- the slots of blocks, where those from block i up to j and from there up to k are exchanged: they are
 -- written, others kept
 abbrev pub with_blocks_rotated : ℕ → Bool → List (List Slot) → ℕ → ℕ → ℕ → List Slot
 with_blocks_rotated version wraps blocks i j k =
@@ -100,7 +100,7 @@ abbrev pub with_part_prioritized : ℕ → Bool → ℕ → List Slot → ℕ �
 with_part_prioritized version wraps priority slots start end =
     take start slots ++ (map (prioritized_slot version wraps priority) (slice_range slots start end) ++ drop end slots)
 
--- the entries of two slots change positions: both slots are written
+-- the entries of two slots are swapped: both slots are written
 abbrev pub with_exchanged : ℕ → Bool → List Slot → ℕ → ℕ → List Slot
 with_exchanged version wraps slots a b = write_at version wraps (write_at version wraps (swap slots a b) a) b
 

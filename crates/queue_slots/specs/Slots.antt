@@ -47,13 +47,13 @@ with_put_in version wraps slots at added =
 abbrev pub with_taken_out : ℕ → Bool → List Slot → ℕ → ℕ → List Slot
 with_taken_out version wraps slots start end = written_from version wraps slots start (drop end (entries_of slots))
 
--- two parts change positions, from low up to middle and from there up to high: they are written, others kept
+-- two parts are exchanged, from low up to middle and from there up to high: they are written, others kept
 abbrev pub with_parts_rotated : ℕ → Bool → List Slot → ℕ → ℕ → ℕ → List Slot
 with_parts_rotated version wraps slots low middle high =
     written_from version wraps slots low (entries_of (slice_range slots middle high ++ slice_range slots low middle))
     ++ map (kept wraps) (drop high slots)
 
--- slots are put back from a position on, each in the position of another
+-- slots are put back from a position on, each in place of another
 abbrev pub with_put_back : List Slot → ℕ → List Slot → List Slot
 with_put_back slots start part = take start slots ++ (part ++ drop (start + length part) slots)
 

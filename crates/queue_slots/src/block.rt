@@ -205,7 +205,7 @@ impl Block {
         put_slot(&mut self.slots, at, slot);
     }
 
-    /// Puts a slot in the position of another.
+    /// Puts a slot in place of another.
     pub fn change(&mut self, at: usize, slot: Slot) -> Slot
         requires { at < length self.old }
         ensures slots { self.new ≡ slice_set self.old at slot }

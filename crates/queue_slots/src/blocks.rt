@@ -37,7 +37,7 @@ use std::marker::Model;
 /// Slots in blocks. Contracts see all of them in a list.
 ///
 /// An edit cuts the blocks so that each of its positions is where a block begins, changes the list of blocks,
-/// and joins neighbours that are small. So many buffers are in reserve that a cut never wants memory.
+/// and joins neighbours that are small. So many buffers are in reserve that a cut never takes memory.
 #[derive(Drop)]
 pub struct Blocks {
     blocks: Vec<Block>,
@@ -216,7 +216,7 @@ impl Blocks {
         self.len -= end - start;
     }
 
-    /// Lets the entries from `low` up to `middle` and those from there up to `high` change positions. All of
+    /// Exchanges the entries from `low` up to `middle` with those from there up to `high`. All of
     /// these slots are written, and the others kept.
     pub fn rotate(&mut self, low: usize, middle: usize, high: usize, version: u32, wraps: bool)
         requires front { low ≤ middle }
@@ -291,7 +291,7 @@ impl Blocks {
         mend(&mut self.blocks, &mut self.spare, &mut self.index);
     }
 
-    /// Lets the entries of two slots change positions. Both slots are written, and the others kept.
+    /// Swaps the entries of two slots. Both slots are written, and the others kept.
     pub fn exchange(&mut self, low: usize, high: usize, version: u32, wraps: bool)
         requires order { low < high }
         requires within { high < length self.old }
@@ -302,7 +302,7 @@ impl Blocks {
         mend(&mut self.blocks, &mut self.spare, &mut self.index);
     }
 
-    /// Puts slots back from a position on, each in the position of another. The others are kept.
+    /// Puts slots back from a position on, each in place of another. The others are kept.
     pub fn put_back(&mut self, start: usize, part: Vec<Slot>, wraps: bool)
         requires { start + vec_len part ≤ length self.old }
         ensures { self.new ≡ with_put_back (map (kept wraps) self.old) start part.items }

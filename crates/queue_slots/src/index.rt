@@ -36,7 +36,7 @@ impl Index {
         self.last
     }
 
-    /// Slots are in the block with a key from now on. Where memory is wanted, they are found without the
+    /// Slots are in the block with a key from now on. If memory runs out, they are found without the
     /// index.
     pub fn note(&mut self, slots: &[Slot], key: u32)
         ensures keys { Notes self.old.keys self.new.keys (ids_of slots.now) key }

@@ -237,7 +237,7 @@ fn move_first(blocks: &mut [Block], start: usize, count: usize)
     blocks[start..].rotate_left(count);
 }
 
-/// Lets the blocks from `i` up to `j` and those from there up to `k` change positions. All of these are
+/// Exchanges the blocks from `i` up to `j` with those from there up to `k`. All of these are
 /// written, and the others kept.
 pub fn rotate_blocks(
     blocks: &mut Vec<Block>,
@@ -388,7 +388,7 @@ fn prioritize_each(blocks: &mut [Block], priority: u8, version: u32, wraps: bool
     }
 }
 
-/// Lets the entries at two positions change positions. Both slots are written, and the others stay.
+/// Swaps the entries at two positions. Both slots are written, and the others stay.
 pub fn exchange(blocks: &mut Vec<Block>, low: usize, high: usize, version: u32, wraps: bool)
     requires order { low < high }
     requires within { high < length (joined blocks.old.items) }
@@ -417,7 +417,7 @@ fn pull(blocks: &mut Vec<Block>, at: usize, offset: usize) -> Slot
     block.pull(offset)
 }
 
-/// Puts a slot in the position of another.
+/// Puts a slot in place of another.
 fn change(blocks: &mut Vec<Block>, at: usize, offset: usize, slot: Slot) -> Slot
     requires within { at < vec_len blocks.old }
     requires inside { offset < length (slice_index_or blocks.old.items at []) }
@@ -462,7 +462,7 @@ pub fn copies_of(
     Ok(copies)
 }
 
-/// Puts slots back from a position on, each in the position of another.
+/// Puts slots back from a position on, each in place of another.
 pub fn put_back(blocks: &mut Vec<Block>, index: &mut Index, start: usize, part: Vec<Slot>)
     requires within { start + vec_len part ≤ length (joined blocks.old.items) }
     requires fits { start + vec_len part < 2 ^ 64 }

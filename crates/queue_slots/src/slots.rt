@@ -158,7 +158,7 @@ pub fn put_slot(to: &mut Vec<Slot>, at: usize, slot: Slot)
     let _ = to.insert(at, slot);
 }
 
-/// Puts a slot in the position of another.
+/// Puts a slot in place of another.
 pub fn change_slot(slots: &mut Vec<Slot>, at: usize, slot: Slot) -> Slot
     requires { at < vec_len slots.old }
     ensures items { slots.new.items ≡ slice_set slots.old.items at slot }

@@ -48,7 +48,7 @@ const HAND_OUT: u64 = 5;
 /// How many milliseconds lie between two looks for changes, while there are partitions of which no notice tells.
 const WATCHING: u64 = 500;
 
-/// What is kept of the client's own partition changes by these alone, but for the position in a song that is played; and
+/// What is kept of the client's own partition changes by these alone, except for the position in a song that is played; and
 /// with `partition` others come and go.
 const IDLE: &str = "idle playlist player mixer options output partition";
 
@@ -214,7 +214,7 @@ impl<'h, L: Ledgers, S: Shelf + Drop, R: Wait + Clock + Copy> Keeper<'h, L, S, R
         };
     }
 
-    /// What the partitions tell in short, but for the position in a song. None where one of them does not tell.
+    /// What the partitions tell in short, except for the position in a song. None where one of them does not tell.
     fn signs_now(&mut self) -> Option<String> {
         let lines = short_questions(self.host.alloc(), &self.names).ok()?;
         let answer = self.say(lines.as_str())?;

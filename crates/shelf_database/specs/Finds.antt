@@ -55,7 +55,7 @@ module _ {S : Type 0} (store : Ghosts S) (old new : Held S) where
       → IfOk result (λ is_there. is_there ≡ false → (name : List ℕ)
       → (note_maps (state store old).now.trees).stickers kind target name ≡ None)
 
-  -- the maps are left, and the call is refused since the store failed, or for want of memory
+  -- the maps are left, and the call is refused since the store failed, or for lack of memory
   abbrev pub RefusesAsFailed : ShelfFault → Type 0
   RefusesAsFailed fault =
       Refuses (state store old) (state store new) (HasFailed (state store old) (state store new)) fault

@@ -115,7 +115,7 @@ OpensFilled old new is_done = old.now.schema ≢ no_schema → Opens old new is_
 abbrev pub OpensEmpty : State → State → Bool → Type 0
 OpensEmpty old new is_done = old.now.schema ≡ no_schema → Opens old new is_done
 
--- Tables of profile 2 whose number is 2 are refused since the store failed, or for want of memory.
+-- Tables of profile 2 whose number is 2 are refused since the store failed, or for lack of memory.
 abbrev pub IsUnread : State → State → ShelfFault → Type 0
 IsUnread old new fault = HasCleanDisk new → IsReady old → profile_number old.now.trees ≡ Some (pos 2) → fault ≡ StoreFault → HasFailed old new
 
@@ -129,7 +129,7 @@ KeepsASticker trees =
     × IsUnstorable (Int (number_after [] others) ∷ Text (kind_text Song) ∷ column row 1 ∷ column row 2 ∷ column row 3 ∷ [])
 
 -- Tables of profile 1 whose number is 1 are refused since the store failed or has a sticker that is too long,
--- or for want of memory.
+-- or for lack of memory.
 abbrev pub IsUnmoved : State → State → ShelfFault → Type 0
 IsUnmoved old new fault =
     HasCleanDisk new
@@ -288,7 +288,7 @@ abbrev pub TellsNumber : State → State → Result (Vec Row) ShelfFault → Typ
 TellsNumber old new result =
     HasCleanDisk new → IsReady old ⊎ IsFormer old → IfOk result (λ rows. number_of 0 rows.items ≡ profile_number old.now.trees)
 
--- Where the disk is clean, tables are not made since the store failed, or for want of memory.
+-- Where the disk is clean, tables are not made since the store failed, or for lack of memory.
 abbrev pub IsUnmade : State → State → Error → Type 0
 IsUnmade old new error = HasCleanDisk new → IsBlank old → error ≢ SqliteFailure code.OutOfMemory → HasFailed old new
 
@@ -310,7 +310,7 @@ pub record Leads (Before : Database → Type 0) (Made : Database → Database �
   pub survives : Survives old new (λ _. ⊥)
 
 -- A step inside a transaction, over such a database, is answered with an error since the store failed, for
--- this reason, or for want of memory.
+-- this reason, or for lack of memory.
 abbrev pub IsStoppedFor : (Database → Type 0) → (Database → Type 0) → State → State → Error → Type 0
 IsStoppedFor Before Reason old new error =
     HasCleanDisk new

@@ -51,7 +51,7 @@ one_version = refl
 abbrev swaps : List Edit
 swaps = Insert 0 (song 1 ∷ []) ∷ Insert 1 (song 2 ∷ []) ∷ Swap 0 1 ∷ Swap 0 1 ∷ []
 
--- two songs that change positions and back are both shown to a client of version 3, by the state and by the past
+-- two songs that are swapped and swapped back are both shown to a client of version 3, by the state and by the past
 swapped_back : ids (changed (state_after (opened 10 100 100) swaps) 3) ≡ (0, 1) ∷ (1, 2) ∷ []
 swapped_back = refl
 
@@ -106,7 +106,7 @@ overlapping = refl
 again_the_same : (state_after (opened 10 100 100) (four ++ Prioritize first 7 ∷ Prioritize first 7 ∷ Prioritize [] 9 ∷ [])).version ≡ 6
 again_the_same = refl
 
--- four songs shuffled: the fourth changes positions with the second, the third with the first, and the second
+-- four songs shuffled: the fourth is swapped with the second, the third with the first, and the second
 -- stays
 shuffled_four : map (λ e. e.id) (queue_of (state_after (opened 10 100 100) (four ++ Shuffle 0 4 (5 ∷ 3 ∷ 1 ∷ []) ∷ []))) ≡ 3 ∷ 4 ∷ 1 ∷ 2 ∷ []
 shuffled_four = refl

@@ -2,7 +2,7 @@
 use Rattle.std.specs.Prelude.{ℕ, ◌+◌, ◌-◌, ◌%◌, nat_lt, if◌then◌else◌, List, [], ◌∷◌, swap}
 
 -- the elements from start up to end shuffled: from the last position down to the second, the element there
--- changes positions with the one that the next word picks among those from start up to it. Words left over are
+-- is swapped with the one that the next word picks among those from start up to it. Words left over are
 -- not taken
 abbrev pub shuffled : {X : Type 0} → List X → ℕ → ℕ → List ℕ → List X
 shuffled xs start end [] = xs

@@ -70,7 +70,7 @@ moved q start end to = edited q (moved_to (queue_of q) start end to)
 abbrev pub prioritized : QueueState → List (Range ℕ) → ℕ → QueueState
 prioritized q ranges priority = edited q (with_priority (queue_of q) ranges priority)
 
--- the entries at two positions change positions
+-- the entries at two positions are swapped
 abbrev pub swapped : QueueState → ℕ → ℕ → QueueState
 swapped q a b = edited q (swap (queue_of q) a b)
 

@@ -291,7 +291,7 @@ impl Queue {
         Ok(())
     }
 
-    /// Lets the entries at two positions change positions; a position with itself changes nothing. It takes no memory.
+    /// Swaps the entries at two positions; a position with itself changes nothing. It takes no memory.
     pub fn swap(&mut self, a: usize, b: usize) -> Result<(), QueueFault>
         ensures ok { OnOk result (self.new ≡ swapped self.old a b) }
         ensures bad_index { IsErrOf result QueueFault.BadIndex ↔ (IsPastEnd self.old a ⊎ IsPastEnd self.old b) }

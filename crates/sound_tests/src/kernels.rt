@@ -46,7 +46,7 @@ fn stay_in_place(count: usize) -> bool {
 }
 
 // Whether so many frames of a block at the end of the greatest fade, which is 3,600 seconds at 192,000 frames a
-// second, are the other song but for what is rounded off, and the others stay.
+// second, are the other song except for what is rounded off, and the others stay.
 fn are_faded(count: usize) -> bool {
     let mut frames = [FULL; 1_024];
     let count = count.min(1_024);
@@ -192,7 +192,7 @@ fn blocks_and_their_bytes(rt: HostRuntime) {
     mix(&mut faded, Some(fading), 50);
     assert_eq!(rt; faded, [[3, 2], [2, 14], [0, 26], [-1, 37]]);
 
-    // the last block of the greatest fade is the other song but for what is rounded off
+    // the last block of the greatest fade is the other song except for what is rounded off
     let mut block = [[0i16; 2]; 1_024];
     let fading = Fading {
         others: &[[32_767, -32_768]; 1_024],

@@ -1,6 +1,6 @@
 //! An output with patience: what is seen of a path that takes nothing, and that the thread which writes to the
 //! path goes on whenever bytes come.
-use output_watchdog::{Reopening, SharedTally, copy_to_path, output_watchdog};
+use output_watchdog::{Reopening, SharedTally, copy_to_path, path_channel};
 use std::alloc::{AllocError, Global};
 use std::io::Write;
 use std::sync::{Arc, Wait};
@@ -58,7 +58,7 @@ fn observed<R: Threads + Wait + Clock + Copy + Drop + Send + 'static>(
     alloc: Global,
 ) -> Result<String, AllocError> {
     let tally = shared_tally_of(alloc)?;
-    let (mut writer, arguments) = output_watchdog(rt, alloc, &tally)?;
+    let (mut writer, arguments) = path_channel(rt, alloc, &tally)?;
     let mut observed = Recorder::new(alloc);
     // Nobody writes to the path yet.
     let _written = writer.write(&[0; 8_192]);

@@ -5,7 +5,7 @@ ghost use Rattle.stalled_outputs.specs.Through.{AreForPatience};
 use crate::output_file::{OutputFile, OutputPath};
 use counted_devices::Counting;
 use output_watchdog::{
-    PathWriterArguments, PatientWriter, SharedTally, copy_to_path, output_watchdog,
+    PathWriterArguments, PatientWriter, SharedTally, copy_to_path, path_channel,
 };
 use settings::OutputSettings;
 use std::alloc::{AllocError, Global};
@@ -83,7 +83,7 @@ fn patient_path<R: Threads + Wait + Clock + Copy + Send + 'static>(
     seconds: u32,
 ) -> Result<(PatientWriter<R>, PatientPath), AllocError> {
     let tally = Arc::new(host.alloc(), SharedTally::new())?;
-    let (writer, arguments) = output_watchdog(rt, host.alloc(), &tally)?;
+    let (writer, arguments) = path_channel(rt, host.alloc(), &tally)?;
     let own = String::from_str(host.alloc(), path.as_str())?;
     let file = OutputFile::new(host, host.alloc(), number, own, true);
     start_path_writer(rt, arguments, file)?;

@@ -1,4 +1,4 @@
--- Partitions that have the same but for their channels, and partitions that have what is kept.
+-- Partitions that have the same except for their channels, and partitions that have what is kept.
 use Rattle.std.proofs.Common.{◌≡◌, ℕ, suc, ◌==◌, Bool, true, false, List, [], ◌∷◌, length, map, Option, Some, None, option_map, refl, ap, sym, ◌∙◌, subst, if◌then◌else◌}
 use Rattle.std.specs.Prelude.{slice_index_or}
 use Rattle.std.specs.Str.{bytes_eq}
@@ -29,7 +29,7 @@ pub record HasBack (library : Library) (p : Part) (q : KeptPartition) : Type 0 w
   pub name : p.name ≡ q.name
   pub has : Has library.rate p (given_back (is_song library) q.kept)
 
--- the same, but for channels
+-- the same, except for channels
 pub record Alike (p q : Part) : Type 0 where
   pub index : q.index ≡ p.index
   pub name : q.name ≡ p.name

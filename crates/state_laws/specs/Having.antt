@@ -18,7 +18,7 @@ use Rattle.kept_state.specs.declared.kept.KeptOutput.{KeptOutput}
 use Rattle.kept_state.specs.declared.kept.KeptPlayback.{KeptPlayback}
 use Rattle.kept_state.specs.declared.kept.KeptPlayback.TheVariants as playback
 
--- an entry of a queue, but for its id
+-- an entry of a queue, except for its id
 abbrev pub kept_entry : Entry → KeptEntry
 kept_entry entry = record { uri = entry.song.uri; priority = entry.priority }
 
@@ -67,7 +67,7 @@ IsCurrent rate part (Some song) =
     (entry : Entry) × (slice_get (queue_of part.queue) song.0 ≡ Some entry) × (part.player.current ≡ Some entry.id)
     × IsPlayed rate entry part.player song.1
 
--- A partition has what a reading says, but for ids and versions.
+-- A partition has what a reading says, except for ids and versions.
 pub record Has (rate : ℕ) (part : Part) (player : Player) : Type 0 where
   pub options : AreOptions part player.options
   pub outputs : AreSwitched part.outputs player.outputs

@@ -108,7 +108,7 @@ IsBackAt rate part other position (Some song) =
     × (is_stopped part.player.playback ≡ false → part.player.offset ≤ entry.song.frames
     → IsJustBefore rate part.player.offset other.player.offset)
 
--- A player has all that another one told, but for ids and versions: also outputs, but those that it does not have or
+-- A player has all that another one told, except for ids and versions: also outputs, but those that it does not have or
 -- that have failed.
 pub record IsBack (rate : ℕ) (part other : Part) (kept : Kept) : Type 0 where
   pub volume : other.volume ≡ part.volume
@@ -130,7 +130,7 @@ IsBackFor rate number part kept i =
     × (part_at client.index i.parts ≡ Some other) × IsBack rate part other kept
 
 -- A player that was just opened, that is told by their bytes the lines of a state which another one told, is as that
--- one was, but for ids and versions.
+-- one was, except for ids and versions.
 abbrev pub PlayersComeBack : Type 0
 PlayersComeBack =
     (seat number : ℕ) (setup : Setup) (library : Library) (part : Part) (kept : Kept) → CanComeBack library part

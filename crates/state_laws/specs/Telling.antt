@@ -80,7 +80,7 @@ TextComesBack =
     → EachHasPlainUris (state_steps kept) → HasRoom setup (songs_of (state_steps kept))
     → LeadsThere seat number setup library kept after → PlayerHas library number 0 after (given_back (is_song library) kept)
 
--- Where another player told the state of itself, the player is then as that one was, but for ids and versions.
+-- Where another player told the state of itself, the player is then as that one was, except for ids and versions.
 abbrev pub ToldPlayersComeBack : Type 0
 ToldPlayersComeBack =
     (seat number : ℕ) (setup : Setup) (library : Library) (part : Part) (kept : Kept) (after : Image) → CanComeBack library part

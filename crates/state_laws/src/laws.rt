@@ -28,7 +28,7 @@ pub fn texts_come_back()
     ensures within { OpenedStaysWithin }
 {}
 
-/// A player that was just opened, and is told what another one told of itself, is as that one was, but for ids and
+/// A player that was just opened, and is told what another one told of itself, is as that one was, except for ids and
 /// versions; an offset in a song may be up to a thousandth of a second earlier.
 pub fn players_come_back()
     ensures offsets { OffsetsComeBack }

@@ -143,7 +143,7 @@ abbrev pub is_ok_write : ShelfWrite → Result ⊤ ShelfFault → Bool
 is_ok_write write (Ok x) = is_written write
 is_ok_write write (Err fault) = false
 
--- whether a refusal is for want of memory
+-- whether a refusal is for lack of memory
 abbrev pub is_out_of_memory : Option ShelfFault → Bool
 is_out_of_memory (Some NoMemory) = true
 is_out_of_memory _ = false

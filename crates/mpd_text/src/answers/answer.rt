@@ -21,7 +21,7 @@ pub enum ErrorNumber {
     NoExist,
     /// A list would become too large: 51.
     PlaylistMax,
-    /// The server could not do it, as for want of memory: 52.
+    /// The server could not do it, as for lack of memory: 52.
     System,
     /// A scan of the library is running: 54.
     UpdateAlready,
