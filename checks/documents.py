@@ -8,7 +8,7 @@ It fails if
   must be in that crate, in one that it depends on directly, or outside all crates;
 - a document names a call `Type::name`, and no file has both the type and the name; or it names a path that is not in the repository;
 - a library of crates.txt has no README, or a list of commands is not what `checks/commands.py` makes from commands.txt;
-- a drawing in docs/MAP.md is not what `checks/map.py` draws, or the manual or CHANGELOG.md has another version than the code
+- a diagram in docs/MAP.md is not what `checks/map.py` draws, or the manual or CHANGELOG.md has another version than the code
   (`checks/release.py`);
 - README's first screen, which is everything before its first heading, has more than 25 lines of 100 columns.
 
@@ -22,7 +22,7 @@ import textwrap
 sys.dont_write_bytecode = True
 
 import commands
-import map as drawings
+import map as diagrams
 import release
 from crates import table_of
 
@@ -155,7 +155,7 @@ def check(_program=None):
     wrong = [fault for path, crate in documents() for fault in named_wrong(path, crate, files, words, beside)]
     wrong += missing()
     wrong += commands.faults()
-    wrong += drawings.faults()
+    wrong += diagrams.faults()
     wrong += release.faults()
     lines = screen_lines()
     if lines > SCREEN_LINES:

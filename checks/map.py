@@ -1,11 +1,11 @@
 #!/usr/bin/env python3
-"""Makes the drawings of docs/MAP.md from crates.txt and the sources.
+"""Makes the diagrams of docs/MAP.md from crates.txt and the sources.
 
     checks/map.py              says whether they are up to date, and what in them is not true
     checks/map.py --write      writes them to docs/MAP.md
 
 The layers are the headings of crates.txt. Its lines are the crates, each with what it depends on; in that file a crate comes after all that
-it depends on, so that no layer depends on a higher one. The other drawings come from the tables in this script, and each line of these is
+it depends on, so that no layer depends on a higher one. The other diagrams come from the tables in this script, and each line of these is
 looked up in the sources: the call is in its crate, and the crate of a step depends on the crate of each step that it makes; a field is one of
 the struct's, and no field is left out; a definition is in its file, and a law and a clause are in their crate. If something is wrong, the
 exit status is 1.
@@ -29,13 +29,13 @@ LINE = [
     (2, 'mpd_text', 'Splitter::feed', 'bytes become lines'),
     (2, 'mpd_answers', 'Gatherer::take', 'a single line, or a whole command list'),
     (2, 'mpd_answers', 'ask', 'asks the player, and makes the answer'),
-    (3, 'mpd_command', 'Request::of_line', 'a typed command, or the first refusal'),
+    (3, 'mpd_command', 'Request::of_line', 'a typed command, or the first error in the line'),
     (3, 'house', 'House::command', 'or `House::list`, for a command list'),
     '---- the lock is taken',
     (4, 'held_player', 'Held::command', 'a pending notice is put in front of the reply'),
     (5, 'counted_player', 'Counted::apply', 'the event is counted for its seat'),
-    (6, 'partition', 'Partition::apply', 'a full history window is folded; the playlist store is asked'),
-    (7, 'queue_commands', 'run', 'or another group: decides what to do; nothing changes yet'),
+    (6, 'partition', 'Partition::apply', 'a full history window is folded; the playlist store is read if the command needs it'),
+    (7, 'queue_commands', 'run', 'or `run` of another crate of commands: decides what to do; nothing changes yet'),
     (7, 'transitions', 'Transition::carry_out', 'the partition and the library change'),
     (7, 'connected_clients', 'notify_all', 'changes become pending; waiting clients get their notices'),
     '---- the lock is free',
@@ -45,13 +45,13 @@ FRAME = [
     (0, 'crew_steps', 'Decoder::run', "the decoder's thread"),
     (1, 'house', 'House::notice', 'lock: the player gives it a job'),
     (1, 'wave', 'Reader::frames_at', 'frames of the song, and of the one to fade into'),
-    (1, 'house', 'House::have', 'lock: learns for which outputs, and with which cut and volume'),
+    (1, 'house', 'House::have', 'lock: learns which outputs get these frames, with which cut and volume'),
     (1, 'pcm_mix', 'mix', 'first the fade, then the volume'),
     (1, 'output_ring', 'Feeder::take', 'into the ring of each of these outputs'),
     '---- the ring: no lock, no waiting',
     (0, 'crew_steps', 'Draining::run', "an output's thread"),
     (1, 'output_ring', 'Drainer::pop', 'a batch of frames into its hand'),
-    (1, 'house', 'House::turn', 'lock: reports fates; learns the cut, and whether it is enabled or paused'),
+    (1, 'house', 'House::turn', 'lock: reports fates; learns the live cut, and whether the output is enabled or paused'),
     (1, 'output_ring', 'Drainer::write_out', 'each frame of the hand is written or discarded'),
     '---- the end',
     (0, 'crew', 'close', 'all threads are joined'),
@@ -64,15 +64,15 @@ HELD = [
     (0, 'house', 'House', {'held': 'the lock', 'state_changed': None, 'notices_wait': None, 'scan_runs': None}),
     (1, 'held_player', 'Held', {
         'core': 'the player with its notices, below', 'books': 'how many frames were decoded, written, discarded',
-        'free': 'the seats that are free', 'closed': "the shares of all threads in the frame counts, once the outputs are settled", 'alloc': None}),
+        'free': 'the seats that are free', 'closed': "each thread's part of the frame counts, once these were compared with the rings", 'alloc': None}),
     (2, 'held_player', 'Core', {'counted': 'the player, below', 'waiting': 'notices that are not delivered yet', 'seen': None, 'changes': None}),
-    (3, 'counted_player', 'Counted', {'partition': 'below', 'seats': 'how many events each counted seat made'}),
+    (3, 'counted_player', 'Counted', {'partition': 'below', 'seats': 'how many events each of the seats 0 to 3 made'}),
     (4, 'partition', 'Partition', {
         'base': 'the state before the first event of the window', 'history': 'the window of events', 'state': 'the present state, below',
         'limit': 'how many events the window may have', 'bytes': None, 'alloc': None}),
     (5, 'partition', 'State', {
         'parts': 'each partition, below', 'openings': 'what a new partition starts with', 'library': 'the songs, and the scan', 'made': 'how many events each seat made', 'books': 'frames of each output',
-        'ended': 'whether the daemon has ended', 'clients': 'the partition of each, its tags, what it waits for, what is pending'}),
+        'ended': 'whether the daemon has ended', 'clients': 'for each client: its partition, its tags, what it waits for, what is pending'}),
     (6, 'player_state', 'Part', {
         'index': 'its number', 'name': None, 'queue': 'slots, stamps, ids', 'player': 'what it plays', 'volume': None,
         'outputs': 'which are enabled or failed', 'channels': 'subscriptions of clients, and messages to them', 'played': None}),
@@ -131,7 +131,7 @@ THEOREMS = [
     ('play_order', 'Round::after_next', 'round', 'play_order/Ends', 'round_after', 'play_order: one_follows chooses_unplayed rounds_go_on'),
     ('player_core', 'Player::next', 'ok', 'player_core/Steps', 'after_next', 'player_core: next_goes_on rounds_play_each_once'),
     ('player_core', 'Player::have', 'feed', 'player_core/Decoding', 'have', 'player_core: feeds_once feeds_as_asked'),
-    'songs, files, the store of playlists',
+    'songs, files, the playlist store',
     ('filters', 'Filter::parse', 'answer', 'filters/Answers', 'IsAnswer', 'filters: one_answer parsed_is_the_answer'),
     ('filters', 'Filter::matches', 'truth', 'filters/Truth', 'Holds', 'song_search: meets_is_truth'),
     ('song_groups', 'order', 'order', 'song_groups/Order', 'IsStablyOrdered', 'song_groups: one_order'),
@@ -140,6 +140,7 @@ THEOREMS = [
     ('id3_tags', 'texts_of', '', 'id3_tags/Texts', 'id3_texts', 'id3_tags: frames_are_those_of_the_bytes'),
     ('pcm_mix', 'mix', '', 'pcm_mix/Blocks', 'block_of', ''),
     ('shelf_database', 'SqlShelf::over', 'opened', 'shelf_database/Opens', 'Opens', ''),
+    'settings, the saved state, the command line',
     ('settings', 'settings', 'taken', 'settings/Values', 'Says', 'settings: one_cause'),
     ('opened_player', 'player_of', 'opened', 'opened_player/Opened', 'opened_by', 'state_laws: settings_are_set_up'),
     ('kept_state', 'kept_of', '', 'kept_state/Told', 'IsTold', ''),
@@ -259,7 +260,7 @@ def wrong_theorems():
         yield from ('theorems: %s has no law %s' % it for it in laws_of(laws) if not has_call(*it))
 
 
-# ---- the drawings
+# ---- the diagrams
 
 def layers_below(deps):
     """For each layer those that it depends on, without those that one of these depends on already."""
@@ -351,14 +352,14 @@ def draw_waits():
     return lines
 
 
-def drawings():
+def diagrams():
     return {'layers': draw_layers(below()), 'line': draw_way(LINE), 'frame': draw_way(FRAME), 'lock': draw_held(),
             'theorems': draw_theorems(), 'waits': draw_waits()}
 
 
 # ---- compared and written
 
-def with_drawings(text, drawn):
+def with_diagrams(text, drawn):
     for name, lines in drawn.items():
         block = '<!-- %s -->\n```text\n%s\n```\n' % (name, '\n'.join(lines))
         text = re.sub(r'<!-- %s -->\n```text\n.*?```\n' % name, lambda _: block, text, flags=re.S)
@@ -370,20 +371,20 @@ def faults():
     wrong = list(wrong_layers(deps))
     if not wrong:
         wrong += [*wrong_way("a line's way", LINE, deps), *wrong_way("a frame's way", FRAME, deps), *wrong_fields(), *wrong_theorems()]
-        text, drawn = read(MAP), drawings()
-        wrong += ['%s has no drawing %s' % (MAP, name) for name in drawn if '<!-- %s -->\n```text\n' % name not in text]
-        if text != with_drawings(text, drawn):
+        text, drawn = read(MAP), diagrams()
+        wrong += ['%s has no diagram %s' % (MAP, name) for name in drawn if '<!-- %s -->\n```text\n' % name not in text]
+        if text != with_diagrams(text, drawn):
             wrong.append('%s is out of date: run checks/map.py --write' % MAP)
     return wrong
 
 
 def main():
     if '--write' in sys.argv[1:]:
-        text = with_drawings(read(MAP), drawings())
+        text = with_diagrams(read(MAP), diagrams())
         with open(os.path.join(TOP, MAP), 'w', encoding='utf-8') as file:
             file.write(text)
     wrong = faults()
-    print('\n'.join(wrong) or 'the drawings of %s are up to date' % MAP)
+    print('\n'.join(wrong) or 'the diagrams of %s are up to date' % MAP)
     return bool(wrong)
 
 
