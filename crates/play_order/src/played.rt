@@ -141,8 +141,8 @@ fn put_last(
     }
 }
 
-/// The number after that of the last play. Where there is none, memory is said to be wanted; that is after
-/// 584 years with a play in each nanosecond.
+/// The number after that of the last play. Where there is none, the error is that of memory that runs out; that
+/// takes 584 years with a play in each nanosecond.
 fn next_number(order: &BTreeMap<u64, u32>) -> Result<u64, AllocError>
     ensures { IfOk result (λ number. All (λ other. other < number) (keys order.now)) }
 {

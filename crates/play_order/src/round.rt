@@ -105,8 +105,8 @@ impl Round {
         self.ranks.draw(&mut self.generator, ids)
     }
 
-    /// Puts songs into a queue that can take them, and each of the new entries draws a rank. Where memory is
-    /// wanted, nothing changes.
+    /// Puts songs into a queue that can take them, and each of the new entries draws a rank. Where memory runs
+    /// out, nothing changes.
     pub fn insert(
         &mut self,
         queue: &mut Queue,
