@@ -8,7 +8,7 @@ It also reads other files of this repository as texts (`read`).
 
 A crate is below another one if that one depends on it, directly or through others. ROOT is the top folder of a repository. A CRATE that
 is not in its crates.txt is a library of the toolchain. PROGRAM contains a file src/main.rt.txt, which becomes src/main.rt in the copy,
-WORK/crates/PROGRAM.
+WORK/crates/PROGRAM. If WORK has a copy already, its files are replaced, and what was proved in the copy stays.
 """
 import os
 import shutil
@@ -16,6 +16,7 @@ import sys
 
 TOP = os.path.dirname(os.path.dirname(os.path.abspath(__file__)))
 HEADING = '# ---- '
+OUT = 'out'
 
 
 def read(path):
@@ -66,14 +67,28 @@ def below(root, crates):
     return {crate: line for crate, line in lines.items() if crate in found}
 
 
+def copy_crate(source, to, left_out):
+    """Copies the folder of a crate. If there is a copy already, all of it is replaced but out/, where the prover keeps what it has proved."""
+    if os.path.isdir(to):
+        for name in set(os.listdir(to)) - {OUT}:
+            path = os.path.join(to, name)
+            (shutil.rmtree if os.path.isdir(path) and not os.path.islink(path) else os.remove)(path)
+        shutil.copytree(source, to, symlinks=True, ignore=shutil.ignore_patterns(OUT), dirs_exist_ok=True)
+    else:
+        # A copy that was interrupted does not count as one.
+        shutil.rmtree(to + '.new', ignore_errors=True)
+        shutil.copytree(source, to + '.new', symlinks=True, ignore=shutil.ignore_patterns(*left_out))
+        os.rename(to + '.new', to)
+
+
 def copy_below(root, crates, program, work, left_out=()):
     """Copies these crates, all that they depend on, and the program, and returns the program's folder."""
     lines = below(root, crates)
     for crate in lines:
-        shutil.copytree(os.path.join(root, 'crates', crate), os.path.join(work, 'crates', crate), symlinks=True, ignore=shutil.ignore_patterns(*left_out))
+        copy_crate(os.path.join(root, 'crates', crate), os.path.join(work, 'crates', crate), left_out)
     name = os.path.basename(os.path.normpath(program))
     folder = os.path.join(work, 'crates', name)
-    shutil.copytree(program, folder)
+    copy_crate(program, folder, [OUT])
     os.rename(os.path.join(folder, 'src', 'main.rt.txt'), os.path.join(folder, 'src', 'main.rt'))
     shutil.copy(os.path.join(root, 'HANDLES'), work)
     with open(os.path.join(work, 'crates.txt'), 'w', encoding='utf-8') as table:
@@ -85,7 +100,7 @@ def main(words):
     if words[-3:-2] == ['--for']:
         copy_below(words[0], words[1:-3], words[-2], words[-1])
     elif words[-3:-2] == ['--sources-for']:
-        copy_below(words[0], words[1:-3], words[-2], words[-1], ['out'])
+        copy_below(words[0], words[1:-3], words[-2], words[-1], [OUT])
     elif len(words) > 1 and not {'--for', '--sources-for'} & set(words):
         print(''.join(below(words[0], words[1:]).values()), end='')
     else:

@@ -1,7 +1,6 @@
 #!/bin/sh
 # Measures frames a second of the sample kernels and of a ring buffer, next to plain C loops.
 # Usage: bench.sh [ROOT]     (ROOT is the top folder of the repository; by default the one that this script is in)
-# The program is built in a temporary copy of the crates, together with what is proved already; the rest is proved there first.
 set -eu
 here=$(cd "$(dirname "$0")" && pwd)
 . "$here/../in_a_copy.sh"

@@ -3,7 +3,6 @@
 # queue of 16,384 entries is saved and loaded, its list is emptied, and 10,000 stickers are searched. Then it prints what parts
 # of these commands take. Each figure is the best of three.
 # Usage: bench.sh [ROOT]     (ROOT is the top folder of the repository; by default the one that this script is in)
-# The program is built in a temporary copy of the crates, together with what is proved already; the rest is proved there first.
 set -eu
 here=$(cd "$(dirname "$0")" && pwd)
 . "$here/../in_a_copy.sh"

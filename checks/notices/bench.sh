@@ -2,7 +2,6 @@
 # Measures microseconds of a change that is reported to clients waiting in `idle`, and of their next `idle`s; and how many lines
 # with `ping` a player reads and answers in a second while 1 or 60 clients are connected. Each figure is the best of five.
 # Usage: bench.sh [ROOT]     (ROOT is the top folder of the repository; by default the one that this script is in)
-# The program is built in a temporary copy of the crates, together with what is proved already; the rest is proved there first.
 set -eu
 here=$(cd "$(dirname "$0")" && pwd)
 . "$here/../in_a_copy.sh"

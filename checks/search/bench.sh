@@ -2,7 +2,6 @@
 # Measures microseconds of questions to a library of 100,000 songs with three tags each, in 100 folders, next to the targets; and
 # the most memory that the program used, as bytes for each song in addition to its texts (its URI and its tags).
 # Usage: bench.sh [ROOT]     (ROOT is the top folder of the repository; by default the one that this script is in)
-# The program is built in a temporary copy of the crates, together with what is proved already; the rest is proved there first.
 set -eu
 here=$(cd "$(dirname "$0")" && pwd)
 . "$here/../in_a_copy.sh"

@@ -1,7 +1,6 @@
 #!/bin/sh
 # Reads a file with each allocation refused in turn, with each read failing in turn, and by reads of a few bytes (see faults.py).
 # Usage: faults.sh [ROOT]     (ROOT is the top folder of the repository; by default the one that this script is in)
-# The program is built in a temporary copy of the crates, together with what is proved already; the rest is proved there first.
 set -eu
 here=$(cd "$(dirname "$0")" && pwd)
 . "$here/../in_a_copy.sh"
