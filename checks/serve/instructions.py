@@ -6,9 +6,10 @@ difference is counted.
 
 Counted are: a ping in a script, from its line to its printed answer; a ping of a client of the daemon, of which 64 are sent together, alone and
 while ten other clients are in `idle`; and a frame of a file, at full volume, through one output to /dev/null. With --where it shows which functions
-take the instructions, including everything that each function calls: for a ping, for an `add` in a command list of 1,000, for `plchangesposid` after
-a change in a queue of 16,000, and for a frame without and with cross-fades. It leaves out functions that take less than a twentieth (except the
-lock), and those around everything. It needs Debian's package valgrind.
+take the instructions, including everything that each function calls: for a ping; for an `add` in a command list of 1,000; in a queue of 16,000 for
+`plchangesposid` after a change, for `shuffle`, and for `status` while paused in random order; for a notice to a client in `idle`, with its `idle` and
+the change; for each unchanged file of an `update`; and for a frame without and with cross-fades. It leaves out functions that take less than a
+twentieth (except the lock), and those around everything. It needs Debian's package valgrind.
 """
 import os
 import re
@@ -84,8 +85,8 @@ def of_flight(program, pings, idle, read=counted):
         return read(daemon.out)
 
 
-def of_queue(program, entries, line, count, read):
-    """The same for a line that a client sends so many times, in command lists of 1,000, with so many entries in the queue."""
+def of_queue(program, entries, line, count, read, before=()):
+    """The same for a line that a client sends so many times, in command lists of 1,000, with so many entries in the queue, after other lines."""
     with tempfile.TemporaryDirectory() as folder:
         music = os.path.join(folder, 'music')
         put_songs(music, 1, 441)
@@ -97,8 +98,10 @@ def of_queue(program, entries, line, count, read):
         version = client.value('status', 'playlist')
         if entries:
             client.must('swap 100 %d' % (entries - 100))
-        for _ in range(count // 1000):
-            in_list(client, [line.format(uri=uri, version=version)] * 1000)
+        for text in before:
+            client.must(text)
+        for start in range(0, count, 1000):
+            in_list(client, [line.format(uri=uri, version=version)] * min(1000, count - start))
             if not entries:
                 client.must('clear')
         client.close()
@@ -108,6 +111,37 @@ def of_queue(program, entries, line, count, read):
 
 def in_list(client, lines):
     client.must('\n'.join(['command_list_begin', *lines, 'command_list_end']))
+
+
+def of_notices(program, changes, read):
+    with tempfile.TemporaryDirectory() as folder:
+        music = os.path.join(folder, 'music')
+        os.mkdir(music)
+        daemon = Counted(program, folder, music, [])
+        waiting, client = daemon.client(), daemon.client()
+        for number in range(changes):
+            waiting.send('idle options')
+            client.must('repeat %d' % ((number + 1) % 2))
+            waiting.answer()
+        waiting.close()
+        client.close()
+        daemon.end()
+        return read(daemon.out)
+
+
+def of_updates(program, files, updates, read):
+    with tempfile.TemporaryDirectory() as folder:
+        music = os.path.join(folder, 'music')
+        put_songs(music, files, 441)
+        daemon = Counted(program, folder, music, [])
+        client = daemon.client()
+        for _ in range(updates):
+            client.must('update')
+            while client.value('status', 'updating_db'):
+                client.must('idle update')
+        client.close()
+        daemon.end()
+        return read(daemon.out)
 
 
 def of_frames(program, frames, read=counted, entries=1, fade=0):
@@ -145,6 +179,11 @@ def show_where(program):
     show_parts('A `ping`', of_flight(program, done, 0, by_function), of_flight(program, 2 * done, 0, by_function), done)
     show_parts('An `add` in a list', *(of_queue(program, 0, 'add "{uri}"', count, by_function) for count in (4000, 8000)), 4000)
     show_parts('`plchangesposid`', *(of_queue(program, 16000, 'plchangesposid {version}', count, by_function) for count in (1000, 3000)), 2000)
+    show_parts('`shuffle`', *(of_queue(program, 16000, 'shuffle', count, by_function) for count in (20, 60)), 40)
+    paused = ('random 1', 'play 0', 'pause 1')
+    show_parts('`status` in random order', *(of_queue(program, 16000, 'status', count, by_function, paused) for count in (1000, 2000)), 1000)
+    show_parts('A notice', *(of_notices(program, changes, by_function) for changes in (1000, 3000)), 2000)
+    show_parts('A file of an `update`', *(of_updates(program, 1000, updates, by_function) for updates in (2, 6)), 4000)
     show_parts('A frame', of_frames(program, FRAMES, by_function), of_frames(program, 2 * FRAMES, by_function), FRAMES)
     # Songs of 30 seconds, each of which fades into the next for 10 seconds: two more songs are 40 more seconds of sound.
     less, more = (of_frames(program, 30 * RATE, by_function, entries, 10) for entries in (2, 4))
