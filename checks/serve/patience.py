@@ -7,7 +7,8 @@ is shut down.
 There are: three outputs with patience, of which one's reader stalls for a minute (measured are the gaps in the sound of the others, the answers
 meanwhile, which outputs are switched off and on again, and the frame counts at the end); a FIFO that nobody reads; a reader that leaves and comes
 back; an output that a user switches off or on while its reader stalls; a player that is stopped meanwhile; an output that was moved to another
-partition; `kill`, which must end the daemon within a second; and the saved state, in which an output that was switched off for its reader is on.
+partition; `kill`, which must end the daemon within a second, and after which a reader that keeps the pace must have got everything; and the saved
+state, in which an output that was switched off for its reader is on.
 """
 import os
 import re
@@ -332,6 +333,19 @@ def check_end(table, program, folder, music):
         table.row('the end %s' % name, ' '.join(told)[-60:], right=len(told) == 1)
 
 
+def check_delivered(table, program, folder, music):
+    """At the end a reader that keeps the pace gets all that counts as written: the daemon waits for it up to half a second."""
+    reader = Reader(os.path.join(folder, 'delivered'))
+    daemon = Patient(program, folder, music, [(reader.path, PATIENCE)])
+    play(daemon.client())
+    time.sleep(2)
+    books = end(table, daemon)
+    reader.process.wait(10)
+    got, written = sum(count for _, count in reader.pieces()), 4 * books[0][2]
+    told = [line for line in daemon.errors().splitlines() if 'did not take' in line]
+    table.row('bytes that its reader got', '%d of %d' % (got, written), right=got == written and not told)
+
+
 def check_without(table, program, folder, music):
     """An output without the key `patience` is waited for without limit, even if another output has the key."""
     readers = [Reader(os.path.join(folder, 'without%d' % number)) for number in range(2)]
@@ -396,8 +410,8 @@ def check_clients(table, program, folder, music):
 def main():
     program, table = program_of(sys.argv[1] if len(sys.argv) > 1 else None), Table('Patience', 46, 80)
     checks = [
-        check_minute, check_stands, check_short, check_unread, check_by_hand, check_switches, check_stopped, check_moved, check_end, check_without,
-        check_kept, check_clients]
+        check_minute, check_stands, check_short, check_unread, check_by_hand, check_switches, check_stopped, check_moved, check_end, check_delivered,
+        check_without, check_kept, check_clients]
     return check_each(program, table, checks, RATE)
 
 

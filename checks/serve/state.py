@@ -152,7 +152,8 @@ def check_played(program, folder, music):
         os.mkfifo(unread)
         daemon = started(program, folder, music, kept, [unread])
         found = state_of(daemon.client())
-        place, at = float(wanted[0].pop('elapsed')), float(found[0].pop('elapsed'))
+        # A player that came back without its song has no position, which is not a number then and so is never right.
+        place, at = float(wanted[0].pop('elapsed')), float(found[0].pop('elapsed') or 'nan')
         right = found[:2] == wanted[:2] and place - most <= at <= place + 0.5
         table.row('after %s' % ends, '%.1f s of %.1f s' % (at, place), right=right)
         daemon.kill()
