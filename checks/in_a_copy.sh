@@ -1,6 +1,6 @@
 # What the scripts in the folders next to this file have in common; they read it with `.`. A program is built in a copy of the crates
 # that it depends on, together with what is proved already; the rest is proved there first. The copy is kept in the user's cache, so
-# that a later run proves and builds only what has changed.
+# that a later run proves and builds only what has changed. Scripts of the same folder share it, and must not run at the same time.
 #
 # A script sets `here` to its own folder before it reads this file. Its first argument is the top folder of the repository, by
 # default the one that the script is in. Afterwards `root` is that folder, and `work` is the folder with the copy, where the script

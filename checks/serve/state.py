@@ -152,7 +152,7 @@ def check_played(program, folder, music):
         os.mkfifo(unread)
         daemon = started(program, folder, music, kept, [unread])
         found = state_of(daemon.client())
-        # A player that came back without its song has no position, which is not a number then and so is never right.
+        # A player that came back without its song has no position. `at` is not a number then, so every comparison with it is false.
         place, at = float(wanted[0].pop('elapsed')), float(found[0].pop('elapsed') or 'nan')
         right = found[:2] == wanted[:2] and place - most <= at <= place + 0.5
         table.row('after %s' % ends, '%.1f s of %.1f s' % (at, place), right=right)
