@@ -46,16 +46,8 @@ impl<T> Counting<T> {
 impl<T> Failing for Counting<T> {
     ghost call_counts = { λ c. c.call_counts };
 
-    fn failures(&self) -> u64 {
-        self.call_counts.failures
-    }
-
-    fn blocked(&self) -> u64 {
-        self.call_counts.blocked
-    }
-
-    fn calls(&self) -> u64 {
-        self.call_counts.calls
+    fn counts(&self) -> CallCounts {
+        self.call_counts
     }
 }
 

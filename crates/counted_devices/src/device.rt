@@ -6,6 +6,7 @@ ghost use Rattle.std.specs.Io.KnownBytes.{ReadConsumes, WriteAppends, Keeps};
 ghost use Rattle.counted_devices.specs.CallCounts.{NoFewer, HasFailed, CountsCall, CountsWrite, one_call};
 ghost use Rattle.counted_devices.specs.Bytes.{Seeks, SeeksToEnd};
 
+use crate::CallCounts;
 use std::io;
 use std::io::{Read, Write};
 
@@ -13,17 +14,30 @@ use std::io::{Read, Write};
 pub trait Failing {
     ghost call_counts: { Self → CallCounts };
 
+    /// How its calls ended so far.
+    fn counts(&self) -> CallCounts
+        ensures { result ≡ call_counts self.now };
+
     /// How many calls returned an error other than `WouldBlock`, or took none of some bytes.
     fn failures(&self) -> u64
-        ensures { result ≡ (call_counts self.now).failures };
+        ensures { result ≡ (call_counts self.now).failures }
+    {
+        self.counts().failures
+    }
 
     /// How many calls returned `WouldBlock`.
     fn blocked(&self) -> u64
-        ensures { result ≡ (call_counts self.now).blocked };
+        ensures { result ≡ (call_counts self.now).blocked }
+    {
+        self.counts().blocked
+    }
 
     /// How many calls were made in all.
     fn calls(&self) -> u64
-        ensures { result ≡ (call_counts self.now).calls };
+        ensures { result ≡ (call_counts self.now).calls }
+    {
+        self.counts().calls
+    }
 }
 
 /// A reader that counts its calls.

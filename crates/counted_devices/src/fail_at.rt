@@ -109,16 +109,8 @@ impl FailAt {
 impl Failing for FailAt {
     ghost call_counts = { λ d. d.call_counts };
 
-    fn failures(&self) -> u64 {
-        self.call_counts.failures
-    }
-
-    fn blocked(&self) -> u64 {
-        self.call_counts.blocked
-    }
-
-    fn calls(&self) -> u64 {
-        self.call_counts.calls
+    fn counts(&self) -> CallCounts {
+        self.call_counts
     }
 }
 

@@ -44,16 +44,8 @@ impl<'a, R: Files + AllocGlobal + Clone + Drop> SystemDisk<'a, R> {
 impl<R: Files + AllocGlobal + Clone + Drop> Failing for SystemDisk<'_, R> {
     ghost call_counts = { λ disk. disk.call_counts };
 
-    fn failures(&self) -> u64 {
-        self.call_counts.failures
-    }
-
-    fn blocked(&self) -> u64 {
-        self.call_counts.blocked
-    }
-
-    fn calls(&self) -> u64 {
-        self.call_counts.calls
+    fn counts(&self) -> CallCounts {
+        self.call_counts
     }
 }
 

@@ -5,7 +5,7 @@ ghost use Rattle.std.specs.Io.KnownBytes.{ReadConsumes};
 ghost use Rattle.counted_devices.specs.CallCounts.{NoFewer, CountsCall, one_call, count_up};
 ghost use Rattle.library_scan.specs.Windows.{whole, from_offset, left, ErrorHasCause, FailsAs, StandAt, with_calls};
 
-use counted_devices::{Failing, Media, Source};
+use counted_devices::{CallCounts, Failing, Media, Source};
 use std::io;
 use std::io::Read;
 
@@ -140,16 +140,11 @@ impl<M: Media> Windowed<M> {
 impl<M: Media> Failing for Windowed<M> {
     ghost call_counts = { λ w. with_calls w.calls (M.call_counts w.file) };
 
-    fn failures(&self) -> u64 {
-        self.file.failures()
-    }
-
-    fn blocked(&self) -> u64 {
-        self.file.blocked()
-    }
-
-    fn calls(&self) -> u64 {
-        self.calls
+    fn counts(&self) -> CallCounts {
+        CallCounts {
+            calls: self.calls,
+            ..self.file.counts()
+        }
     }
 }
 

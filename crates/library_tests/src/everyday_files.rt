@@ -29,15 +29,6 @@ fn tell_line(recorder: &mut Recorder, alloc: Global, line: &str) {
     recorder.add("\n");
 }
 
-/// The lines of a table again, with the tags of the files on their left sides.
-fn observed_of(alloc: Global, table: &str) -> Result<String, AllocError> {
-    let mut recorder = Recorder::new(alloc);
-    for line in table.lines() {
-        tell_line(&mut recorder, alloc, line);
-    }
-    recorder.into_text()
-}
-
 /// Files, a line for each: what follows the format, in hexadecimal digits; the tags of the base profile; and
 /// those of the everyday profile. A line with `#` says of what kind the next ones are.
 const FILES: &str = "# `ITRK`, `IPRT` and `IMUS`
@@ -144,6 +135,10 @@ fn lengths_observed(alloc: Global) -> Result<String, AllocError> {
 
 #[test]
 fn tags_of_both_profiles(rt: HostRuntime) -> Result<(), Fail> {
-    wants(observed_of(rt.alloc(), FILES), FILES)?;
+    let mut recorder = Recorder::new(rt.alloc());
+    for line in FILES.lines() {
+        tell_line(&mut recorder, rt.alloc(), line);
+    }
+    wants(recorder.into_text(), FILES)?;
     wants(lengths_observed(rt.alloc()), LENGTHS_TELL)
 }

@@ -15,13 +15,13 @@ const MAX_NAME: usize = 64;
 pub fn is_partition_name(name: &str) -> bool
     ensures { result ≡ is_partition_name_lem name.now }
 {
-    !name.is_empty() && name.len() <= MAX_NAME && are_name_bytes(name.as_bytes())
+    !name.is_empty() && name.len() <= MAX_NAME && has_name_bytes(name)
 }
 
-fn are_name_bytes(bytes: &[u8]) -> bool
-    ensures { result ≡ list_all is_name_byte_lem bytes.now }
+fn has_name_bytes(name: &str) -> bool
+    ensures { result ≡ list_all is_name_byte_lem name.now }
 {
-    bytes.iter().all(|byte| is_name_byte(*byte))
+    name.as_bytes().iter().all(|byte| is_name_byte(*byte))
 }
 
 fn is_name_byte(byte: u8) -> bool

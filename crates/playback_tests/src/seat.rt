@@ -145,14 +145,6 @@ fn have(observed: &mut Recorder, seat: &mut Seat, number: u32, count: u32) {
     }
 }
 
-fn playback_text(playback: Playback) -> &'static str {
-    match playback {
-        Playback::Stop => "stop",
-        Playback::Play => "play",
-        Playback::Pause => "pause",
-    }
-}
-
 /// The id of what would come next, or 0 for none.
 fn next_id(seat: &Seat) -> u32 {
     match seat.player.peek(&seat.queue) {
@@ -164,7 +156,11 @@ fn next_id(seat: &Seat) -> u32 {
 /// Adds state, current song, or 0 for none, offset, starts, cuts, what would come next, how many entries, and the
 /// error.
 fn show(observed: &mut Recorder, seat: &Seat) {
-    let state = playback_text(seat.player.playback());
+    let state = match seat.player.playback() {
+        Playback::Stop => "stop",
+        Playback::Play => "play",
+        Playback::Pause => "pause",
+    };
     let current = seat.player.current().unwrap_or(0);
     let offset = seat.player.offset();
     let starts = seat.player.starts();

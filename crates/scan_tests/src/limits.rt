@@ -1,7 +1,7 @@
 //! A disk of so many songs, and a file whose reads fail.
 use crate::disk::WAVE;
 use crate::helpers::size_of;
-use counted_devices::{FailAt, Failing, FailurePoint};
+use counted_devices::{CallCounts, FailAt, Failing, FailurePoint};
 use library_scan::{Content, Disk, Entry, Kind, Unwatched, content_of, scan_disk};
 use mpd_text::Text;
 use song_db::Rate;
@@ -21,16 +21,8 @@ impl Failing for Many {
 
     ghost call_counts = { λ _. no_calls };
 
-    fn failures(&self) -> u64 {
-        0
-    }
-
-    fn blocked(&self) -> u64 {
-        0
-    }
-
-    fn calls(&self) -> u64 {
-        0
+    fn counts(&self) -> CallCounts {
+        CallCounts::new()
     }
 }
 

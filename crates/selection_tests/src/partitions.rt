@@ -37,22 +37,20 @@ fn outputs(alloc: Global) -> Result<Outputs, AllocError> {
     Ok(outputs)
 }
 
-fn client(number: u32) -> Client {
-    Client {
-        number,
-        index: 0,
-        tags: TagSet::all(),
-        pending: Pending::new(),
-    }
-}
-
 fn opening(alloc: Global) -> Result<Daemon, AllocError> {
     let outputs = outputs(alloc)?;
     let name = SharedText::new(alloc, "default")?;
     let parts = Parts::open(alloc, opened(alloc, openings(), 0, name, outputs))?;
+    let first = Client {
+        number: 1,
+        index: 0,
+        tags: TagSet::all(),
+        pending: Pending::new(),
+    };
+    let second = Client { number: 2, ..first };
     Ok(Daemon {
         parts,
-        clients: [client(1), client(2)],
+        clients: [first, second],
     })
 }
 
