@@ -1,3 +1,4 @@
+pub mod Faults
 pub mod Starting
 pub mod Restoring
 pub mod Storing

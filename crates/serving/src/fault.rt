@@ -1,4 +1,7 @@
 //! Why the daemon is not started, or does not end well.
+ghost use Rattle.std.specs.Prelude.{◌≡◌};
+ghost use Rattle.serving.specs.Faults.{of_scan as of_scan_lem, of_settings, of_sockets};
+
 use library_scan::ScanFault;
 use mpd_server::ServeFault;
 use partition::PartitionFault;
@@ -39,12 +42,18 @@ pub enum DaemonFault {
 }
 
 impl From<AllocError> for DaemonFault {
+    ghost use Rattle.serving.specs.declared.fault.DaemonFault.{DaemonFault};
+
+    ghost from_gives = { λ _ said. said ≡ DaemonFault.NoMemory };
+
     fn from(_fault: AllocError) -> DaemonFault {
         DaemonFault::NoMemory
     }
 }
 
 impl From<SettingsFault> for DaemonFault {
+    ghost from_gives = { λ fault said. said ≡ of_settings fault };
+
     fn from(fault: SettingsFault) -> DaemonFault {
         match fault {
             SettingsFault::BadSetting(key) => DaemonFault::BadSetting(key),
@@ -54,6 +63,8 @@ impl From<SettingsFault> for DaemonFault {
 }
 
 impl From<ServeFault> for DaemonFault {
+    ghost from_gives = { λ fault said. said ≡ of_sockets fault };
+
     fn from(fault: ServeFault) -> DaemonFault {
         match fault {
             ServeFault::ListenFault => DaemonFault::CannotServe,
@@ -64,7 +75,9 @@ impl From<ServeFault> for DaemonFault {
 
 impl DaemonFault {
     /// Why the folder of the music was not scanned.
-    pub(crate) fn of_scan(fault: ScanFault, folder: String) -> DaemonFault {
+    pub(crate) fn of_scan(fault: ScanFault, folder: String) -> DaemonFault
+        ensures { result ≡ of_scan_lem fault folder }
+    {
         match fault {
             ScanFault::NoFolder => DaemonFault::NoFolder(folder),
             ScanFault::TooMany => DaemonFault::TooManySongs,
