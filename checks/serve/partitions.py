@@ -37,6 +37,7 @@ COSTS = [
 EMPTY = 20          # how many kB an empty partition may take
 SLOWEST = 1.0       # how many seconds an answer may take
 MOVES = 40          # how many times an output is moved
+READER_STARTS = 20  # how many seconds the reader of a room may take to start
 BOOKS = re.compile(r'output (\d+): decoded (\d+) written (\d+) discarded (\d+) left (\d+)')
 
 
@@ -163,7 +164,10 @@ def check_rooms(table, program, folder, music):
     for client in (kitchen, upstairs):
         client.must('add ""')
         client.must('play')
-    time.sleep(1)
+    # Until its reader has started, the kitchen plays no more than its ring and its FIFO hold.
+    end = time.monotonic() + READER_STARTS
+    while float(kitchen.value('status', 'elapsed')) < 1 and time.monotonic() < end:
+        time.sleep(0.1)
     before = float(kitchen.value('status', 'elapsed')), float(upstairs.value('status', 'elapsed'))
     time.sleep(2)
     after = float(kitchen.value('status', 'elapsed')), float(upstairs.value('status', 'elapsed'))
