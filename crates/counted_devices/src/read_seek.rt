@@ -54,13 +54,16 @@ impl ReadSeek for File {
 impl<T: AsBytes> ReadSeek for Cursor<T> {
     ghost known_bytes = { λ c. T.bytes (cursor_inner c) };
 
+    // In memory a seek cannot fail, so the position is set.
     fn move_to(&mut self, offset: u64) -> io::Result<()> {
-        self.seek(SeekFrom::Start(offset))?;
+        self.set_position(offset);
         Ok(())
     }
 
     fn move_to_end(&mut self) -> io::Result<u64> {
-        self.seek(SeekFrom::End(0))
+        let size = self.get_ref().as_byte_slice().len() as u64;
+        self.set_position(size);
+        Ok(size)
     }
 
     fn read_on(&mut self, buf: &mut [u8]) -> io::Result<usize> {
