@@ -27,19 +27,19 @@ LINE = [
     (0, 'mpd_server', 'Server::serve', 'one loop over all sockets; a turn for each that is ready'),
     (1, 'mpd_session', 'Session::turn', 'bytes are read, and unsent bytes written'),
     (2, 'mpd_text', 'Splitter::feed', 'bytes become lines'),
-    (2, 'mpd_answers', 'Gatherer::take', 'a single line, or a whole command list'),
-    (2, 'mpd_answers', 'ask', 'asks the player, and makes the answer'),
+    (2, 'mpd_session', 'Gatherer::take', 'a single line, or a whole command list'),
+    (2, 'mpd_session', 'ask', 'asks the player, and makes the answer'),
     (3, 'mpd_command', 'Request::of_line', 'a typed command, or the first error in the line'),
     (3, 'house', 'House::command', 'or `House::list`, for a command list'),
     '---- the lock is taken',
-    (4, 'held_player', 'Held::command', 'a pending notice is put in front of the reply'),
-    (5, 'counted_player', 'Counted::apply', 'the event is counted for its seat'),
+    (4, 'house', 'Held::command', 'a pending notice is put in front of the reply'),
+    (5, 'house', 'Counted::apply', 'the event is counted for its seat'),
     (6, 'partition', 'Partition::apply', 'a full history window is folded; the playlist store is read if the command needs it'),
     (7, 'queue_commands', 'run', 'or `run` of another crate of commands: decides what to do; nothing changes yet'),
     (7, 'transitions', 'Transition::carry_out', 'the partition and the library change'),
     (7, 'connected_clients', 'notify_all', 'changes become pending; waiting clients get their notices'),
     '---- the lock is free',
-    (2, 'mpd_answers', 'Owed::push_to', 'the answer joins the unsent bytes'),
+    (2, 'mpd_session', 'Owed::push_to', 'the answer joins the unsent bytes'),
 ]
 FRAME = [
     (0, 'crew_steps', 'Decoder::run', "the decoder's thread"),
@@ -62,11 +62,11 @@ FRAME = [
 # What the lock protects: depth, crate, struct, and its fields with what they are; a field with None is drawn by its name only.
 HELD = [
     (0, 'house', 'House', {'held': 'the lock', 'state_changed': None, 'notices_wait': None, 'scan_runs': None}),
-    (1, 'held_player', 'Held', {
+    (1, 'house', 'Held', {
         'core': 'the player with its notices, below', 'books': 'how many frames were decoded, written, discarded',
         'free': 'the seats that are free', 'closed': "each thread's part of the frame counts, once these were compared with the rings", 'alloc': None}),
-    (2, 'held_player', 'Core', {'counted': 'the player, below', 'waiting': 'notices that are not delivered yet', 'seen': None, 'changes': None}),
-    (3, 'counted_player', 'Counted', {'partition': 'below', 'seats': 'how many events each of the seats 0 to 3 made'}),
+    (2, 'house', 'Core', {'counted': 'the player, below', 'waiting': 'notices that are not delivered yet', 'seen': None, 'changes': None}),
+    (3, 'house', 'Counted', {'partition': 'below', 'seats': 'how many events each of the seats 0 to 3 made'}),
     (4, 'partition', 'Partition', {
         'base': 'the state before the first event of the window', 'history': 'the window of events', 'state': 'the present state, below',
         'limit': 'how many events the window may have', 'bytes': None, 'alloc': None}),
@@ -82,8 +82,8 @@ HELD = [
 # definition that the clause names; and laws about that definition.
 THEOREMS = [
     'whenever the lock is free',
-    ('held_player', 'Held::history', 'legal', 'partition/Legal', 'IsPast', ''),
-    ('held_player', 'Held::history', 'books', 'held_player/Views', 'HasBooksOfPlayer', ''),
+    ('house', 'Held::history', 'legal', 'partition/Legal', 'IsPast', ''),
+    ('house', 'Held::history', 'books', 'house/Views', 'HasBooksOfPlayer', ''),
     'song ids are distinct',
     ('partition', 'Partition::history', 'distinct', 'partition/Legal', 'HasDistinctIds', 'song_queue: ids_are_distinct ids_never_return'),
     'each slot has the version that last changed it',
@@ -100,9 +100,9 @@ THEOREMS = [
     ('partition', 'Partition::apply', 'refused', 'partition/Lent', 'RefusesBy', ''),
     ('partition', 'Partition::run_list', 'ok', 'partition/Lists', 'RunsBy', 'partition: entries_are_whole'),
     ('partition', 'Partition::fold', 'ok', 'partition/History', 'folded', 'partition: folds_are_unseen'),
-    ('house', 'House::command', 'somewhere', 'held_player/Views', 'AnswersCaller', ''),
+    ('house', 'House::command', 'somewhere', 'house/Views', 'AnswersCaller', ''),
     ('mpd_session', 'Session::turn', 'turns', 'mpd_session/Sessions', 'Turns',
-     'mpd_session: turns_join any_cut_of_bytes; mpd_answers: lines_ask_for'),
+     'mpd_session: turns_join any_cut_of_bytes lines_ask_for'),
     ('server_rounds', 'Rounds::next_step', 'next', 'server_rounds/Rounds', 'IsNext', ''),
     ('daemon_script', 'run_script', 'ok', 'daemon_script/Output', 'ShowsInput', 'daemon_script: runs_are_traced'),
     'no partition sees the others',
@@ -115,7 +115,7 @@ THEOREMS = [
     ('crew', 'close', 'settled', 'crew/Closing', 'ClosesRuns', ''),
     ('crew_steps', 'Decoder::run', 'decodes', 'crew_steps/Decoders', 'RunsWith', ''),
     ('crew_steps', 'Draining::run', 'runs', 'crew_steps/Drainings', 'RunsOut', ''),
-    ('held_player', 'Held::settle_all', 'settles', 'held_player/Settling', 'SettlesInTurn', ''),
+    ('house', 'Held::settle_all', 'settles', 'house/Settling', 'SettlesInTurn', ''),
     ('frame_ledger', 'settle', 'balances', 'frame_ledger/Balance', 'Balances', ''),
     ('output_ring', 'Drainer::write_out', 'played', 'output_ring/Turns', 'WritesHand', ''),
     'what the commands are',

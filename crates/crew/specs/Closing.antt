@@ -3,10 +3,10 @@ use Rattle.std.specs.Prelude.{◌≡◌, ◌+◌, List, length, map}
 use Rattle.std.specs.List.{range_with_len}
 use Rattle.frame_ledger.specs.Shares.{HasAllParts}
 use Rattle.frame_ledger.specs.declared.books.OutputShares.{OutputShares}
-use Rattle.held_player.specs.declared.held.CrewShares.{CrewShares}
-use Rattle.held_player.specs.declared.ended_ring.EndedRing.{EndedRing}
-use Rattle.held_player.specs.declared.settlement.Settlement.{Settlement}
-use Rattle.held_player.specs.Settling.{ClosesBooks}
+use Rattle.house.specs.declared.held.CrewShares.{CrewShares}
+use Rattle.house.specs.declared.ended_ring.EndedRing.{EndedRing}
+use Rattle.house.specs.declared.settlement.Settlement.{Settlement}
+use Rattle.house.specs.Settling.{ClosesBooks}
 use Rattle.output_ring.specs.Rings.{EndsFeeder, SameDrainer}
 use Rattle.crew.specs.declared.output.OutputRun.{OutputRun}
 use Rattle.crew.specs.Rows.{drainer_of_run, output_of_run}

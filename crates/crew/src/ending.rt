@@ -1,16 +1,14 @@
 //! The end of all threads.
 ghost use Rattle.std.specs.Prelude.{◌≡◌, IfErr, IfOk, OnOk};
 ghost use Rattle.crew.specs.Closing.{ClosesRuns};
-ghost use Rattle.counted_player.specs.Seats.{after_events};
-ghost use Rattle.held_player.specs.Views.{RefusesSomewhere};
+ghost use Rattle.house.specs.Seats.{after_events};
+ghost use Rattle.house.specs.Views.{RefusesSomewhere};
 ghost use Rattle.player_events.specs.declared.event.Event.TheVariants.{End};
 
 use crate::settling::join_outputs;
 use crate::start::Crew;
-use counted_player::{Ledgers, Seat};
 use crew_steps::DecoderEnd;
-use held_player::{CrewShares, Settlement};
-use house::House;
+use house::{CrewShares, House, Ledgers, Seat, Settlement};
 use partition::PartitionFault;
 use std::sync::Wait;
 use std::thread::Threads;

@@ -3,10 +3,9 @@ ghost use Rattle.frame_ledger.specs.Shares.{HasOnePart};
 ghost use Rattle.output_ring.specs.Rings.{AreEnds};
 ghost use Rattle.crew.specs.Promises.{HandsBack};
 
-use counted_player::{Discarded, Ledgers, Written};
 use crew_steps::OutputEnd;
 use frame_ledger::OutputShares;
-use held_player::EndedRing;
+use house::{Discarded, EndedRing, Ledgers, Written};
 use output_ring::{Drainer, Feeder};
 use std::snapshot::Snapshot;
 use std::thread::{Promise, PromisedHandle};

@@ -5,8 +5,8 @@ ghost use Rattle.frame_ledger.specs.Shares.{HasPartsBut};
 ghost use Rattle.crew.specs.Rows.{first_of_run, output_of_run};
 
 use crate::output::OutputRun;
-use counted_player::{Discarded, Ledgers, Written};
 use frame_ledger::OutputShares;
+use house::{Discarded, Ledgers, Written};
 use output_ring::Feeder;
 
 /// The threads of all outputs, the feeder of each one's ring, and the parts of the shares that no output has.

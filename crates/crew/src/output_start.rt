@@ -8,10 +8,9 @@ ghost use Rattle.crew_steps.specs.Turns.{HasRun};
 
 use crate::output::{OfOutput, OutputRun};
 use counted_devices::Sink;
-use counted_player::{Discarded, Ledgers, Written};
 use crew_steps::{Draining, Gate, OutputEnd, OutputSetup};
 use frame_ledger::OutputShares;
-use house::House;
+use house::{Discarded, House, Ledgers, Written};
 use output_ring::{Drainer, Feeder};
 use std::alloc::{AllocError, Global};
 use std::snapshot::Snapshot;

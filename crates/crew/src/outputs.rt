@@ -8,10 +8,9 @@ ghost use Rattle.crew_steps.specs.OutputSetups.{feeder_of_setup, drainer_of_setu
 use crate::output_runs::OutputRuns;
 use crate::output_start::start_output;
 use counted_devices::Sink;
-use counted_player::{Discarded, Ledgers, Written};
 use crew_steps::{Gate, OutputSetup};
 use frame_ledger::OutputShares;
-use house::House;
+use house::{Discarded, House, Ledgers, Written};
 use std::alloc::{AllocError, Global};
 use std::sync::{Arc, Wait};
 use std::thread::Threads;

@@ -2,10 +2,8 @@
 ghost use Rattle.std.specs.Prelude.{◌≡◌, IsSome, OnOk};
 
 use crate::start::Crew;
-use counted_player::{Ledgers, Seat};
 use crew_steps::pause;
-use held_player::{News, Reported};
-use house::House;
+use house::{House, Ledgers, News, Reported, Seat};
 use player_state::Report;
 use song_db::SharedDb;
 use std::alloc::{AllocError, Global};
@@ -41,7 +39,7 @@ impl<'h, L: Ledgers, N: Scanner + Drop, R: Wait + Clock> Scanning<'h, L, N, R> {
     ghost use Rattle.std.specs.Prelude.{◌≡◌, IfSome, false};
     ghost use Rattle.player_events.specs.declared.event.Event.TheVariants.{ScanQuestion};
     ghost use Rattle.player_state.specs.declared.report.Report.TheVariants.{Ended};
-    ghost use Rattle.held_player.specs.Views.{TellsSomewhere};
+    ghost use Rattle.house.specs.Views.{TellsSomewhere};
     ghost use Rattle.crew_steps.specs.Turns.{goes_on};
 
     /// Scans where that is asked for, until it is told of the end. Says what it was told then.

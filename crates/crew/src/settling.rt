@@ -7,10 +7,9 @@ ghost use Rattle.crew_steps.specs.Each.{Each};
 ghost use Rattle.crew.specs.Rows.{first_of_run};
 
 use crate::output::{OutputLeft, OutputRun};
-use counted_player::{Discarded, Ledgers, Written};
 use crew_steps::OutputEnd;
 use frame_ledger::OutputShares;
-use held_player::EndedRing;
+use house::{Discarded, EndedRing, Ledgers, Written};
 use output_ring::FeederEnd;
 use std::sync::Wait;
 use std::thread::Threads;

@@ -5,8 +5,8 @@ use Rattle.output_ring.specs.declared.feeder.Feeder.{Feeder}
 use Rattle.output_ring.specs.Rings.{SameFeeder}
 use Rattle.player_core.specs.declared.state.Job.{Job}
 use Rattle.player_events.specs.Outcomes.{OutcomeData}
-use Rattle.counted_player.specs.Seats.{SeatCount}
-use Rattle.held_player.specs.Views.{FeedsShare}
+use Rattle.house.specs.Seats.{SeatCount}
+use Rattle.house.specs.Views.{FeedsShare}
 use Rattle.output_ring.specs.declared.feeder.FeederEnd.{FeederEnd}
 use Rattle.crew_steps.specs.Causes.{EndsFor}
 use Rattle.crew_steps.specs.Decoding.{DecodesAll, DecodesOnce, DidRounds, DoesTask, RunsDecoder, RunsFor, Task, end_told}

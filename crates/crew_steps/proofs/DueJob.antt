@@ -16,8 +16,8 @@ use Rattle.player_state.specs.declared.state.Part.{Part}
 use Rattle.player_events.specs.Outcomes.{OutcomeData}
 use Rattle.partition.specs.Step.{told, want}
 use Rattle.crew_steps.specs.Feeding.{OwesNothingSomewhere, OwnOweNothing}
-use Rattle.counted_player.specs.Seats.{SeatCount}
-use Rattle.held_player.specs.Views.{TellsSomewhere}
+use Rattle.house.specs.Seats.{SeatCount}
+use Rattle.house.specs.Views.{TellsSomewhere}
 
 nothing_given : (a b : Bool) (p : PlayerState) (w : decoding.DueJob) → (if a && b && not true then w else decoding.nothing p).job ≡ None
 nothing_given true true p w = refl

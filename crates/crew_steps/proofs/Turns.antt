@@ -13,8 +13,8 @@ use Rattle.output_ring.specs.declared.frames.WriteFault.{WriteFault}
 use Rattle.player_events.specs.Outcomes.{OutcomeData}
 use Rattle.player_state.specs.declared.report.Report.{Report}
 use Rattle.player_state.specs.declared.report.Report.TheVariants.{Nothing, ToScan, ScanEnded, ToDecode, ToFeed, ToPlay, Ended}
-use Rattle.counted_player.specs.Seats.{SeatCount, seat_count}
-use Rattle.held_player.specs.Views.{TellsSomewhere, turn_of}
+use Rattle.house.specs.Seats.{SeatCount, seat_count}
+use Rattle.house.specs.Views.{TellsSomewhere, turn_of}
 use Rattle.crew_steps.specs.Turns.{AreUntold, DoesAs, Drains, GivesFates, HasTurn, HasTurns, Keeps, Obeys, Plays, Pops, Runs, TellsOutput, goes_on}
 
 pub pops_none : (d : Drainer) → Pops d d []

@@ -3,7 +3,7 @@ use Rattle.std.specs.Prelude.{ℕ, ℤ, ◌≡◌, ◌⊎◌, Bool, true, false,
 use Rattle.std.specs.Option.{ForSome}
 use Rattle.counted_devices.specs.CallCounts.{HasFailed}
 use Rattle.counted_devices.specs.declared.call_counts.CallCounts.{CallCounts}
-use Rattle.counted_player.specs.Counts.{IsSongSomewhere}
+use Rattle.house.specs.Counts.{IsSongSomewhere}
 use Rattle.mpd_text.specs.Songs.Song.{SongData}
 use Rattle.player_core.specs.declared.state.FadePart.{FadePart}
 use Rattle.player_core.specs.declared.state.Job.{Job}

@@ -9,7 +9,7 @@ use Rattle.output_ring.specs.declared.feeder.FeederEnd.{FeederEnd}
 use Rattle.player_core.specs.declared.state.FadePart.{FadePart}
 use Rattle.player_core.specs.declared.state.Job.{Job}
 use Rattle.player_events.specs.Outcomes.{OutcomeData}
-use Rattle.held_player.specs.Views.{FeedsShare}
+use Rattle.house.specs.Views.{FeedsShare}
 use Rattle.crew_steps.specs.Causes.{EndsFor, IsNotOpened, PartnerIsNotOpened}
 use Rattle.crew_steps.specs.Decoding.{DecodesAll, DecodesOnce, RunsFor}
 use Rattle.crew_steps.specs.Feeding.{DoesJob, Feeds, FinishesJob}

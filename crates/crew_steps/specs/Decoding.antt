@@ -8,8 +8,8 @@ use Rattle.player_events.specs.Outcomes.{OutcomeData}
 use Rattle.player_events.specs.declared.event.Event.TheVariants.{Want}
 use Rattle.player_state.specs.declared.report.Report.{Report}
 use Rattle.player_state.specs.declared.report.Report.TheVariants.{Ended, ToDecode}
-use Rattle.counted_player.specs.Seats.{SeatCount}
-use Rattle.held_player.specs.Views.{RefusesSomewhere, TellsSomewhere}
+use Rattle.house.specs.Seats.{SeatCount}
+use Rattle.house.specs.Views.{RefusesSomewhere, TellsSomewhere}
 use Rattle.crew_steps.specs.Each.{Each}
 use Rattle.crew_steps.specs.Feeding.{DoesJob, OwesNothingSomewhere, TakesNone, owing}
 use Rattle.crew_steps.specs.Sounds.{OpenSongs}

@@ -18,8 +18,8 @@ use Rattle.player_state.specs.declared.state.Part.{Part}
 use Rattle.player_state.specs.declared.report.Feed.{Feed}
 use Rattle.player_state.specs.declared.report.Report.{Report}
 use Rattle.player_state.specs.declared.report.Report.TheVariants.{ToFeed}
-use Rattle.counted_player.specs.Seats.{SeatCount}
-use Rattle.held_player.specs.Views.{FeedsSomewhere, TellsSomewhere}
+use Rattle.house.specs.Seats.{SeatCount}
+use Rattle.house.specs.Views.{FeedsSomewhere, TellsSomewhere}
 use Rattle.crew_steps.specs.Each.{EachAt}
 use Rattle.crew_steps.specs.declared.songs.JobFrames.{JobFrames}
 use Rattle.crew_steps.specs.declared.songs.NoFrames.{NoFrames}

@@ -11,8 +11,8 @@ use Rattle.player_events.specs.Outcomes.{OutcomeData}
 use Rattle.player_state.specs.declared.report.Heard.{Heard}
 use Rattle.player_state.specs.declared.report.Report.{Report}
 use Rattle.player_state.specs.declared.report.Report.TheVariants.{ToPlay, Ended}
-use Rattle.counted_player.specs.Seats.{seat_count}
-use Rattle.held_player.specs.Views.{TellsSomewhere, turn_of}
+use Rattle.house.specs.Seats.{seat_count}
+use Rattle.house.specs.Views.{TellsSomewhere, turn_of}
 
 -- these frames came from the ring into the hand, and none got its fate
 pub record Pops (old new : Drainer) (came : List CutFrame) : Type 0 where

@@ -1,8 +1,8 @@
 //! What an output is let go on by, and what is left of it.
 ghost use Rattle.frame_ledger.specs.Shares.{HasOnePart};
 
-use counted_player::{Discarded, Ledgers, Written};
 use frame_ledger::OutputShares;
+use house::{Discarded, Ledgers, Written};
 use output_ring::Drainer;
 
 /// Lets an output go on, or tells it to ask again. It is asked before an output takes frames from its ring.

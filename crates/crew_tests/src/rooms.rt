@@ -1,17 +1,15 @@
 //! A house whose threads run, and a client who says the lines of a script in it.
 ghost use Rattle.frame_ledger.specs.Shares.{AreEmpty, HasAllParts, HasPartsBut};
 ghost use Rattle.std.specs.Prelude.{◌≡◌, ◌≤◌, IfOk, vec_len};
-ghost use Rattle.held_player.specs.Blanks.{AreFor};
-ghost use Rattle.counted_player.specs.Counts.{IsFresh};
+ghost use Rattle.house.specs.Blanks.{AreFor};
+ghost use Rattle.house.specs.Counts.{IsFresh};
 
 use crate::tunes::{Files, Tune, library};
 use counted_devices::Sink;
-use counted_player::{Decoded, Discarded, Ledgers, Seat, Written};
 use crew::{Crew, OutputRuns, Scanner, close, let_go, start_decoder, start_outputs, start_scanner};
 use crew_steps::{Gate, Open, output_setups};
 use frame_ledger::{OutputShares, SettleFault, Settled};
-use held_player::{Blanks, CrewShares, Settlement};
-use house::House;
+use house::{Blanks, CrewShares, Decoded, Discarded, House, Ledgers, Seat, Settlement, Written};
 use mpd_text::SharedText;
 use partition::{Partition, PartitionFault};
 use player_state::Outputs;

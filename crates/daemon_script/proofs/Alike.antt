@@ -31,7 +31,7 @@ use Rattle.daemon_script.specs.declared.memory.Memory.{Memory}
 use Rattle.daemon_script.specs.declared.memory.Memory.TheVariants.{Ample, NoneToConnect, NoneToFoldFirst, NoneToRead, NoneToRun, NoneToFold}
 use Rattle.daemon_script.specs.Kinds.{PlayerKind}
 use Rattle.daemon_script.specs.Output.{Run, script_after, text_of}
-use Rattle.script_reports.specs.Reports.{report_text, window_text}
+use Rattle.daemon_script.specs.Reports.{report_text, window_text}
 use Rattle.daemon_script.specs.Script.{Found, ScriptData, Shown, LineRun, bad, collects, lowers, limits_with, commands_with, has_uri, told_for, notices_for, fault_of, found_at, found_first, found_then, refusal, sent_off, sends_off, applied, applies, applies_at, applies_in, job_event, scan_result, shown_step, shows_window, step_line, alone_line, request_run, asked_run, alone_run, request_in, read_of, end_of, closed_line, ListRun, list_goes, list_step, list_run, notices_by_number, lines_for, list_of, with_list, commands_run, collected_run, too_large_run, taken_run, line_run, connect_run, line_after, client_run, shown_client, shown_kind, shown_of}
 use Rattle.daemon_script.proofs.Ranges.{limit_at_least_one}
 

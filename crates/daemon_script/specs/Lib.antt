@@ -1,3 +1,4 @@
+pub mod Reports
 pub mod Kinds
 pub mod Contents
 pub mod Shelf

@@ -42,7 +42,7 @@ use Rattle.partition.specs.declared.state.Limits.{Limits}
 use Rattle.player_state.specs.Outputs.{all_off}
 use Rattle.transitions.specs.Shelves.{no_store_reply}
 use Rattle.daemon_script.specs.Kinds.{PlayerKind}
-use Rattle.script_reports.specs.Reports.{report_text, window_text}
+use Rattle.daemon_script.specs.Reports.{report_text, window_text}
 use Rattle.daemon_script.specs.declared.memory.Memory.{Memory}
 use Rattle.daemon_script.specs.declared.memory.Memory.TheVariants.{NoneToConnect, NoneToFoldFirst, NoneToRead, NoneToRun, NoneToFold}
 

@@ -6,6 +6,7 @@ mod laws;
 mod lists;
 mod memory;
 mod player;
+mod reports;
 mod run;
 mod script;
 

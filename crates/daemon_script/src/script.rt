@@ -17,6 +17,7 @@ ghost use Rattle.daemon_script.specs.Script.{refusal_text, has_uri as has_uri_le
 use crate::client_lines::{LineRun, push_fault, push_notices, run_line};
 use crate::memory::Memory;
 use crate::player::Player;
+use crate::reports::{push_report, push_window};
 use command_lists::ListCollector;
 use mpd_command::CommandSet;
 use mpd_text::{Line, SharedText, Song, Tag};
@@ -26,7 +27,6 @@ use player_state::{Library, Outputs, Scan};
 use script_lines::{
     JobStep, LimitName, MAX_HISTORY, MAX_ID, MAX_QUEUE, MAX_VERSION, ScriptLine, Step,
 };
-use script_reports::{push_report, push_window};
 use song_db::{Db, DbFault, MAX_SONGS, Rate, SharedDb};
 use std::alloc::{AllocError, Global};
 use std::marker::Model;

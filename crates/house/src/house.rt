@@ -2,27 +2,30 @@
 ghost use Rattle.frame_ledger.specs.Shares.{HasAllParts, HasNoFrames, KeepsParts};
 ghost use Rattle.std.specs.Prelude.{◌≡◌, ◌↔◌, ◌<◌, ◌≤◌, [], false, if◌then◌else◌};
 ghost use Rattle.std.specs.Prelude.{IfErr, IfOk, IfSome, OnErr, OnOk, length, vec_len, vec_capacity};
-ghost use Rattle.held_player.specs.Blanks.{AreFor};
+ghost use Rattle.house.specs.Blanks.{AreFor};
 ghost use Rattle.partition.specs.History.{Chronicle};
 ghost use Rattle.partition.specs.Legal.{IsPast};
 ghost use Rattle.player_events.specs.declared.event.Event.TheVariants.{End, Have};
-ghost use Rattle.held_player.specs.Lists.{HandsAll, StopsAmid};
-ghost use Rattle.held_player.specs.News.{event_of};
-ghost use Rattle.held_player.specs.Player.{LeavesShelf};
-ghost use Rattle.counted_player.specs.Seats.{IsUnused, after_events};
-ghost use Rattle.held_player.specs.Settling.{ClosesBooks};
-ghost use Rattle.counted_player.specs.Counts.{ArePresentPartitionsSomewhere, HasScanSomewhere, IsFresh};
-ghost use Rattle.counted_player.specs.Counts.{IsByPlaying, IsSongSomewhere, has_scan};
-ghost use Rattle.held_player.specs.Views.{AnswersCaller, Feeds, RefusesSomewhere, StopsCaller};
-ghost use Rattle.held_player.specs.Views.{TellsSomewhere, turn_of};
+ghost use Rattle.house.specs.Lists.{HandsAll, StopsAmid};
+ghost use Rattle.house.specs.News.{event_of};
+ghost use Rattle.house.specs.Player.{LeavesShelf};
+ghost use Rattle.house.specs.Seats.{IsUnused, after_events};
+ghost use Rattle.house.specs.Settling.{ClosesBooks};
+ghost use Rattle.house.specs.Counts.{ArePresentPartitionsSomewhere, HasScanSomewhere, IsFresh};
+ghost use Rattle.house.specs.Counts.{IsByPlaying, IsSongSomewhere, has_scan};
+ghost use Rattle.house.specs.Views.{AnswersCaller, Feeds, RefusesSomewhere, StopsCaller};
+ghost use Rattle.house.specs.Views.{TellsSomewhere, turn_of};
 
+use crate::answered::{Answered, AnsweredList, Reported};
+use crate::ended_ring::EndedRing;
+use crate::held::{Blanks, CrewShares, Held};
+use crate::ledgers::{Decoded, Discarded, Ledgers, Written};
+use crate::news::News;
+use crate::seat::{NoSeat, Seat};
+use crate::settlement::Settlement;
 use command_lists::ListForm;
 use connected_clients::Notice;
-use counted_player::{Decoded, Discarded, Ledgers, NoSeat, Seat, Written};
 use frame_ledger::OutputShares;
-use held_player::{
-    Answered, AnsweredList, Blanks, CrewShares, EndedRing, Held, News, Reported, Settlement,
-};
 use mpd_command::Request;
 use output_ring::Fates;
 use partition::{ListFault, Partition, PartitionFault};
@@ -323,7 +326,7 @@ impl<L: Ledgers> House<L> {
     /// event, and changes nothing.
     ///
     /// What changes is what a thread has something to do for
-    /// ([`Reported::changes`](held_player::Reported::changes)): which partitions there are, in each whether
+    /// ([`Reported::changes`](crate::Reported::changes)): which partitions there are, in each whether
     /// and what is played and which outputs are enabled, frames that are fed, and the end.
     ///
     /// A hint: the answer may be older than what others did since, and that a change ends the rest is tested.

@@ -2,8 +2,7 @@
 ghost use Rattle.std.specs.Prelude.{◌≡◌, ◌+◌, ◌<◌, IfOk};
 
 use crate::rooms::{alone, seat_of};
-use counted_player::{Ledgers, Seat};
-use house::House;
+use house::{House, Ledgers, Seat};
 use partition::PartitionFault;
 use std::alloc::Global;
 use std::sync::Wait;

@@ -1,7 +1,6 @@
 //! A client waits while another thread makes a hundred changes: each notice is handed out once.
 use crate::rooms::seat_of;
-use counted_player::{Ledgers, Seat};
-use house::House;
+use house::{House, Ledgers, Seat};
 use std::alloc::Global;
 use std::sync::Wait;
 use std::sync::atomic::{AtomicU32, Ordering};

@@ -1,7 +1,6 @@
 //! Two threads add songs by turns, and each looks up the id that it was given.
 use crate::rooms::seat_of;
-use counted_player::{Ledgers, Seat};
-use house::House;
+use house::{House, Ledgers, Seat};
 use mpd_text::number;
 use std::alloc::Global;
 use std::sync::Wait;

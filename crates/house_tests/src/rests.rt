@@ -2,8 +2,7 @@
 use crate::notices::meets;
 use crate::rooms::seat_of;
 use crate::session::{changes, session};
-use counted_player::{Ledgers, Seat};
-use house::House;
+use house::{House, Ledgers, Seat};
 use std::alloc::Global;
 use std::sync::Wait;
 use std::sync::atomic::{AtomicU32, Ordering};

@@ -1,13 +1,11 @@
 //! Opens a house for a test. Each opening is proved, so all tests open theirs here.
 ghost use Rattle.frame_ledger.specs.Shares.{HasAllParts};
 ghost use Rattle.std.specs.Prelude.{◌≡◌, ◌<◌, IfOk};
-ghost use Rattle.held_player.specs.Blanks.{AreFor};
+ghost use Rattle.house.specs.Blanks.{AreFor};
 
 use crate::session::session;
 use crate::{callers, days, frames, notices, own_songs, rests};
-use counted_player::{Ledgers, Seat};
-use held_player::{Blanks, CrewShares};
-use house::House;
+use house::{Blanks, CrewShares, House, Ledgers, Seat};
 use partition::PartitionFault;
 use std::alloc::{AllocError, Global};
 use std::marker::Brand;

@@ -3,9 +3,7 @@
 //! A session is a text with a step in each line, and adds what is heard or seen at each. So few functions
 //! hold a house and a seat.
 use crate::reports::add_observed;
-use counted_player::{Ledgers, Seat};
-use held_player::{News, Reported};
-use house::House;
+use house::{House, Ledgers, News, Reported, Seat};
 use partition::PartitionFault;
 use queue_tests::steps::{first_word, number_of};
 use std::alloc::Global;

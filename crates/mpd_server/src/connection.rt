@@ -1,7 +1,6 @@
 //! A client's socket with its session.
 use counted_devices::{Counting, Failing};
-use counted_player::{Ledgers, Seat};
-use house::House;
+use house::{House, Ledgers, Seat};
 use mio::net::TcpStream;
 use mpd_session::{End, Session, SessionFault};
 use server_rounds::{ClosedTurn, Inbox, OpenTurn, Turn};

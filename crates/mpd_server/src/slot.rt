@@ -1,13 +1,10 @@
 //! The slots that clients have.
 use crate::connection::Connection;
-use counted_player::{Ledgers, Seat};
-use held_player::News;
-use house::House;
+use house::{House, Ledgers, News, Seat};
 use mio::net::TcpStream;
 use mio::{Interest, Registry, Token};
-use mpd_answers::Asker;
 use mpd_command::CommandSet;
-use mpd_session::Session;
+use mpd_session::{Asker, Session};
 use server_rounds::{Arrival, Turn};
 use shelf::Shelf;
 use std::alloc::Global;

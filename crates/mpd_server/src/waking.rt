@@ -1,7 +1,6 @@
 //! The thread that wakes the loop over the sockets where a notice waits.
 use crate::sockets::{ServeFault, Server};
-use counted_player::Ledgers;
-use house::House;
+use house::{House, Ledgers};
 use mio::Waker;
 use std::alloc::{AllocError, Global};
 use std::sync::{Arc, Wait};

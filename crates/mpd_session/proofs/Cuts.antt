@@ -7,9 +7,9 @@ use Rattle.mpd_text.specs.Lines.Cut.{Split, split, split_from, then_split}
 use Rattle.mpd_text.specs.Lines.Split.{line_of}
 use Rattle.transitions.specs.declared.reply.Next.{Next}
 use Rattle.mpd_session.specs.declared.end.End.{End}
-use Rattle.mpd_answers.specs.Requests.{Asking, ListState, Gathered}
+use Rattle.mpd_session.specs.Requests.{Asking, ListState, Gathered}
 use Rattle.mpd_session.specs.Sessions.{Pending, Coming, coming, coming_from, fed, read_on, then_read, ahead, Continues, Side, StepsTo, Turns}
-use Rattle.mpd_answers.proofs.Gathers.{gather_append}
+use Rattle.mpd_session.proofs.Gathers.{gather_append}
 use Rattle.mpd_session.proofs.Sending.{grows_both}
 use Rattle.mpd_session.proofs.Runs.{ahead_twice, steps_later}
 

@@ -1,3 +1,7 @@
+pub mod Gathers
+mod Parts
+pub mod Outputs
+mod Asks
 mod Blame
 mod Reading
 mod Sending

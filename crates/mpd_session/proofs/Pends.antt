@@ -3,10 +3,10 @@ use Rattle.std.proofs.Common.{◌≡◌, ◌≢◌, ℕ, List, [], ◌∷◌, �
 use Rattle.command_lists.specs.Lists.{LineData}
 use Rattle.mpd_text.specs.Lines.Cut.{split_from}
 use Rattle.mpd_text.specs.Lines.Split.{line_of}
-use Rattle.mpd_answers.specs.declared.gatherer.ClientRequest.{ClientRequest}
-use Rattle.mpd_answers.specs.Requests.{ListState, Over, Gathered, Takes, askings_of, gather}
+use Rattle.mpd_session.specs.declared.gatherer.ClientRequest.{ClientRequest}
+use Rattle.mpd_session.specs.Requests.{ListState, Over, Gathered, Takes, askings_of, gather}
 use Rattle.mpd_session.specs.Sessions.{Pending, coming, coming_from, fed, ahead}
-use Rattle.mpd_answers.proofs.Gathers.{none_behind}
+use Rattle.mpd_session.proofs.Gathers.{none_behind}
 
 abbrev pub pend : ListState → List LineData → Option (List ℕ) → List ℕ → Pending
 pend list lines next piece = record { list = list; lines = lines; next = next; piece = piece }

@@ -10,12 +10,12 @@ use Rattle.transitions.specs.declared.reply.Next.{Next}
 use Rattle.transitions.specs.declared.reply.Next.TheVariants.{Goes, Waits, Closes, Kills}
 use Rattle.mpd_session.specs.declared.end.End.{End}
 use Rattle.mpd_session.specs.declared.end.End.TheVariants.{Left, Killed, LongLine, LargeList, Unsent, NoPeer, ReadFault, WriteFault}
-use Rattle.mpd_answers.specs.declared.gatherer.ClientRequest.{ClientRequest}
-use Rattle.mpd_answers.specs.Notices.{AreNotices}
-use Rattle.mpd_answers.specs.Output.{IsOutput, IsOwed}
-use Rattle.mpd_answers.specs.Requests.{Asking, ListState, Within, Over, Takes, asking_of, askings_of, is_over}
+use Rattle.mpd_session.specs.declared.gatherer.ClientRequest.{ClientRequest}
+use Rattle.mpd_session.specs.Notices.{AreNotices}
+use Rattle.mpd_session.specs.Output.{IsOutput, IsOwed}
+use Rattle.mpd_session.specs.Requests.{Asking, ListState, Within, Over, Takes, asking_of, askings_of, is_over}
 use Rattle.mpd_session.specs.Sessions.{Pending, Coming, coming, ahead, Held, Continues, StopsIn, EndsAt, EndsBy, StepsTo, Steps, Grows, Says, Runs, Sends, SentAs, read_on, with_read, ReadsOn, ReadsTo, ReadsAs, Side, Turns, TellsOf, end_by, end_in_list}
-use Rattle.mpd_answers.proofs.Outputs.{no_notices, notices_join, join, join_last}
+use Rattle.mpd_session.proofs.Outputs.{no_notices, notices_join, join, join_last}
 use Rattle.mpd_session.proofs.Pends.{no_more, pend, taken, none_waits}
 use Rattle.mpd_session.proofs.Sending.{only_unsent, grows_both, told_eq}
 

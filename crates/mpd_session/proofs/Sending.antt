@@ -8,9 +8,9 @@ use Rattle.counted_devices.specs.declared.call_counts.CallCounts.{CallCounts}
 use Rattle.mpd_session.specs.declared.end.End.{End}
 use Rattle.mpd_session.specs.declared.end.End.TheVariants.{WriteFault}
 use Rattle.mpd_session.specs.Devices.{WritesOut}
-use Rattle.mpd_answers.specs.Owing.{is_nothing, owed_bytes}
-use Rattle.mpd_answers.specs.declared.owed.Owed.{Owed}
-use Rattle.mpd_answers.specs.declared.owed.Owed.TheVariants as owed
+use Rattle.mpd_session.specs.Owing.{is_nothing, owed_bytes}
+use Rattle.mpd_session.specs.declared.owed.Owed.{Owed}
+use Rattle.mpd_session.specs.declared.owed.Owed.TheVariants as owed
 use Rattle.mpd_session.specs.Sessions.{Grows}
 
 pub none_written : (a : Option (List ℕ)) → Appends a a []

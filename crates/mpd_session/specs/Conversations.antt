@@ -5,11 +5,11 @@ use Rattle.std.specs.declared.io.ErrorKind.{ErrorKind}
 use Rattle.std.specs.declared.io.ErrorKind.TheVariants.{WouldBlock}
 use Rattle.counted_devices.specs.declared.call_counts.CallCounts.{CallCounts}
 use Rattle.counted_devices.specs.CallCounts.{HasFailed}
-use Rattle.counted_player.specs.Seats.{SeatCount}
+use Rattle.house.specs.Seats.{SeatCount}
 use Rattle.mpd_text.specs.declared.lines.splitter.Line.{Line}
 use Rattle.mpd_text.specs.Lines.Cut.{split_from}
 use Rattle.mpd_text.specs.Lines.Split.{line_of, views}
-use Rattle.mpd_answers.specs.Answers.{Answers, caller}
+use Rattle.mpd_session.specs.Answers.{Answers, caller}
 use Rattle.shelf.specs.declared.traits.Shelf.{Ghosts}
 use Rattle.mpd_session.specs.declared.conversation.Conversation.{Conversation}
 use Rattle.mpd_session.specs.declared.end.End.{End}

@@ -1,3 +1,8 @@
+pub mod Requests
+pub mod Notices
+pub mod Answers
+pub mod Output
+pub mod Owing
 pub mod Conversations
 pub mod Devices
 pub mod Ends

@@ -5,9 +5,9 @@ use Rattle.mpd_text.specs.Lines.Cut.{Split, split_from}
 use Rattle.mpd_text.specs.Lines.Split.{line_of, views}
 use Rattle.counted_devices.specs.declared.call_counts.CallCounts.{CallCounts}
 use Rattle.command_lists.specs.Lists.{LineData}
-use Rattle.counted_player.specs.Seats.{SeatCount}
-use Rattle.mpd_answers.specs.Answers.{Caller, at_uptime, caller}
-use Rattle.mpd_answers.specs.declared.asker.Asker.{Asker}
+use Rattle.house.specs.Seats.{SeatCount}
+use Rattle.mpd_session.specs.Answers.{Caller, at_uptime, caller}
+use Rattle.mpd_session.specs.declared.asker.Asker.{Asker}
 use Rattle.transitions.specs.declared.reply.Next.{Next}
 use Rattle.transitions.specs.declared.reply.Next.TheVariants.{Goes, Waits, Closes, Kills}
 use Rattle.mpd_session.specs.declared.conversation.Conversation.{Conversation}
@@ -16,10 +16,10 @@ use Rattle.mpd_session.specs.declared.end.End.TheVariants.{Left, Killed, LongLin
 use Rattle.mpd_session.specs.declared.end.SessionFault.{SessionFault}
 use Rattle.mpd_session.specs.declared.end.SessionFault.TheVariants.{NoMemory}
 use Rattle.mpd_session.specs.Devices.{EndsByReader, WritesOut}
-use Rattle.mpd_answers.specs.Notices.{AreNotices}
-use Rattle.mpd_answers.specs.Output.{IsOutput, IsLastOutput}
-use Rattle.mpd_answers.specs.Owing.{is_nothing, owed_bytes}
-use Rattle.mpd_answers.specs.Requests.{Asking, ListState, Within, Over, gather, is_over}
+use Rattle.mpd_session.specs.Notices.{AreNotices}
+use Rattle.mpd_session.specs.Output.{IsOutput, IsLastOutput}
+use Rattle.mpd_session.specs.Owing.{is_nothing, owed_bytes}
+use Rattle.mpd_session.specs.Requests.{Asking, ListState, Within, Over, gather, is_over}
 
 -- what came of the stream and is not answered: what has come of a list, lines, the start of a line, and a
 -- piece that was not split

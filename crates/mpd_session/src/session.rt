@@ -2,13 +2,14 @@
 ghost use Rattle.std.specs.Prelude.{◌≡◌, None, true};
 ghost use Rattle.mpd_session.specs.Ends.{turn_answer};
 
+use crate::asker::Asker;
 use crate::conversation::Conversation;
 use crate::end::{End, Goes, SessionFault};
+use crate::gatherer::Gatherer;
+use crate::owed::Owed;
 use crate::unsent::Unsent;
 use counted_devices::{Sink, Source};
-use counted_player::{Ledgers, Seat};
-use house::House;
-use mpd_answers::{Asker, Gatherer, Owed};
+use house::{House, Ledgers, Seat};
 use mpd_text::Splitter;
 use shelf::Shelf;
 use std::alloc::{AllocError, Global};
@@ -26,7 +27,7 @@ pub struct Session {
 
 impl Model for Session {
     ghost use Rattle.std.specs.Prelude.{◌≡◌, None, false};
-    ghost use Rattle.mpd_answers.specs.Requests.{is_over};
+    ghost use Rattle.mpd_session.specs.Requests.{is_over};
     ghost use Rattle.mpd_session.specs.Sessions.{SessionData, session_of};
 
     ghost Value = { SessionData };
@@ -38,7 +39,7 @@ impl Model for Session {
 
 impl Session {
     ghost use Rattle.std.specs.Prelude.{◌≡◌, None, Ok, false, IfOk};
-    ghost use Rattle.mpd_answers.specs.Answers.{Answers};
+    ghost use Rattle.mpd_session.specs.Answers.{Answers};
     ghost use Rattle.mpd_session.specs.Devices.{StaysSound};
     ghost use Rattle.mpd_session.specs.Ends.{TellsEnd};
     ghost use Rattle.mpd_session.specs.Sessions.{Blames, EndsByItsReader, GoesOnUnlessShort, HasRunAll};

@@ -1,5 +1,5 @@
 //! Bytes that wait to be written.
-use mpd_answers::Owed;
+use crate::owed::Owed;
 use std::alloc::{AllocError, Global};
 use std::marker::Model;
 
@@ -29,7 +29,7 @@ impl Model for Unsent {
 impl Unsent {
     ghost use Rattle.std.specs.Prelude.{◌≡◌, ◌≤◌, ◌++◌, drop, false, length, IfOk};
     ghost use Rattle.std.specs.Prelude.{OnErr, OnOk};
-    ghost use Rattle.mpd_answers.specs.Owing.{is_nothing, owed_bytes};
+    ghost use Rattle.mpd_session.specs.Owing.{is_nothing, owed_bytes};
 
     pub(crate) fn of(alloc: Global, bytes: &[u8]) -> Result<Unsent, AllocError>
         ensures { IfOk result (λ u. u ≡ bytes.now) }

@@ -1,15 +1,12 @@
 //! Sessions of a few clients in one house, told as steps.
 ghost use Rattle.std.specs.Prelude.{◌≡◌};
-ghost use Rattle.held_player.specs.Blanks.{AreFor};
+ghost use Rattle.house.specs.Blanks.{AreFor};
 
 use crate::wires::{Feed, Pipe, Takes, Then};
 use counted_devices::Counting;
-use counted_player::{Ledgers, Seat};
-use held_player::{Blanks, News};
-use house::House;
-use mpd_answers::Asker;
+use house::{Blanks, House, Ledgers, News, Seat};
 use mpd_command::CommandSet;
-use mpd_session::{End, Session, SessionFault};
+use mpd_session::{Asker, End, Session, SessionFault};
 use shelf::MemShelf;
 use std::alloc::{AllocError, Global};
 use std::marker::Brand;

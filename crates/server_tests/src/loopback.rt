@@ -1,11 +1,9 @@
 //! Clients over the loopback, beside a server on another thread.
 ghost use Rattle.std.specs.Prelude.{◌≡◌};
-ghost use Rattle.held_player.specs.Blanks.{AreFor};
+ghost use Rattle.house.specs.Blanks.{AreFor};
 
 use crate::scanner::start_scanner;
-use counted_player::{Ledgers, Seat};
-use held_player::Blanks;
-use house::House;
+use house::{Blanks, House, Ledgers, Seat};
 use mio::net::TcpListener as Door;
 use mpd_command::CommandSet;
 use mpd_server::{ServeFault, Server, bind, start_waker};

@@ -1,7 +1,5 @@
 //! A scanner, which makes a notice that no client's line makes.
-use counted_player::{Ledgers, Seat};
-use held_player::News;
-use house::House;
+use house::{House, Ledgers, News, Seat};
 use player_state::Report;
 use song_db::{Db, SharedDb};
 use std::alloc::{AllocError, Global};

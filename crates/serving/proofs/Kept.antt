@@ -1,7 +1,7 @@
 -- What is read of the player, and kept.
 use Rattle.std.proofs.Common.{◌≡◌, ℕ, Bool, true, List, Result, Ok, Err, IfOk, sym, subst}
 use Rattle.std.specs.Global.{Vec}
-use Rattle.counted_player.specs.Seats.{SeatCount}
+use Rattle.house.specs.Seats.{SeatCount}
 use Rattle.kept_state.specs.Partitions.{IsTurnedOn, Pairwise}
 use Rattle.kept_state.specs.Players.{player_text}
 use Rattle.kept_state.specs.declared.partitions.KeptPartition.{KeptPartition}

@@ -1,7 +1,7 @@
 -- What contracts see of the client that keeps the state.
 use Rattle.std.specs.Prelude.{ℕ, ◌≡◌, Bool, true, List, string_bytes}
 use Rattle.std.specs.Global.{Vec}
-use Rattle.held_player.specs.Lists.{HandedList}
+use Rattle.house.specs.Lists.{HandedList}
 use Rattle.kept_state.specs.declared.partitions.KeptPartition.{KeptPartition}
 use Rattle.shelf.specs.declared.traits.Shelf.{Ghosts}
 use Rattle.serving.specs.Keeping.{IsAnswered, IsKeptThen, IsStateThen}

@@ -5,8 +5,8 @@ use Rattle.std.specs.Global.{Vec}
 use Rattle.std.specs.List.{flat_map}
 use Rattle.std.specs.Str.Lines.{lines}
 use Rattle.command_lists.specs.declared.word.ListForm.TheVariants.{Plain}
-use Rattle.counted_player.specs.Seats.{SeatCount, after_events}
-use Rattle.held_player.specs.Lists.{HandedList, TellsListSomewhere}
+use Rattle.house.specs.Seats.{SeatCount, after_events}
+use Rattle.house.specs.Lists.{HandedList, TellsListSomewhere}
 use Rattle.kept_state.specs.Partitions.{IsPlayerTold, IsTurnedOn, Pairwise}
 use Rattle.kept_state.specs.Players.{player_text}
 use Rattle.kept_state.specs.declared.partitions.KeptPartition.{KeptPartition}

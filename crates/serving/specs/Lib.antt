@@ -1,4 +1,5 @@
 pub mod Faults
+pub mod ShelfFaults
 pub mod Starting
 pub mod Restoring
 pub mod Storing

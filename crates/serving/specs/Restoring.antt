@@ -2,8 +2,8 @@
 -- daemon's own says them, and which it says, is this profile's).
 use Rattle.std.specs.Prelude.{ℕ, ◌≡◌, Bool, true, false, List, min}
 use Rattle.std.specs.Str.Lines.{lines}
-use Rattle.counted_player.specs.Seats.{SeatCount, after_events}
-use Rattle.held_player.specs.Views.{AnswersClient, Handed}
+use Rattle.house.specs.Seats.{SeatCount, after_events}
+use Rattle.house.specs.Views.{AnswersClient, Handed}
 use Rattle.kept_state.specs.Telling.{TellsSteps, is_of_state, steps_in}
 use Rattle.mpd_command.specs.Names.{fewest}
 use Rattle.mpd_command.specs.Requests.{request_of}

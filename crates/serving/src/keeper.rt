@@ -9,9 +9,7 @@ use crate::questions::{changes_only, questions_of, short_questions};
 use crate::restoring::KEEPER;
 use crate::state_file::Disk;
 use command_lists::ListForm;
-use counted_player::{Ledgers, Seat};
-use held_player::{AnsweredList, News};
-use house::House;
+use house::{AnsweredList, House, Ledgers, News, Seat};
 use kept_state::{
     KeptPartition, StateFile, names_of, partitions_of, player_text, plays_in_one, switched_on,
 };

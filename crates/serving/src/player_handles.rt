@@ -1,11 +1,9 @@
 //! A house with nobody in it yet.
 ghost use Rattle.frame_ledger.specs.Shares.{AreEmpty, HasAllParts};
-ghost use Rattle.held_player.specs.Blanks.{AreFor};
-ghost use Rattle.counted_player.specs.Counts.{IsFresh};
+ghost use Rattle.house.specs.Blanks.{AreFor};
+ghost use Rattle.house.specs.Counts.{IsFresh};
 
-use counted_player::{Ledgers, Seat};
-use held_player::{Blanks, CrewShares};
-use house::House;
+use house::{Blanks, CrewShares, House, Ledgers, Seat};
 use partition::Partition;
 use std::alloc::{AllocError, Global};
 use std::sync::{Arc, Wait};

@@ -6,9 +6,7 @@ use crate::fault::DaemonFault;
 use crate::folder::tell;
 use crate::player_handles::PlayerHandles;
 use crate::state_file::{Disk, read_state, set_aside};
-use counted_player::{Ledgers, Seat};
-use held_player::{Answered, News};
-use house::House;
+use house::{Answered, House, Ledgers, News, Seat};
 use kept_state::{Hearer, is_of_state, tell_lines};
 use mpd_command::{CommandSet, Request};
 use settings::OneLine;
@@ -136,7 +134,7 @@ impl<'h, L: Ledgers, S: Shelf + Drop, R: Wait> Hearer for Restorer<'h, L, S, R> 
 
 impl<'h, L: Ledgers, S: Shelf + Drop, R: Wait> Restorer<'h, L, S, R> {
     ghost use Rattle.std.specs.Prelude.{◌≡◌, IfOk, OnOk};
-    ghost use Rattle.counted_player.specs.Seats.{after_events};
+    ghost use Rattle.house.specs.Seats.{after_events};
     ghost use Rattle.serving.specs.Restoring.{AnswersLine, Says};
 
     /// Says a line, and whether it is refused.

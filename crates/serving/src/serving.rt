@@ -1,6 +1,6 @@
 //! A daemon over the files of the system, with a shelf of any kind.
 ghost use Rattle.settings.specs.Values.{AreWithin};
-ghost use Rattle.held_player.specs.Blanks.{AreFor};
+ghost use Rattle.house.specs.Blanks.{AreFor};
 ghost use Rattle.serving.specs.Starting.{is_state_shelf as is_state_shelf_lem, serving_options, texts_of};
 ghost use Rattle.std.specs.Prelude.{◌≡◌, IfOk, OnOk, false};
 
@@ -13,9 +13,8 @@ use crate::resources::resources_of;
 use crate::restoring::restore;
 use crate::run::{ServingOptions, run};
 use crate::state_file::read_state;
-use counted_player::Ledgers;
 use crew::second_now;
-use held_player::Blanks;
+use house::{Blanks, Ledgers};
 use journal::start_text;
 use mpd_server::Server;
 use opened_player::{commands_of, player_of};

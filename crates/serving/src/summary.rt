@@ -3,9 +3,8 @@ ghost use Rattle.journal.specs.End as ends;
 ghost use Rattle.std.specs.Prelude.{◌≡◌, IfOk, map, string_bytes};
 
 use crate::fault::DaemonFault;
-use counted_player::Ledgers;
 use frame_ledger::{SettleFault, Settled};
-use held_player::Settlement;
+use house::{Ledgers, Settlement};
 use journal::{end_text, tell};
 use std::alloc::{AllocError, Global};
 use std::io;

@@ -3,7 +3,7 @@ use denote.RattleType.{RattleType}
 use denote.Param.Send.{IsSend, IsSync, sendable}
 use denote.Param.SendFields.{declared_send, declared_sync}
 use Rattle.std.proofs.Crossing.{crosses}
-use Rattle.counted_player.specs.declared.ledgers.Ledgers.{Ghosts}
+use Rattle.house.specs.declared.ledgers.Ledgers.{Ghosts}
 use Rattle.house.proofs.Crosses.{house_send, house_sync}
 use Rattle.partition.proofs.Crosses.{◌⨟◌}
 use Rattle.output_watchdog.proofs.watch.Watch.TheSendSync as watch

@@ -4,9 +4,8 @@ ghost use Rattle.stalled_outputs.specs.Through.{IsOffOnlyWithPatience};
 
 use crate::own_client::OwnClient;
 use crate::paths::PatientPath;
-use counted_player::Ledgers;
 use crew_steps::Gate;
-use house::House;
+use house::{House, Ledgers};
 use output_watchdog::{Off, Switch, Watch};
 use partition::PartitionFault;
 use settings::OneLine;

@@ -1,8 +1,6 @@
 //! A client of the daemon's own that switches outputs off and on.
 use command_lists::ListForm;
-use counted_player::{Ledgers, Seat};
-use held_player::News;
-use house::House;
+use house::{House, Ledgers, News, Seat};
 use journal::{silence_text, tell};
 use kept_state::is_output_on;
 use mpd_text::quote;

@@ -4,13 +4,11 @@
 
 ghost use Rattle.frame_ledger.specs.Shares.{HasAllParts};
 ghost use Rattle.std.specs.Prelude.{◌≡◌, ◌+◌, ◌<◌, IfOk, OnOk};
-ghost use Rattle.held_player.specs.Blanks.{AreFor};
-ghost use Rattle.counted_player.specs.Seats.{seat_count};
+ghost use Rattle.house.specs.Blanks.{AreFor};
+ghost use Rattle.house.specs.Seats.{seat_count};
 
 use command_lists::ListForm;
-use counted_player::{Ledgers, Seat};
-use held_player::{AnsweredList, Blanks, CrewShares, News};
-use house::House;
+use house::{AnsweredList, Blanks, CrewShares, House, Ledgers, News, Seat};
 use mpd_command::{CommandSet, Request};
 use mpd_text::{SharedText, Song};
 use partition::PartitionFault;

@@ -8,7 +8,7 @@
 
 use crate::client::visits;
 use crate::files::{SETTINGS, print_files, write_settings};
-use shelf_file::{Launch, Purpose, serve_by_file};
+use serving::{Launch, Purpose, serve_by_file};
 use std::fmt::Display;
 use std::net::Net;
 use std::process::ExitCode;

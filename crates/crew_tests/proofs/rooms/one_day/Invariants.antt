@@ -1,4 +1,4 @@
-use Rattle.held_player.specs.Blanks.{names_in}
+use Rattle.house.specs.Blanks.{names_in}
 use Rattle.crew_tests.proofs.rooms.one_day.Given as goal
 
 abbrev pub ghosts-run_day : goal.ghosts-run_day

@@ -1,7 +1,7 @@
 use denote.Param.Send.{sendable}
 use Rattle.std.proofs.Crossing.{crosses}
 use Rattle.house.proofs.Crosses.{house_send, house_sync}
-use Rattle.counted_player.proofs.seat.Seat.TheSendSync as seat
+use Rattle.house.proofs.seat.Seat.TheSendSync as seat
 use Rattle.house_tests.proofs.callers.add_at_once.Goals as goal
 
 pub join-requires-send-F : goal.join-requires-send-F

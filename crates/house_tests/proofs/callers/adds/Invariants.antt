@@ -1,5 +1,5 @@
 use Rattle.std.specs.Prelude.{◌≡◌, ◌+◌, ◌<◌}
-use Rattle.counted_player.specs.Seats.{seat_count}
+use Rattle.house.specs.Seats.{seat_count}
 use Rattle.house_tests.proofs.callers.adds.Given as goal
 
 abbrev pub invariant-loop-i : goal.invariant-loop-i

@@ -1,4 +1,4 @@
-use Rattle.held_player.specs.Blanks.{names_in}
+use Rattle.house.specs.Blanks.{names_in}
 use Rattle.house_tests.proofs.rooms.observed.Given as goal
 
 abbrev pub ghosts-evening : goal.ghosts-evening

@@ -1,4 +1,4 @@
-use Rattle.mpd_answers.specs.Answers.{Answers}
+use Rattle.mpd_session.specs.Answers.{Answers}
 use Rattle.mpd_session.proofs.Cuts.{turns_both}
 use Rattle.mpd_session.proofs.laws.turns_join.Goals as goal
 

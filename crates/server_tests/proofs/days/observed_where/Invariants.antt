@@ -1,4 +1,4 @@
-use Rattle.held_player.specs.Blanks.{names_in}
+use Rattle.house.specs.Blanks.{names_in}
 use Rattle.server_tests.proofs.days.observed_where.Given as goal
 
 abbrev pub ghosts-day : goal.ghosts-day

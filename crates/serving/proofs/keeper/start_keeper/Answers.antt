@@ -1,7 +1,7 @@
 use denote.Param.Send.{sendable}
 use Rattle.std.proofs.Crossing.{crosses}
 use Rattle.house.proofs.Crosses.{house_send, house_sync}
-use Rattle.counted_player.proofs.seat.Seat.TheSendSync as seat
+use Rattle.house.proofs.seat.Seat.TheSendSync as seat
 use Rattle.stalled_outputs.proofs.Crosses.{gates_send, gates_sync}
 use Rattle.serving.proofs.keeper.start_keeper.Goals as goal
 

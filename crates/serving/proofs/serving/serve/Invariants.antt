@@ -1,4 +1,4 @@
-use Rattle.held_player.specs.Blanks.{names_in}
+use Rattle.house.specs.Blanks.{names_in}
 use Rattle.serving.proofs.serving.serve.Given as goal
 
 abbrev pub ghosts-serve_with : goal.ghosts-serve_with

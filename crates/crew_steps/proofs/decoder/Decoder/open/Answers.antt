@@ -1,5 +1,5 @@
 use Rattle.std.proofs.Common.{◌≡◌, Err, Ok, inl, inr}
-use Rattle.counted_player.specs.Counts.{IsSongSomewhere}
+use Rattle.house.specs.Counts.{IsSongSomewhere}
 use Rattle.crew_steps.specs.Songs.{found_song}
 use Rattle.crew_steps.specs.declared.songs.NoFrames.TheVariants.{Failed}
 use Rattle.crew_steps.proofs.Causes.{has_left, is_there, same_fault}

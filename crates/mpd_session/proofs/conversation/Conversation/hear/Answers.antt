@@ -1,5 +1,5 @@
 use Rattle.std.proofs.Common.{◌≡◌, ◌∙◌, None, ap, refl, subst, rules}
-use Rattle.mpd_answers.specs.Answers.{Answers}
+use Rattle.mpd_session.specs.Answers.{Answers}
 use Rattle.mpd_session.specs.Sessions.{Held, TellsOf, held_of, pending_of}
 use Rattle.mpd_session.proofs.Runs.{turns_none, turns_told, turns_read, turns_run_as}
 use Rattle.mpd_session.proofs.Blame.{open_blames_none, reader_blames, writer_blames}

@@ -1,8 +1,8 @@
 use Rattle.std.proofs.Common.{◌≡◌, ◌⊎◌, ◌∙◌, ◌≤◌, ℕ, arith, [], None, Some, inl, inr, ap, refl, rules, subst, sym}
 use Rattle.mpd_text.specs.Lines.Split.{views}
-use Rattle.mpd_answers.specs.Answers.{Answers, caller}
-use Rattle.mpd_answers.specs.Requests.{is_over}
-use Rattle.mpd_answers.specs.declared.asker.Asker.{Asker}
+use Rattle.mpd_session.specs.Answers.{Answers, caller}
+use Rattle.mpd_session.specs.Requests.{is_over}
+use Rattle.mpd_session.specs.declared.asker.Asker.{Asker}
 use Rattle.mpd_session.specs.declared.end.End.TheVariants.{LongLine}
 use Rattle.mpd_session.specs.Sessions.{held_of, pending_of, Says}
 use Rattle.mpd_session.proofs.Runs.{runs_none, runs_both, says_runs, runs_sent, runs_ended}

@@ -1,7 +1,7 @@
 use Rattle.std.proofs.Common.{◌≡◌, ◌≤◌, length, None, false, true}
-use Rattle.mpd_answers.specs.Answers.{Answers, caller}
-use Rattle.mpd_answers.specs.Owing.{is_nothing}
-use Rattle.mpd_answers.specs.Requests.{is_over}
+use Rattle.mpd_session.specs.Answers.{Answers, caller}
+use Rattle.mpd_session.specs.Owing.{is_nothing}
+use Rattle.mpd_session.specs.Requests.{is_over}
 use Rattle.mpd_session.specs.Devices.{NeverFails}
 use Rattle.mpd_session.specs.Sessions.{BlamesWriter, held_of, Runs}
 use Rattle.mpd_session.proofs.conversation.Conversation.run.Given as goal

@@ -1,6 +1,6 @@
 use Rattle.std.proofs.Common.{◌≡◌, ◌≢◌, ◌⊎◌, ◌<◌, inl, inr, refl, rules, take, List, ℕ, length, Some, None, subst}
 use Rattle.std.specs.Io.KnownBytes.{Appends}
-use Rattle.mpd_answers.specs.Owing.{owed_bytes}
+use Rattle.mpd_session.specs.Owing.{owed_bytes}
 use Rattle.mpd_session.specs.declared.end.End.TheVariants.{Unsent, WriteFault}
 use Rattle.mpd_session.proofs.Sending.{only_sent}
 use Rattle.mpd_session.proofs.Runs.{sent_as}

@@ -1,9 +1,9 @@
 use Rattle.std.proofs.Common.{◌≡◌, ◌++◌, [], ◌∙◌, ap, append-nil, refl, rules, sym, None}
-use Rattle.mpd_answers.specs.Answers.{Answers, caller}
-use Rattle.mpd_answers.specs.Owing.{owed_bytes}
+use Rattle.mpd_session.specs.Answers.{Answers, caller}
+use Rattle.mpd_session.specs.Owing.{owed_bytes}
 use Rattle.mpd_text.specs.Lines.Split.{views}
 use Rattle.mpd_session.specs.Sessions.{end_by, held_of}
-use Rattle.mpd_answers.proofs.Outputs.{no_notices}
+use Rattle.mpd_session.proofs.Outputs.{no_notices}
 use Rattle.mpd_session.proofs.Pends.{pend}
 use Rattle.mpd_session.proofs.Sending.{none_owed}
 use Rattle.mpd_session.proofs.Runs.{step_line, step_answer, tells_nothing, told, untaken, views_some}

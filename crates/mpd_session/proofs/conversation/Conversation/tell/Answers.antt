@@ -1,8 +1,8 @@
 use Rattle.std.proofs.Common.{ap}
-use Rattle.mpd_answers.specs.Notices.{notice_bytes}
-use Rattle.mpd_answers.specs.Owing.{owed_bytes}
+use Rattle.mpd_session.specs.Notices.{notice_bytes}
+use Rattle.mpd_session.specs.Owing.{owed_bytes}
 use Rattle.mpd_session.specs.Sessions.{Held}
-use Rattle.mpd_answers.proofs.Outputs.{a_notice}
+use Rattle.mpd_session.proofs.Outputs.{a_notice}
 use Rattle.mpd_session.proofs.Sending.{none_owed, told_eq}
 use Rattle.mpd_session.proofs.conversation.Conversation.tell.Goals as goal
 

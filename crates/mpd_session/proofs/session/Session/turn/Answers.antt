@@ -1,8 +1,8 @@
 use Rattle.std.proofs.Common.{◌≡◌, ◌≢◌, ◌≤◌, ◌++◌, ◌∙◌, [], List, ℕ, true, is_ok, None, length, ap, sym, subst, append-nil, arith, rules}
 use Rattle.std.proofs.lemmas.Grind.{common_steps}
-use Rattle.mpd_answers.specs.Answers.{Answers}
-use Rattle.mpd_answers.specs.Owing.{owed_bytes}
-use Rattle.mpd_answers.specs.Requests.{is_over}
+use Rattle.mpd_session.specs.Answers.{Answers}
+use Rattle.mpd_session.specs.Owing.{owed_bytes}
+use Rattle.mpd_session.specs.Requests.{is_over}
 use Rattle.mpd_session.specs.Sessions.{held_of}
 use Rattle.mpd_session.proofs.Runs.{turns_sent}
 use Rattle.mpd_session.proofs.Sending.{none_owed, owed_or_written}

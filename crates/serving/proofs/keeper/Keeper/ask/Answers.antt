@@ -1,6 +1,6 @@
 use Rattle.std.proofs.Common.{◌∙◌, List, ap, subst}
 use Rattle.command_lists.specs.declared.word.ListForm.TheVariants.{Plain}
-use Rattle.held_player.specs.Lists.{TellsListSomewhere}
+use Rattle.house.specs.Lists.{TellsListSomewhere}
 use Rattle.mpd_command.specs.declared.request.Request.{Request}
 use Rattle.serving.specs.Keeping.{questions}
 use Rattle.serving.proofs.keeper.Keeper.ask.Goals as goal

@@ -1,5 +1,0 @@
-use Rattle.counted_player.proofs.Booked.{has_eight}
-use Rattle.counted_player.proofs.counted.Counted.decoded.Goals as goal
-
-pub decoded_in-requires : goal.decoded_in-requires
-decoded_in-requires g c = rw c.books.ensures (has_eight c.self.inside.partition c.history-past.ensures.legal).decoded

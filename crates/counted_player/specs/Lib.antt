@@ -1,4 +1,0 @@
-pub mod Ledgers
-pub mod Seats
-pub mod Counts
-pub mod Waking

@@ -1,0 +1,30 @@
+//! Tests of the house's own threads.
+#![tactic(auto)]
+
+#[cfg(test)]
+mod blocked;
+#[cfg(test)]
+mod broken;
+#[cfg(test)]
+mod door;
+#[cfg(test)]
+mod fading;
+#[cfg(test)]
+mod failing;
+#[cfg(test)]
+mod meeting;
+#[cfg(test)]
+mod partitions;
+#[cfg(test)]
+mod rooms;
+#[cfg(test)]
+mod tunes;
+#[cfg(test)]
+mod updating;
+#[cfg(test)]
+mod wire;
+#[cfg(test)]
+mod wired;
+
+/// Does nothing. The crate is a program only because `rt` takes longer over a library.
+fn main(_rt: HostRuntime) {}

@@ -1,9 +1,0 @@
-pub mod Crosses
-pub mod Few
-pub mod InTurn
-pub mod StoreReply
-pub mod ListRooms
-pub mod Opening
-pub mod Quiet
-pub mod Somewhere
-pub mod Steps

@@ -1,0 +1,11 @@
+pub mod Ledgers
+pub mod Seats
+pub mod Counts
+pub mod Waking
+pub mod Waiting
+pub mod Views
+pub mod Player
+pub mod News
+pub mod Lists
+pub mod Settling
+pub mod Blanks

@@ -1,4 +1,0 @@
-pub mod Gathers
-mod Parts
-pub mod Outputs
-mod Asks

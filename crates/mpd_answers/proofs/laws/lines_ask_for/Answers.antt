@@ -1,5 +1,0 @@
-use Rattle.mpd_answers.proofs.Parts.{asks}
-use Rattle.mpd_answers.proofs.laws.lines_ask_for.Goals as goal
-
-pub returns : goal.returns
-returns c = asks c.parts_are_taken.ensures
