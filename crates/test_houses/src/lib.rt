@@ -8,7 +8,7 @@ ghost use Rattle.house.specs.Blanks.{AreFor};
 ghost use Rattle.house.specs.Seats.{seat_count};
 
 use command_lists::ListForm;
-use house::{AnsweredList, Blanks, CrewShares, House, Ledgers, News, Seat};
+use house::{Answered, AnsweredList, Blanks, CrewShares, House, Ledgers, News, Seat};
 use mpd_command::{CommandSet, Request};
 use mpd_text::{SharedText, Song};
 use partition::PartitionFault;
@@ -60,10 +60,24 @@ pub fn adds_a_song<L: Ledgers>(
 ) -> Result<(), PartitionFault>
     ensures { OnOk result (seat.old.number < 4 → seat.new ≡ seat_count seat.old.number (seat.old.made + 1)) }
 {
-    let mut shelf = MemShelf::new(alloc);
-    let request = Request::of_line(alloc, "add a.wav", CommandSet::base())?;
-    let _added = house.command(rt, seat, &mut shelf, client, request)?;
+    let _added = answers(rt, alloc, house, seat, client, "add a.wav")?;
     Ok(())
+}
+
+/// What the house answers to a line, with nothing on the shelf.
+fn answers<L: Ledgers>(
+    rt: &impl Wait,
+    alloc: Global,
+    house: &House<L>,
+    seat: &mut Seat<L>,
+    client: u32,
+    line: &str,
+) -> Result<Answered, PartitionFault>
+    ensures { OnOk result (seat.old.number < 4 → seat.new ≡ seat_count seat.old.number (seat.old.made + 1)) }
+{
+    let mut shelf = MemShelf::new(alloc);
+    let request = Request::of_line(alloc, line, CommandSet::base())?;
+    house.command(rt, seat, &mut shelf, client, request)
 }
 
 /// What a client hears of a line: `told` where a notice stands in front, and the reply.
@@ -75,9 +89,7 @@ pub fn says<L: Ledgers>(
     client: u32,
     line: &str,
 ) -> Result<String, PartitionFault> {
-    let mut shelf = MemShelf::new(alloc);
-    let request = Request::of_line(alloc, line, CommandSet::base())?;
-    let answered = house.command(rt, seat, &mut shelf, client, request)?;
+    let answered = answers(rt, alloc, house, seat, client, line)?;
     let heard = heard(alloc, answered.front().is_some(), answered.reply().text())?;
     Ok(heard)
 }
