@@ -21,6 +21,3 @@ mod session;
 mod sessions;
 #[cfg(test)]
 mod shelf_sizes;
-
-/// Does nothing. The crate is a program only because `rt` takes longer over a library.
-fn main(_rt: HostRuntime) {}

@@ -19,6 +19,3 @@ mod rests;
 mod rooms;
 #[cfg(test)]
 mod session;
-
-/// Does nothing. The crate is a program only because `rt` takes longer over a library.
-fn main(_rt: HostRuntime) {}

@@ -15,6 +15,3 @@ mod scanner;
 mod sessions;
 #[cfg(test)]
 mod wires;
-
-/// Does nothing. The crate is a program only because `rt` takes longer over a library.
-fn main(_rt: HostRuntime) {}

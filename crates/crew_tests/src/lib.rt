@@ -25,6 +25,3 @@ mod updating;
 mod wire;
 #[cfg(test)]
 mod wired;
-
-/// Does nothing. The crate is a program only because `rt` takes longer over a library.
-fn main(_rt: HostRuntime) {}
