@@ -10,6 +10,7 @@ happens:
 - a client is disconnected before its greeting, and then connects again;
 - a request is refused for lack of memory (`ACK [52@..]`); then all later answers are as if this line, and in a command list the lines after it, had
   not come;
+- the line of the start says only how many songs there are;
 - an output whose file could not be opened for lack of memory is off, as after any other fault, and has discarded everything;
 - the daemon has no memory for its end, and ends with status 1 and that line.
 Otherwise the output's file has everything that was played, and the frame counts in the summary balance.
@@ -32,8 +33,10 @@ FRAMES = {'a.wav': 1000, 'b.wav': 1500}
 REFUSAL = re.compile(r'ACK \[52@(\d+)\] \{\w*\} (out of memory|history full)$')
 SUMMARY = re.compile(r'output 0: decoded (\d+) written (\d+) discarded (\d+) left (\d+)$')
 IDLE = 'output 0: decoded 0 written 0 discarded 0 left 0\n'
+SHORT_LINE = 'music_daemon: %d songs' % len(FRAMES)
 RIGHT, START_ENDED, CLOSED, REFUSED, OFF, NO_SUMMARY, FAILED = 'right', 'start ended', 'client closed', 'answer refused', 'output off', 'no summary', 'FAILED'
-SORTS = RIGHT, START_ENDED, CLOSED, REFUSED, OFF, NO_SUMMARY, FAILED
+SHORT = 'short first line'
+SORTS = RIGHT, START_ENDED, SHORT, CLOSED, REFUSED, OFF, NO_SUMMARY, FAILED
 LONGEST = 10    # how many seconds playing everything may take
 
 
@@ -198,21 +201,22 @@ def met(daemon):
 
 
 def ended(daemon, played, path):
-    """How a daemon ended after `kill`: it wrote everything; or its output could not be opened, and it discarded everything; or it had no memory for
-    its end."""
+    """How a daemon ended after `kill`: it wrote everything, with the usual line of its start or without memory for it; or its output could not be
+    opened, and it discarded everything; or it had no memory for its end."""
     status = daemon.process.wait(END)
     if (status, daemon.output(), daemon.unusual()) == (1, '', 'music_daemon: out of memory'):
         return NO_SUMMARY
     summary = SUMMARY.match(daemon.output().strip())
-    if status != 0 or not summary or daemon.unusual():
+    is_short = daemon.unusual() == SHORT_LINE and ': version ' not in daemon.errors()
+    if status != 0 or not summary or daemon.unusual() and not is_short:
         raise Wrong('it ended with status %d, %r, %r' % (status, daemon.output(), daemon.errors()))
     decoded, written, discarded, left = map(int, summary.groups())
     if decoded != written + discarded + left:
         raise Wrong('the summary: %s' % summary.group())
     size = os.path.getsize(path) if os.path.exists(path) else None
     if (decoded, written, size) == (played, played, 4 * played):
-        return RIGHT
-    if size is not None or (written, left) != (0, 0):
+        return SHORT if is_short else RIGHT
+    if is_short or size is not None or (written, left) != (0, 0):
         raise Wrong('%d frames were played, but the file has %s bytes; %s' % (played, size, summary.group()))
     return OFF
 
