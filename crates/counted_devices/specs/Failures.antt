@@ -1,5 +1,5 @@
 -- What a device over memory does, and how it fails (this profile's).
-use Rattle.std.specs.Prelude.{◌≡◌, ℕ, min, List, drop, length, Result, Some, IsErr, IfErr}
+use Rattle.std.specs.Prelude.{◌≡◌, ℕ, min, List, drop, length, Result, Option, Some, IsErr, IfErr}
 use Rattle.std.specs.Global.{Vec}
 use Rattle.std.specs.Io.Seek.{SeekMoves}
 use Rattle.std.specs.IoError.{error_kind}
@@ -19,6 +19,10 @@ fresh_device bytes point kind =
 -- what is left to read: the bytes from the offset on
 abbrev pub left_to_read : FailAt → List ℕ
 left_to_read d = drop d.position d.bytes.items
+
+-- the same, as what a reader of known bytes has left
+abbrev pub rest_of : FailAt → Option (List ℕ)
+rest_of d = Some (left_to_read d)
 
 -- how many bytes the next call lets through that comes after so many bytes; none where it is to fail
 abbrev pub room_for_call : FailAt → ℕ → ℕ

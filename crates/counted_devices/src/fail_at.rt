@@ -1,10 +1,11 @@
 //! A device over memory that fails at a given call or byte.
-ghost use Rattle.std.specs.Prelude.{◌≡◌, ◌≢◌, ◌↔◌, ℕ, Some, length, drop, min, IsOk, IsErr, IfOk, OnErr};
+ghost use Rattle.std.specs.Prelude.{◌≡◌, ◌≢◌, ◌↔◌, ℕ, pos, Some, length, drop, min, IsOk, IsErr, IfOk, OnErr};
 ghost use Rattle.std.specs.Io.{ReadsAtMost, WritesAtMost};
 ghost use Rattle.std.specs.Io.KnownBytes.{ReadConsumes, WriteAppends, Keeps};
 ghost use Rattle.std.specs.IoError.{error_kind};
+ghost use Rattle.counted_devices.specs.Bytes.{Seeks, SeeksToEnd};
 ghost use Rattle.counted_devices.specs.CallCounts.{CountsCall, CountsError, CountsWrite, HasFailed, NoFewer, one_call};
-ghost use Rattle.counted_devices.specs.Failures.{fresh_device, left_to_read, room_for_call, room_to_read, room_to_write, read_count, AnyErrorIs, FailsWith, PositionMoves};
+ghost use Rattle.counted_devices.specs.Failures.{fresh_device, left_to_read, rest_of, room_for_call, room_to_read, room_to_write, read_count, AnyErrorIs, FailsWith, PositionMoves};
 
 use crate::{CallCounts, Failing, Media, ReadSeek, Sink, Source};
 use std::io;
@@ -239,6 +240,7 @@ impl Seek for FailAt {
         // An error elsewhere is a new position before the first byte or past 2^64-1.
         ensures out_of_range { room_for_call self.old 0 ≢ 0 → AnyErrorIs ErrorKind.InvalidInput result }
         ensures start { room_for_call self.old 0 ≢ 0 → (n : ℕ) → to ≡ SeekFrom.Start n → IsOk result }
+        ensures end { room_for_call self.old 0 ≢ 0 → to ≡ SeekFrom.End (pos 0) → IsOk result }
     {
         // Read once, so that the proof has the range of each count.
         let CallCounts {
@@ -277,12 +279,29 @@ impl Seek for FailAt {
 impl Media for FailAt {
     ghost all_bytes = { λ d. Some d.bytes.items };
 
-    fn seek_to(&mut self, offset: u64) -> io::Result<()> {
+    fn seek_to(&mut self, offset: u64) -> io::Result<()>
+        ensures moves { Seeks (Some self.old.bytes.items) offset (rest_of self.old) (rest_of self.new) result }
+        ensures stays { self.new.bytes ≡ self.old.bytes }
+        ensures counts { CountsCall self.old.call_counts self.new.call_counts result }
+        ensures calls { self.new.call_counts.calls ≡ (one_call self.old.call_counts).calls }
+        ensures failed { OnErr result (HasFailed self.old.call_counts self.new.call_counts) }
+        ensures calm { NoFewer self.old.call_counts self.new.call_counts }
+        ensures fails { IsErr result ↔ (room_for_call self.old 0 ≡ 0) }
+    {
         self.seek(SeekFrom::Start(offset))?;
         Ok(())
     }
 
-    fn seek_to_end(&mut self) -> io::Result<u64> {
+    fn seek_to_end(&mut self) -> io::Result<u64>
+        ensures size { IfOk result (λ n. n ≡ length self.old.bytes.items) }
+        ensures moves { SeeksToEnd (Some self.old.bytes.items) (rest_of self.old) (rest_of self.new) result }
+        ensures stays { self.new.bytes ≡ self.old.bytes }
+        ensures counts { CountsCall self.old.call_counts self.new.call_counts result }
+        ensures calls { self.new.call_counts.calls ≡ (one_call self.old.call_counts).calls }
+        ensures failed { OnErr result (HasFailed self.old.call_counts self.new.call_counts) }
+        ensures calm { NoFewer self.old.call_counts self.new.call_counts }
+        ensures fails { IsErr result ↔ (room_for_call self.old 0 ≡ 0) }
+    {
         self.seek(SeekFrom::End(0))
     }
 
@@ -294,11 +313,20 @@ impl Media for FailAt {
 impl ReadSeek for FailAt {
     ghost known_bytes = { λ d. Some d.bytes.items };
 
-    fn move_to(&mut self, offset: u64) -> io::Result<()> {
+    fn move_to(&mut self, offset: u64) -> io::Result<()>
+        ensures moves { Seeks (Some self.old.bytes.items) offset (rest_of self.old) (rest_of self.new) result }
+        ensures stays { self.new.bytes ≡ self.old.bytes }
+        ensures fails { IsErr result ↔ (room_for_call self.old 0 ≡ 0) }
+    {
         self.seek_to(offset)
     }
 
-    fn move_to_end(&mut self) -> io::Result<u64> {
+    fn move_to_end(&mut self) -> io::Result<u64>
+        ensures size { IfOk result (λ n. n ≡ length self.old.bytes.items) }
+        ensures moves { SeeksToEnd (Some self.old.bytes.items) (rest_of self.old) (rest_of self.new) result }
+        ensures stays { self.new.bytes ≡ self.old.bytes }
+        ensures fails { IsErr result ↔ (room_for_call self.old 0 ≡ 0) }
+    {
         self.seek_to_end()
     }
 

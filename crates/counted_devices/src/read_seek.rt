@@ -1,9 +1,9 @@
 //! Readers that can be set to any offset of their bytes.
-ghost use Rattle.std.specs.Prelude.{◌≡◌, ℕ, List, Option, None, length, IfSome, IfOk};
+ghost use Rattle.std.specs.Prelude.{◌≡◌, ℕ, List, Option, None, length, IfSome, IfOk, IsOk};
 ghost use Rattle.std.specs.Io.{ReadsAtMost};
 ghost use Rattle.std.specs.Io.KnownBytes.{ReadConsumes};
 ghost use Rattle.std.specs.Io.Cursor.{cursor_inner};
-ghost use Rattle.counted_devices.specs.Bytes.{Seeks, SeeksToEnd};
+ghost use Rattle.counted_devices.specs.Bytes.{Seeks, SeeksToEnd, CursorSeeks, CursorSeeksToEnd};
 
 use std::fs::File;
 use std::io;
@@ -55,12 +55,21 @@ impl<T: AsBytes> ReadSeek for Cursor<T> {
     ghost known_bytes = { λ c. T.bytes (cursor_inner c) };
 
     // In memory a seek cannot fail, so the position is set.
-    fn move_to(&mut self, offset: u64) -> io::Result<()> {
+    fn move_to(&mut self, offset: u64) -> io::Result<()>
+        ensures moves { CursorSeeks T.bytes offset self.old self.new result }
+        ensures stays { T.bytes (cursor_inner self.new) ≡ T.bytes (cursor_inner self.old) }
+        ensures passes { IsOk result }
+    {
         self.set_position(offset);
         Ok(())
     }
 
-    fn move_to_end(&mut self) -> io::Result<u64> {
+    fn move_to_end(&mut self) -> io::Result<u64>
+        ensures size { IfSome (T.bytes (cursor_inner self.old)) (λ bytes. IfOk result (λ n. n ≡ length bytes)) }
+        ensures moves { CursorSeeksToEnd T.bytes self.old self.new result }
+        ensures stays { T.bytes (cursor_inner self.new) ≡ T.bytes (cursor_inner self.old) }
+        ensures passes { IsOk result }
+    {
         let size = self.get_ref().as_byte_slice().len() as u64;
         self.set_position(size);
         Ok(size)
