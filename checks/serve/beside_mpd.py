@@ -179,6 +179,7 @@ def one_round(server, songs, found):
     keep('ping, 16 clients', 'us', *side_by_side(server.port, 16, 8000))
     keep('ping, 64 in flight', 'us', *in_flight(client, 64, 12800))
     keep('status', 'us', *round_trips(client, 'status', 1000))
+    keep('ping, in a list of 1,000', 'us', min(list_of(client, ['ping'] * 1000) for _ in range(20)))
     keep('a list of 1,000 adds', 'ms', list_of_adds(client, songs[0], 1000))
     client.must('delete 100:')
     keep('playlistinfo, 100 entries', 'ms', in_one_piece(client, 'playlistinfo', 20)[0])
