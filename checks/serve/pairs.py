@@ -12,7 +12,7 @@ LIBRARY = 5000
 SONG = 30 * RATE      # how many frames a song has, of 16 bits and two channels
 FADE = 10             # how many seconds a cross-fade takes
 SECONDS = 10          # for how many seconds processor time and wake-ups are counted
-FAST = 'type "null"\nsync "no"'
+FAST = 'type "null"\nsync "no"\nmixer_type "software"'
 PIPE = 'type "fifo"\npath "%s"\nformat "44100:16:2"'
 
 
@@ -44,20 +44,23 @@ def queue(client, entries):
     client.must('\n'.join(['command_list_begin', *['add "song.wav"'] * entries, 'command_list_end']))
 
 
-def speed(entries, fade):
-    """Million frames a second, while so many songs are played, each of which fades into the next for so many seconds."""
+def speed(entries, fade, volume):
+    """While so many songs are played at a volume, each of which fades into the next for so many seconds: million frames a second, and the seconds
+    of processor time for an hour of sound."""
     def measured(server):
         client = server.client()
         queue(client, entries)
         client.must('crossfade %d' % fade)
-        start = time.perf_counter()
+        client.must('setvol %d' % volume)
+        start, used = time.perf_counter(), server.seconds()
         client.must('play 0')
         while client.value('status', 'state') != 'stop':
             # This asks again and again instead of waiting for a notice, since MPD now and then stops at the end of a song until a client asks.
             time.sleep(0.01)
-        passed = time.perf_counter() - start
+        passed, used = time.perf_counter() - start, server.seconds() - used
         client.close()
-        return (entries * SONG - (entries - 1) * fade * RATE) / passed / 1e6
+        frames = entries * SONG - (entries - 1) * fade * RATE
+        return frames / passed / 1e6, used * 3600 * RATE / frames
     return measured
 
 
@@ -129,10 +132,12 @@ def figures(program, folder, with_mpd):
     large = Pair(program, folder, library, with_mpd, ['/dev/null'], [NULL]).figures(of_library)
     yield 'listall, 5,000 songs', 'ms', {name: it[0] for name, it in large.items()}
     yield 'update, 5,000 unchanged files', 'ms', {name: it[1] for name, it in large.items()}
-    for name, outputs, entries, fade in (('frames a second, 1 null output', 1, 150, 0), ('frames a second, 3 null outputs', 3, 40, 0),
-                                         ('the same with 1 and cross-fades', 1, 60, FADE)):
+    for name, outputs, entries, fade, volume in (('1 null output', 1, 150, 0, 100), ('1, at volume 50', 1, 60, 0, 50),
+                                                 ('1, with cross-fades', 1, 60, FADE, 100), ('3 null outputs', 3, 40, 0, 100)):
         pair = Pair(program, folder, music, with_mpd, ['/dev/null'] * outputs, [FAST] * outputs)
-        yield name, 'million', pair.figures(speed(entries, fade))
+        found = pair.figures(speed(entries, fade, volume))
+        yield 'frames a second, ' + name, 'million', {server: it[0] for server, it in found.items()}
+        yield 'processor for an hour, the same', 's', {server: it[1] for server, it in found.items()}
     paths = [[os.path.join(folder, '%s%d' % (kind, number)) for number in range(2)] for kind in ('own', 'other')]
     pacers = [Pacer(path, RATE) for path in paths[0] + (paths[1] if with_mpd else [])]
     found = Pair(program, folder, music, with_mpd, paths[0], [PIPE % path for path in paths[1]]).figures(of_pipes)
